@@ -1,0 +1,59 @@
+-- The three names of a field.
+use Rattle.std.specs.Prelude.{◌≡◌, ◌≢◌, ℕ, ◌<◌, ◌≤◌, ◌||◌, ◌&&◌, ◌==◌, List, length, Bool, nat_lt, if◌then◌else◌, position, Option, None, Some, All, ◌↔◌}
+use Rattle.std.specs.Option.{option_or, option_map}
+use Rattle.std.specs.Cmp.Lexicographic.{pointwise, slice_cmp}
+use Rattle.std.specs.Ordering.{nat_cmp, on, then_cmp}
+use Rattle.std.specs.declared.cmp.Ordering.{Ordering}
+use Rattle.field_values.specs.declared.name.NamePart.{NamePart}
+use Rattle.field_values.specs.declared.name.NamePart.TheVariants.{Dataset, Row, Column}
+use Rattle.field_values.specs.declared.name.NameFault.{NameFault}
+use Rattle.field_values.specs.declared.name.NameFault.TheVariants.{Empty, TooLong, BadByte}
+
+pub record FieldNames : Type 0 where
+  pub dataset : List ℕ
+  pub row : List ℕ
+  pub column : List ℕ
+
+-- a byte that a name may have: any but the control characters of ASCII
+abbrev pub IsNameByte : ℕ → Type 0
+IsNameByte b = (32 ≤ b) × (b ≢ 127)
+
+-- 1 to 255 bytes, each one that a name may have
+pub record IsName (name : List ℕ) : Type 0 where
+  pub some : 0 < length name
+  pub short : length name ≤ 255
+  pub bytes : All IsNameByte name
+
+pub record AreNames (names : FieldNames) : Type 0 where
+  pub dataset : IsName names.dataset
+  pub row : IsName names.row
+  pub column : IsName names.column
+
+abbrev pub is_bad_byte : ℕ → Bool
+is_bad_byte b = nat_lt b 32 || (b == 127)
+
+-- the fault of a name: it is empty, else too long, else it has a bad byte, of which the first is told
+abbrev pub name_fault : NamePart → List ℕ → Option NameFault
+name_fault part name =
+    if length name == 0 then Some (Empty part)
+    else (if nat_lt 255 (length name) then Some (TooLong part (length name))
+    else option_map (λ at. BadByte part at) (position is_bad_byte name))
+
+-- the first fault of the names: the dataset's, else the row's, else the column's
+abbrev pub names_fault : FieldNames → Option NameFault
+names_fault names = option_or (name_fault Dataset names.dataset)
+    (option_or (name_fault Row names.row) (name_fault Column names.column))
+
+-- names without a fault are names
+abbrev pub FaultsAreTold : Type 0
+FaultsAreTold = (names : FieldNames) → ((names_fault names ≡ None) ↔ AreNames names)
+
+-- whether two fields have the same three names
+abbrev pub names_eq : FieldNames → FieldNames → Bool
+names_eq a b = pointwise ◌==◌ a.dataset b.dataset && (pointwise ◌==◌ a.row b.row && pointwise ◌==◌ a.column b.column)
+
+-- the order of fields: by dataset, then row, then column, each by its bytes
+abbrev pub names_cmp : FieldNames → FieldNames → Ordering
+names_cmp =
+    then_cmp (on (λ (f : FieldNames). f.dataset) (slice_cmp nat_cmp))
+    (then_cmp (on (λ (f : FieldNames). f.row) (slice_cmp nat_cmp)) (on (λ (f : FieldNames). f.column) (slice_cmp nat_cmp)))

@@ -1,0 +1,152 @@
+//! The names of a field.
+ghost use Rattle.std.specs.Prelude.{◌≡◌, ◌≢◌, IfOk, IfErr, OnOk, Some, None};
+ghost use Rattle.std.specs.Ordering.{as_partial_cmp};
+ghost use Rattle.std.proofs.Common.{rules};
+ghost use Rattle.std.specs.Cmp.Rules.{comparing};
+ghost use Rattle.std.specs.Cmp.{partial_order_from_own_ties};
+ghost use Rattle.field_values.specs.Names.{names_eq, names_cmp, names_fault, AreNames};
+
+use crate::items::Copied;
+use crate::memory::NoMemory;
+use crate::name::{NameFault, NamePart, check_name};
+use crate::text::Txt;
+use std::cmp::Ordering;
+use std::marker::Model;
+
+/// A field of a household's data, named by its dataset, row and column. Each name has 1 to 255 bytes, none of them below 32
+/// and none equal to 127. Fields are ordered by dataset, then row, then column, each by its bytes.
+#[derive(Debug, Drop)]
+pub struct Field {
+    dataset: Txt,
+    row: Txt,
+    column: Txt,
+}
+
+impl Model for Field {
+    ghost use Rattle.field_values.specs.Names.{FieldNames};
+
+    ghost Value = { FieldNames };
+
+    ghost view = { λ f. record { dataset = f.dataset; row = f.row; column = f.column } };
+
+    ghost inverse = { λ f. record { dataset = f.dataset; row = f.row; column = f.column } };
+}
+
+fn check_names(dataset: &Txt, row: &Txt, column: &Txt) -> Result<(), NameFault>
+    ensures good { OnOk result (names_fault (record { dataset = dataset.now; row = row.now; column = column.now }) ≡ None) }
+    ensures valid { OnOk result (AreNames (record { dataset = dataset.now; row = row.now; column = column.now })) }
+    ensures bad { IfErr result (λ fault. names_fault (record { dataset = dataset.now; row = row.now; column = column.now }) ≡ Some fault) }
+{
+    check_name(NamePart::Dataset, dataset.bytes())?;
+    check_name(NamePart::Row, row.bytes())?;
+    check_name(NamePart::Column, column.bytes())?;
+    Ok(())
+}
+
+impl Field {
+    /// The field of these names, which are copied. `NoMemory` may come even where the names have a fault.
+    pub fn make(dataset: &Txt, row: &Txt, column: &Txt) -> Result<Field, NameFault>
+        ensures names { IfOk result (λ f. f ≡ record { dataset = dataset.now; row = row.now; column = column.now }) }
+        ensures valid { IfOk result AreNames }
+        ensures good { IfOk result (λ f. names_fault f ≡ None) }
+        ensures bad { IfErr result (λ fault. fault ≢ NameFault.NoMemory → names_fault (record { dataset = dataset.now; row = row.now; column = column.now }) ≡ Some fault) }
+    {
+        check_names(dataset, row, column)?;
+        Ok(Field {
+            dataset: dataset.copy()?,
+            row: row.copy()?,
+            column: column.copy()?,
+        })
+    }
+
+    /// The field of these names. It takes the texts themselves and no memory.
+    pub fn of(dataset: Txt, row: Txt, column: Txt) -> Result<Field, NameFault>
+        ensures names { IfOk result (λ f. f ≡ record { dataset = dataset; row = row; column = column }) }
+        ensures valid { IfOk result AreNames }
+        ensures good { IfOk result (λ f. names_fault f ≡ None) }
+        ensures bad { IfErr result (λ fault. names_fault (record { dataset = dataset; row = row; column = column }) ≡ Some fault) }
+    {
+        check_names(&dataset, &row, &column)?;
+        Ok(Field {
+            dataset,
+            row,
+            column,
+        })
+    }
+
+    pub fn dataset(&self) -> &Txt
+        ensures { result.now ≡ self.now.dataset }
+    {
+        &self.dataset
+    }
+
+    pub fn row(&self) -> &Txt
+        ensures { result.now ≡ self.now.row }
+    {
+        &self.row
+    }
+
+    pub fn column(&self) -> &Txt
+        ensures { result.now ≡ self.now.column }
+    {
+        &self.column
+    }
+
+    /// An equal field.
+    pub fn copy(&self) -> Result<Field, NoMemory>
+        ensures { IfOk result (λ f. f ≡ self.now) }
+    {
+        Ok(Field {
+            dataset: self.dataset.copy()?,
+            row: self.row.copy()?,
+            column: self.column.copy()?,
+        })
+    }
+}
+
+impl Copied for Field {
+    fn copied(&self) -> Result<Field, NoMemory> {
+        self.copy()
+    }
+}
+
+impl PartialEq for Field {
+    ghost eq = { names_eq };
+
+    ghost laws = { Prim.search (comparing, rules) };
+
+    fn eq(&self, other: &Field) -> bool {
+        self.dataset == other.dataset && self.row == other.row && self.column == other.column
+    }
+}
+
+impl Eq for Field {
+    ghost laws = { Prim.search (comparing, rules) };
+}
+
+impl Ord for Field {
+    ghost cmp = { names_cmp };
+
+    ghost total = { Prim.search (comparing, rules) };
+
+    ghost matches_partial_cmp = { Prim.search (comparing, rules) };
+
+    ghost matches_eq = { Prim.search (comparing, rules) };
+
+    fn cmp(&self, other: &Field) -> Ordering {
+        self.dataset
+            .cmp(&other.dataset)
+            .then(self.row.cmp(&other.row))
+            .then(self.column.cmp(&other.column))
+    }
+}
+
+impl PartialOrd for Field {
+    ghost partial_cmp = { as_partial_cmp names_cmp };
+
+    ghost laws = { partial_order_from_own_ties (Prim.search (comparing, rules)) (Prim.search (comparing, rules)) };
+
+    fn partial_cmp(&self, other: &Field) -> Option<Ordering> {
+        Some(self.cmp(other))
+    }
+}

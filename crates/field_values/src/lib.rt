@@ -1,0 +1,21 @@
+//! The plainest parts of a budget's messages: texts, the values of fields, the names of fields, lists and a counter of steps.
+//!
+//! A value and its text are one to one ([`value::values_read_back`], [`value::texts_write_back`]), and each refusal of a name
+//! says the first thing that is wrong with it.
+#![tactic(auto)]
+
+pub mod field;
+pub mod items;
+pub mod memory;
+pub mod name;
+pub mod steps;
+pub mod text;
+pub mod value;
+
+pub use field::Field;
+pub use items::{Copied, Items};
+pub use memory::NoMemory;
+pub use name::{NameFault, NamePart};
+pub use steps::Steps;
+pub use text::{Txt, TxtFault};
+pub use value::Value;

@@ -1,0 +1,69 @@
+//! What a name of a field may be.
+ghost use Rattle.std.specs.Prelude.{◌≡◌, OnOk, IfErr, Some, None, position};
+ghost use Rattle.field_values.specs.declared.name.NameFault.TheVariants.{NoMemory as OutOfMemory};
+ghost use Rattle.field_values.specs.Names.{is_bad_byte, name_fault, FaultsAreTold};
+
+use crate::memory::NoMemory;
+
+/// Which of a field's three names.
+#[derive(Clone, Copy, Debug, PartialEq, Eq)]
+pub enum NamePart {
+    Dataset,
+    Row,
+    Column,
+}
+
+/// Why names were not made a field. The names are tested dataset, row, column, and each of them in the order of the variants.
+#[derive(Clone, Copy, Debug, PartialEq, Eq)]
+pub enum NameFault {
+    /// The name has no byte.
+    Empty { part: NamePart },
+    /// The name has `len` bytes, more than 255.
+    TooLong { part: NamePart, len: usize },
+    /// The name's first byte below 32 or equal to 127 is at `at`, counted from 0.
+    BadByte { part: NamePart, at: usize },
+    /// Memory ran out.
+    NoMemory,
+}
+
+impl From<NoMemory> for NameFault {
+    ghost from_gives = { λ _ fault. fault ≡ OutOfMemory };
+
+    fn from(_error: NoMemory) -> NameFault {
+        NameFault::NoMemory
+    }
+}
+
+/// The most bytes that a name has.
+pub const MOST_BYTES: usize = 255;
+
+fn bad_byte(name: &[u8]) -> Option<usize>
+    ensures { result ≡ position is_bad_byte name.now }
+{
+    name.iter().position(|byte| *byte < 32 || *byte == 127)
+}
+
+/// Whether the bytes may be the name of this part, or what is first wrong with them.
+pub(crate) fn check_name(part: NamePart, name: &[u8]) -> Result<(), NameFault>
+    ensures good { OnOk result (name_fault part name.now ≡ None) }
+    ensures bad { IfErr result (λ fault. name_fault part name.now ≡ Some fault) }
+{
+    if name.is_empty() {
+        return Err(NameFault::Empty { part });
+    }
+    if name.len() > MOST_BYTES {
+        return Err(NameFault::TooLong {
+            part,
+            len: name.len(),
+        });
+    }
+    match bad_byte(name) {
+        Some(at) => Err(NameFault::BadByte { part, at }),
+        None => Ok(()),
+    }
+}
+
+/// A law: three names without a fault are names that a field may have, and the other way round.
+pub fn faults_are_told()
+    ensures { FaultsAreTold }
+{}

@@ -1,0 +1,136 @@
+//! The values of fields, and their texts.
+ghost use Rattle.std.specs.Prelude.{◌≡◌, IfOk};
+ghost use Rattle.field_values.specs.Value.{IsNumberText, value_text, value_of, IsValue, ValuesReadBack, TextsWriteBack};
+
+use crate::items::Copied;
+use crate::memory::NoMemory;
+use crate::text::Txt;
+use std::alloc::Global;
+
+/// The largest number that a value holds, 2 to the 53 less 1: up to it each whole number has a 64-bit float of its own, as
+/// JavaScript's `Number.MAX_SAFE_INTEGER` says.
+pub const LARGEST: i64 = 9_007_199_254_740_991;
+
+/// The smallest number that a value holds.
+pub const SMALLEST: i64 = -9_007_199_254_740_991;
+
+/// The value of a field. Its text is `0:` for null, `N:` and the decimal text of a number, `S:` and a text, as Actual Budget's
+/// crdt package writes them, or any text that is none of these.
+#[derive(Debug, PartialEq, Eq, Drop)]
+pub enum Value {
+    Null,
+    /// A whole number from [`SMALLEST`] to [`LARGEST`].
+    Number(i64),
+    /// A text of any bytes that are UTF-8, the empty one too.
+    Text(Txt),
+    /// The whole text of a value of no other form. It is kept unread, and written byte for byte.
+    Other(Txt),
+}
+
+/// The number whose decimal text this is, with no plus, no leading zero and no minus before 0, where it is in range.
+fn number_in(alloc: Global, digits: &str) -> Result<Option<i64>, NoMemory>
+    ensures { IfOk result (λ number. IsNumberText digits.now number) }
+{
+    let Ok(number) = digits.parse::<i64>() else {
+        return Ok(None);
+    };
+    if number < SMALLEST || number > LARGEST {
+        return Ok(None);
+    }
+    let canonical = number.to_string(alloc)?;
+    if canonical.as_str() == digits {
+        Ok(Some(number))
+    } else {
+        Ok(None)
+    }
+}
+
+/// The value with this text, by the three forms.
+fn by_form(alloc: Global, text: &str) -> Result<Value, NoMemory>
+    ensures valid { IfOk result IsValue }
+    ensures same_text { IfOk result (λ v. value_text v ≡ text.now) }
+{
+    if text == "0:" {
+        return Ok(Value::Null);
+    }
+    if let Some(rest) = text.strip_prefix("S:") {
+        return Ok(Value::Text(Txt::from_text(alloc, rest)?));
+    }
+    if let Some(digits) = text.strip_prefix("N:") {
+        if let Some(number) = number_in(alloc, digits)? {
+            return Ok(Value::Number(number));
+        }
+    }
+    Ok(Value::Other(Txt::from_text(alloc, text)?))
+}
+
+impl Value {
+    /// The value that has this text. Each text has one. What the value keeps of the text is copied once.
+    pub fn read(alloc: Global, text: &str) -> Result<Value, NoMemory>
+        ensures value { IfOk result (λ v. v ≡ value_of text.now) }
+        ensures valid { IfOk result IsValue }
+        ensures same_text { IfOk result (λ v. value_text v ≡ text.now) }
+    {
+        let value = by_form(alloc, text)?;
+        Ok(value)
+    }
+
+    /// The value that has this text, as [`Value::read`].
+    pub fn from_text(alloc: Global, text: &Txt) -> Result<Value, NoMemory>
+        ensures value { IfOk result (λ v. v ≡ value_of text.now) }
+        ensures valid { IfOk result IsValue }
+        ensures same_text { IfOk result (λ v. value_text v ≡ text.now) }
+    {
+        Value::read(alloc, text.as_str())
+    }
+
+    /// The value's text, from which it is read back. A number has to be in range, and an unread text of no other form.
+    #[tactic(auto, using(crate::proofs::Values::value_of_text))]
+    pub fn text(&self, alloc: Global) -> Result<Txt, NoMemory>
+        requires { IsValue self.now }
+        ensures value { IfOk result (λ t. t ≡ value_text self.now) }
+        ensures reads_back { value_of (value_text self.now) ≡ self.now }
+    {
+        match self {
+            Value::Null => Txt::from_text(alloc, "0:"),
+            Value::Number(number) => {
+                let text = format!(in alloc; "N:{number}")?;
+                Ok(Txt::new(text))
+            }
+            Value::Text(text) => {
+                let shown = text.as_str();
+                let text = format!(in alloc; "S:{shown}")?;
+                Ok(Txt::new(text))
+            }
+            Value::Other(text) => text.copy(),
+        }
+    }
+
+    /// An equal value.
+    pub fn copy(&self) -> Result<Value, NoMemory>
+        ensures { IfOk result (λ v. v ≡ self.now) }
+    {
+        match self {
+            Value::Null => Ok(Value::Null),
+            Value::Number(number) => Ok(Value::Number(*number)),
+            Value::Text(text) => Ok(Value::Text(text.copy()?)),
+            Value::Other(text) => Ok(Value::Other(text.copy()?)),
+        }
+    }
+}
+
+impl Copied for Value {
+    fn copied(&self) -> Result<Value, NoMemory> {
+        self.copy()
+    }
+}
+
+/// A law: each value is read back from its text, so no two values have one text.
+pub fn values_read_back()
+    ensures { ValuesReadBack }
+{}
+
+/// A law: each text is written back from the value that it is read as, so no two texts have one value.
+pub fn texts_write_back()
+    ensures { TextsWriteBack }
+{}
