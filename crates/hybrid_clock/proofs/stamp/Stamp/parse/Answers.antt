@@ -1,0 +1,25 @@
+use Rattle.std.proofs.Common.{◌≡◌, refl, sym, ◌∙◌, subst, List, ℕ, Ok, arith, ap, length, false, rules}
+use Rattle.hybrid_clock.specs.declared.stamp.Stamp.{Stamp}
+use Rattle.hybrid_clock.specs.declared.stamp.StampFault.{StampFault}
+use Rattle.hybrid_clock.specs.Reading.{read_stamp, is_moment, millis_in}
+use Rattle.hybrid_clock.specs.Node.{is_zeros}
+use Rattle.hybrid_clock.proofs.Tests.{read_parts, stamp_of}
+use Rattle.hybrid_clock.proofs.Texts.{read_valid, read_text}
+use Rattle.hybrid_clock.proofs.stamp.Stamp.parse.Goals as goal
+use Rattle.hybrid_clock.proofs.stamp.Stamp.parse.Goals.{After-of}
+
+read : (c : After-of) → Ok (stamp_of c.in-Some-millis_of.millis c.hex.result c.of.result) ≡ read_stamp c.args.text.now
+read c =
+    let same : c.in-Ok.bytes ≡ c.args.text.now = search rules in
+    let P : List ℕ → Type 0 = λ t. Ok (stamp_of c.in-Some-millis_of.millis c.hex.result c.of.result) ≡ read_stamp t in
+    subst P same (read_parts c.in-Ok.bytes c.in-Some-millis_of.millis c.hex.result c.of.result
+      (omega arith) (sym c.misfit.ensures ∙ c.in_default-misfit.is) c.in-Some-millis_of.ensures c.if-minute-ge-WINDOW.false
+      (ap is_zeros c.of.ensures ∙ sym c.is_zeros.ensures ∙ c.if-is_zeros.false) c.hex.ensures (c.of.ensures ∙ c.node_of-node.ensures))
+
+pub returns-clause-is : goal.returns-clause-is
+returns-clause-is c = read c
+
+pub returns-clause-stamp : goal.returns-clause-stamp
+returns-clause-stamp c =
+    let s : Stamp = stamp_of c.in-Some-millis_of.millis c.hex.result c.of.result in
+    (read_valid c.args.text.now s (sym (read c)), read_text c.args.text.now s (sym (read c)))

@@ -1,0 +1,5 @@
+pub mod Node
+pub mod Calendar
+pub mod Stamp
+pub mod Reading
+pub mod Order
