@@ -14,6 +14,10 @@ pub record FieldNames : Type 0 where
   pub row : List ℕ
   pub column : List ℕ
 
+-- the field that has these names
+abbrev pub field_of : List ℕ → List ℕ → List ℕ → FieldNames
+field_of dataset row column = record { dataset = dataset; row = row; column = column }
+
 -- a byte that a name may have: any but the control characters of ASCII
 abbrev pub IsNameByte : ℕ → Type 0
 IsNameByte b = (32 ≤ b) × (b ≢ 127)
@@ -44,7 +48,7 @@ abbrev pub names_fault : FieldNames → Option NameFault
 names_fault names = option_or (name_fault Dataset names.dataset)
     (option_or (name_fault Row names.row) (name_fault Column names.column))
 
--- names without a fault are names
+-- names are names exactly where they have no fault
 abbrev pub FaultsAreTold : Type 0
 FaultsAreTold = (names : FieldNames) → ((names_fault names ≡ None) ↔ AreNames names)
 

@@ -4,19 +4,29 @@ ghost use Rattle.std.specs.Ordering.{as_partial_cmp};
 ghost use Rattle.std.proofs.Common.{rules};
 ghost use Rattle.std.specs.Cmp.Rules.{comparing};
 ghost use Rattle.std.specs.Cmp.{partial_order_from_own_ties};
-ghost use Rattle.field_values.specs.Names.{names_eq, names_cmp, names_fault, AreNames};
+ghost use Rattle.field_values.specs.Names.{names_eq, names_cmp, names_fault, field_of, AreNames};
 
 use crate::items::Copied;
 use crate::memory::NoMemory;
 use crate::name::{NameFault, NamePart, check_name};
 use crate::text::Txt;
+use std::alloc::Global;
 use std::cmp::Ordering;
 use std::marker::Model;
+use std::rc::Rc;
 
 /// A field of a household's data, named by its dataset, row and column. Each name has 1 to 255 bytes, none of them below 32
 /// and none equal to 127. Fields are ordered by dataset, then row, then column, each by its bytes.
+///
+/// A field and its copies share one block of memory, so a copy costs no more than counting one owner more.
 #[derive(Debug, Drop)]
 pub struct Field {
+    names: Rc<Names>,
+}
+
+/// The names, which the copies of a field share.
+#[derive(Debug, Drop)]
+struct Names {
     dataset: Txt,
     row: Txt,
     column: Txt,
@@ -27,15 +37,13 @@ impl Model for Field {
 
     ghost Value = { FieldNames };
 
-    ghost view = { λ f. record { dataset = f.dataset; row = f.row; column = f.column } };
-
-    ghost inverse = { λ f. record { dataset = f.dataset; row = f.row; column = f.column } };
+    ghost view = { λ f. record { dataset = f.names.value.dataset; row = f.names.value.row; column = f.names.value.column } };
 }
 
 fn check_names(dataset: &Txt, row: &Txt, column: &Txt) -> Result<(), NameFault>
-    ensures good { OnOk result (names_fault (record { dataset = dataset.now; row = row.now; column = column.now }) ≡ None) }
-    ensures valid { OnOk result (AreNames (record { dataset = dataset.now; row = row.now; column = column.now })) }
-    ensures bad { IfErr result (λ fault. names_fault (record { dataset = dataset.now; row = row.now; column = column.now }) ≡ Some fault) }
+    ensures good { OnOk result (names_fault (field_of dataset.now row.now column.now) ≡ None) }
+    ensures valid { OnOk result (AreNames (field_of dataset.now row.now column.now)) }
+    ensures bad { IfErr result (λ fault. names_fault (field_of dataset.now row.now column.now) ≡ Some fault) }
 {
     check_name(NamePart::Dataset, dataset.bytes())?;
     check_name(NamePart::Row, row.bytes())?;
@@ -43,64 +51,75 @@ fn check_names(dataset: &Txt, row: &Txt, column: &Txt) -> Result<(), NameFault>
     Ok(())
 }
 
+fn shared(alloc: Global, names: Names) -> Result<Rc<Names>, NoMemory>
+    ensures { IfOk result (λ block. block.value ≡ names) }
+{
+    let block = Rc::new(alloc, names)?;
+    Ok(block)
+}
+
 impl Field {
-    /// The field of these names, which are copied. `NoMemory` may come even where the names have a fault.
-    pub fn make(dataset: &Txt, row: &Txt, column: &Txt) -> Result<Field, NameFault>
-        ensures names { IfOk result (λ f. f ≡ record { dataset = dataset.now; row = row.now; column = column.now }) }
+    /// The field of these names, which are copied.
+    pub fn make(alloc: Global, dataset: &Txt, row: &Txt, column: &Txt) -> Result<Field, NameFault>
+        ensures names { IfOk result (λ f. f ≡ field_of dataset.now row.now column.now) }
         ensures valid { IfOk result AreNames }
         ensures good { IfOk result (λ f. names_fault f ≡ None) }
-        ensures bad { IfErr result (λ fault. fault ≢ NameFault.NoMemory → names_fault (record { dataset = dataset.now; row = row.now; column = column.now }) ≡ Some fault) }
+        ensures bad { IfErr result (λ fault. fault ≢ NameFault.NoMemory →
+            names_fault (field_of dataset.now row.now column.now) ≡ Some fault) }
     {
         check_names(dataset, row, column)?;
-        Ok(Field {
+        let names = Names {
             dataset: dataset.copy()?,
             row: row.copy()?,
             column: column.copy()?,
+        };
+        Ok(Field {
+            names: shared(alloc, names)?,
         })
     }
 
-    /// The field of these names. It takes the texts themselves and no memory.
-    pub fn of(dataset: Txt, row: Txt, column: Txt) -> Result<Field, NameFault>
-        ensures names { IfOk result (λ f. f ≡ record { dataset = dataset; row = row; column = column }) }
+    /// The field of these names. It takes the texts themselves, and drops them where it refuses.
+    pub fn of(alloc: Global, dataset: Txt, row: Txt, column: Txt) -> Result<Field, NameFault>
+        ensures names { IfOk result (λ f. f ≡ field_of dataset row column) }
         ensures valid { IfOk result AreNames }
         ensures good { IfOk result (λ f. names_fault f ≡ None) }
-        ensures bad { IfErr result (λ fault. names_fault (record { dataset = dataset; row = row; column = column }) ≡ Some fault) }
+        ensures bad { IfErr result (λ fault. fault ≢ NameFault.NoMemory → names_fault (field_of dataset row column) ≡ Some fault) }
     {
         check_names(&dataset, &row, &column)?;
-        Ok(Field {
+        let names = Names {
             dataset,
             row,
             column,
+        };
+        Ok(Field {
+            names: shared(alloc, names)?,
         })
     }
 
     pub fn dataset(&self) -> &Txt
         ensures { result.now ≡ self.now.dataset }
     {
-        &self.dataset
+        &self.names.as_ref().dataset
     }
 
     pub fn row(&self) -> &Txt
         ensures { result.now ≡ self.now.row }
     {
-        &self.row
+        &self.names.as_ref().row
     }
 
     pub fn column(&self) -> &Txt
         ensures { result.now ≡ self.now.column }
     {
-        &self.column
+        &self.names.as_ref().column
     }
 
-    /// An equal field.
+    /// An equal field, in the same memory.
     pub fn copy(&self) -> Result<Field, NoMemory>
         ensures { IfOk result (λ f. f ≡ self.now) }
     {
-        Ok(Field {
-            dataset: self.dataset.copy()?,
-            row: self.row.copy()?,
-            column: self.column.copy()?,
-        })
+        let names = self.names.clone()?;
+        Ok(Field { names })
     }
 }
 
@@ -116,7 +135,9 @@ impl PartialEq for Field {
     ghost laws = { Prim.search (comparing, rules) };
 
     fn eq(&self, other: &Field) -> bool {
-        self.dataset == other.dataset && self.row == other.row && self.column == other.column
+        self.dataset() == other.dataset()
+            && self.row() == other.row()
+            && self.column() == other.column()
     }
 }
 
@@ -134,10 +155,10 @@ impl Ord for Field {
     ghost matches_eq = { Prim.search (comparing, rules) };
 
     fn cmp(&self, other: &Field) -> Ordering {
-        self.dataset
-            .cmp(&other.dataset)
-            .then(self.row.cmp(&other.row))
-            .then(self.column.cmp(&other.column))
+        self.dataset()
+            .cmp(&other.dataset())
+            .then(self.row().cmp(&other.row()))
+            .then(self.column().cmp(&other.column()))
     }
 }
 

@@ -9,6 +9,8 @@ pub mod items;
 pub mod memory;
 pub mod name;
 pub mod steps;
+#[cfg(test)]
+mod tests;
 pub mod text;
 pub mod value;
 
