@@ -1,10 +1,10 @@
 -- A name without a fault is a name.
-use Rattle.std.proofs.Common.{◌≡◌, ◌≢◌, ◌∙◌, ℕ, suc, zero, ◌+◌, ◌≤◌, ◌<◌, List, [], ◌∷◌, length, get_or, arith, ap, sym, refl, Bool, true, false, cond, Option, Some, None, ◌↔◌}
+use Rattle.std.proofs.Common.{◌≡◌, ◌≢◌, ℕ, ◌≤◌, List, length, get_or, arith, refl, false, Option, Some, None}
 use Rattle.std.specs.Prelude.{◌==◌, nat_lt, position, All, option_map}
 use Rattle.std.specs.Option.{option_or}
 use Rattle.std.specs.List.{position_or_len}
-use Rattle.std.proofs.lemmas.List.Sums.{position_or_len_is, fails_before_first, passes_at_first}
-use Rattle.std.proofs.lemmas.Bool.{cond_both, or_parts, or_from, ltb-false, ltb-true, lt-ltb, le-ltb, eqb-false, ne_eqb, eqb-true, eq-eqb, false≢true}
+use Rattle.std.proofs.lemmas.List.Sums.{position_or_len_is, fails_before_first}
+use Rattle.std.proofs.lemmas.Bool.{cond_both, or_parts, or_from, ltb-false, le-ltb, eqb-false, ne_eqb}
 use Rattle.field_values.specs.declared.name.NamePart.{NamePart}
 use Rattle.field_values.specs.declared.name.NamePart.TheVariants.{Dataset, Row, Column}
 use Rattle.field_values.specs.declared.name.NameFault.{NameFault}

@@ -1,10 +1,10 @@
 -- Numbers and their texts.
-use Rattle.std.proofs.Common.{◌≡◌, ◌∙◌, ℕ, suc, List, [], ◌∷◌, ◌++◌, ◌≤◌, ◌<◌, ◌^◌, Result, Ok, ℤ, pos, negsuc, neg_ℤ, w64, FitsSigned, arith, refl, ap, sym, subst, length, drop, get_or, true, false, Bool, cond, ◌&&◌, ◌==◌, Option, Some, None}
-use Rattle.std.specs.Prelude.{nat_le, unsigned_abs, slice_index}
+use Rattle.std.proofs.Common.{◌≡◌, ◌∙◌, ℕ, suc, List, [], ◌∷◌, ◌≤◌, ◌<◌, ◌^◌, Result, Ok, ℤ, pos, negsuc, neg_ℤ, w64, FitsSigned, arith, ap, sym, subst, length, true, false, Bool, ◌&&◌, ◌==◌, Some, None}
+use Rattle.std.specs.Prelude.{nat_le, unsigned_abs}
 use Rattle.std.specs.Fmt.{signed_decimal, decimal}
 use Rattle.std.specs.Str.{bytes_eq}
-use Rattle.std.specs.Str.Parse.{ParsesSigned, AllDigits, signed_digits_value, digits_value, starts_with_minus, without_leading_sign, without_leading_plus}
-use Rattle.std.proofs.lemmas.Fmt.{parse-signed_decimal, signed_decimal_injective, decimal_is_IsNumeral}
+use Rattle.std.specs.Str.Parse.{ParsesSigned, AllDigits, signed_digits_value, starts_with_minus, without_leading_plus}
+use Rattle.std.proofs.lemmas.Fmt.{parse-signed_decimal, decimal_is_IsNumeral}
 use Rattle.std.proofs.lemmas.Str.Parse.{digit_from_value}
 use Rattle.std.proofs.lemmas.Slice.Eq.{bytes_eq-Decides}
 use Rattle.std.proofs.lemmas.Bool.{cond_both, and_parts, and_from, leb-true, le-leb, false≢true, ne_eqb}

@@ -1,5 +1,5 @@
 -- Values and their texts are one to one.
-use Rattle.std.proofs.Common.{◌≡◌, ◌∙◌, ℕ, List, [], ◌∷◌, ◌++◌, arith, ap, sym, refl, ℤ, drop, take, length, ◌<◌, lit<, Bool, true, false, Option, Some, None}
+use Rattle.std.proofs.Common.{◌≡◌, ◌∙◌, ℕ, List, ◌∷◌, ◌++◌, arith, ap, sym, refl, ℤ, drop, take, ◌<◌, lit<, true, false, Option, Some, None}
 use Rattle.std.specs.Prelude.{codes, nat_eq}
 use Rattle.std.specs.Fmt.{signed_decimal}
 use Rattle.std.specs.List.{starts_with}
@@ -10,7 +10,7 @@ use Rattle.std.proofs.lemmas.Slice.Eq.{bytes_eq-Decides}
 use Rattle.std.proofs.lemmas.Bool.{cond_both, false≢true}
 use Rattle.field_values.specs.declared.value.Value.{Value}
 use Rattle.field_values.specs.declared.value.Value.TheVariants.{Null, Number, Text, Other}
-use Rattle.field_values.specs.Value.{HoldsNumber, value_text, IsValue, IsOtherText, value_of, number_of, number_or_other, IsNumberText, ValuesReadBack, TextsWriteBack}
+use Rattle.field_values.specs.Value.{value_text, IsValue, value_of, number_of, number_or_other, IsNumberText, ValuesReadBack, TextsWriteBack}
 use Rattle.field_values.proofs.Numbers.{number_small, number_of_is}
 
 differ : (m n : ℕ) (xs ys : List ℕ) → m < n → m ∷ xs ≡ n ∷ ys → ⊥

@@ -1,5 +1,5 @@
 -- Values and their texts.
-use Rattle.std.specs.Prelude.{◌≡◌, ℕ, List, ◌++◌, drop, Bool, ◌&&◌, if◌then◌else◌, nat_eq, nat_le, Option, None, Some, ℤ, pos, neg_ℤ, ◌≤ℤ◌, unsigned_abs, codes}
+use Rattle.std.specs.Prelude.{◌≡◌, ℕ, List, ◌++◌, drop, ◌&&◌, if◌then◌else◌, nat_eq, nat_le, Option, None, Some, ℤ, pos, neg_ℤ, ◌≤ℤ◌, unsigned_abs, codes}
 use Rattle.std.specs.Fmt.{signed_decimal}
 use Rattle.std.specs.List.{starts_with}
 use Rattle.std.specs.Str.{bytes_eq}

@@ -138,7 +138,7 @@ count_from_1970 : (y : ℤ) (m d : ℕ) → 1 ≤ d → pos 1970 ≤ℤ y → 4_
 count_from_1970 y m d first from = by_lt_z (pos 1970) y
     (λ later. omega (arith, day_count-later_year (pos 1970) y (omega (arith, signed_arith)) later, day_count-epoch, day_count-day_of_year y m d first))
     (λ same. let e : y ≡ pos 1970 = omega (arith, signed_arith) in
-      rw e (omega (arith, day_count-epoch, day_count-day_of_year (pos 1970) m d first)))
+    rw e (omega (arith, day_count-epoch, day_count-day_of_year (pos 1970) m d first)))
 
 pub days_from_1970 : (y : ℤ) (m d : ℕ) → 1 ≤ d → pos 1970 ≤ℤ y → pos 0 ≤ℤ days_from_civil y m d
 days_from_1970 y m d first from = omega (arith, signed_arith, days_from_civil-day_count y m d, count_from_1970 y m d first from)
@@ -153,8 +153,8 @@ pub number_is : (date : Date) (y m d n : ℕ) → date.year ≡ pos y → date.m
 number_is date y m d n year month day e from =
     let last : date.day ≤ days_in_month date.year date.month = date.day_in.1 in
     let there : d ≤ days_in_month (pos y) m = (let P : ℤ → ℕ → ℕ → Type 0 = λ a b k. k ≤ days_in_month a b in
-      subst (λ (k : ℕ). P (pos y) m k) day (subst (λ (b : ℕ). P (pos y) b date.day) month (subst (λ (a : ℤ). P a date.month date.day) year last))) in
+    subst (λ (k : ℕ). P (pos y) m k) day (subst (λ (b : ℕ). P (pos y) b date.day) month (subst (λ (a : ℤ). P a date.month date.day) year last))) in
     let is = is_date-true y m d from (omega (arith, month, date.month_in.0)) (omega (arith, month, date.month_in.1)) (omega (arith, day, date.day_in.0)) there in
     let same : days_from_civil (pos y) m d ≡ pos n = (let Q : ℤ → ℕ → ℕ → Type 0 = λ a b k. days_from_civil a b k ≡ pos n in
-      subst (λ (k : ℕ). Q (pos y) m k) day (subst (λ (b : ℕ). Q (pos y) b date.day) month (subst (λ (a : ℤ). Q a date.month date.day) year e))) in
+    subst (λ (k : ℕ). Q (pos y) m k) day (subst (λ (b : ℕ). Q (pos y) b date.day) month (subst (λ (a : ℤ). Q a date.month date.day) year e))) in
     ap (λ z. Some (unsigned_abs z)) (sym same) ∙ sym (cond-true (is_date y m d) (Some (unsigned_abs (days_from_civil (pos y) m d))) None is)

@@ -45,12 +45,13 @@ pub record IsHex (b : ℕ) : Type 0 where
 
 pub hex_from : (b : ℕ) → is_allowed 88 b ≡ true → IsHex b
 hex_from b h = elim (cases_Bool (is_ascii_digit b)) [
-    inl t ↦ (let p : (48 ≤ b) × (b ≤ 57) = grind (arith, nat_tests) in
+  | inl t ↦ (let p : (48 ≤ b) × (b ≤ 57) = grind (arith, nat_tests) in
       let value : hex_value b ≡ b - 48 = cond-true (is_ascii_digit b) (b - 48) (b - 55) t in
       record { bound = omega (arith, value, p.0, p.1); back = rw value (grind (arith, nat_tests)) })
   | inr f ↦ (let p : (65 ≤ b) × (b ≤ 70) = grind (arith, nat_tests) in
       let value : hex_value b ≡ b - 55 = cond-false (is_ascii_digit b) (b - 48) (b - 55) f in
-      record { bound = omega (arith, value, p.0, p.1); back = rw value (grind (arith, nat_tests)) }) ]
+      record { bound = omega (arith, value, p.0, p.1); back = rw value (grind (arith, nat_tests)) })
+]
 
 pub hex_is : (n : ℕ) → n < 16 → is_allowed 88 (hex_digit n) ≡ true
 hex_is n h = grind (arith, nat_tests)
@@ -69,10 +70,13 @@ hex_digits a b c d n p q r s e =
   where
     parts_0 : (a b c d n : ℕ) → a < 16 → b < 16 → c < 16 → d < 16 → n ≡ 4096 * a + 256 * b + 16 * c + d → n / 4096 ≡ a
     parts_0 a b c d n p q r s e = omega arith
+
     parts_1 : (a b c d n : ℕ) → a < 16 → b < 16 → c < 16 → d < 16 → n ≡ 4096 * a + 256 * b + 16 * c + d → n / 256 % 16 ≡ b
     parts_1 a b c d n p q r s e = omega arith
+
     parts_2 : (a b c d n : ℕ) → a < 16 → b < 16 → c < 16 → d < 16 → n ≡ 4096 * a + 256 * b + 16 * c + d → n / 16 % 16 ≡ c
     parts_2 a b c d n p q r s e = omega arith
+
     parts_3 : (a b c d n : ℕ) → a < 16 → b < 16 → c < 16 → d < 16 → n ≡ 4096 * a + 256 * b + 16 * c + d → n % 16 ≡ d
     parts_3 a b c d n p q r s e = omega arith
 

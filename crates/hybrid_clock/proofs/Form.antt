@@ -73,8 +73,9 @@ digit_bounds b h = grind (arith, nat_tests)
 -- an upper-case hexadecimal digit that is no decimal one, and its value
 pub hex_letter : (b : ℕ) → is_allowed 88 b ≡ true → is_ascii_digit b ≡ false → (65 ≤ b) × (b ≤ 70)
 hex_letter b h f = elim (or_cases (is_ascii_digit b) (is_in_range 65 70 b) h) [
-    inl e ↦ absurd (cc)
-  | inr e ↦ grind (arith, nat_tests) ]
+  | inl e ↦ absurd (cc)
+  | inr e ↦ grind (arith, nat_tests)
+]
 
 pub hex_value-letter : (b : ℕ) → is_ascii_digit b ≡ false → 65 ≤ b → b - 65 + 10 ≡ hex_value b
 hex_value-letter b f low =

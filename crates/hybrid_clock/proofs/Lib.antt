@@ -6,3 +6,4 @@ pub mod Digits
 pub mod Tests
 pub mod Texts
 pub mod Writing
+pub mod TextOrder

@@ -33,7 +33,7 @@ length-replicate (suc n) x = ap suc (length-replicate n x)
 -- a padded text is a node
 pub padded_node : (text : List ℕ) → length text ≤ 16 → list_all is_ascii_alphanumeric text ≡ true → is_zeros text ≡ false → IsNode (padded text)
 padded_node text short pass zeros = record {
-    sixteen = length-append (replicate (16 - length text) 48) text ∙ omega (arith, length-replicate (16 - length text) 48);
-    characters = list_all-append is_ascii_alphanumeric (replicate (16 - length text) 48) text ∙ and_from _ _ (all_replicate is_ascii_alphanumeric (16 - length text) 48 refl) pass;
-    nonzero = list_all-append (λ b. b == 48) (replicate (16 - length text) 48) text ∙ and_right _ _ zeros;
-  }
+  sixteen = length-append (replicate (16 - length text) 48) text ∙ omega (arith, length-replicate (16 - length text) 48);
+  characters = list_all-append is_ascii_alphanumeric (replicate (16 - length text) 48) text ∙ and_from _ _ (all_replicate is_ascii_alphanumeric (16 - length text) 48 refl) pass;
+  nonzero = list_all-append (λ b. b == 48) (replicate (16 - length text) 48) text ∙ and_right _ _ zeros;
+}

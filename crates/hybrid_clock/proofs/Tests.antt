@@ -46,14 +46,16 @@ passed t s e =
     let formed = ok_none t (misfit t) s long.1 in
     let moment = ok_if (is_moment t) (read_moment t) NoSuchMoment s formed.1 in
     let within = ok_if (nat_lt (millis_in t / 60_000) window) (cond (is_zeros (drop 30 t)) (Err ZeroNode) (Ok (stamp_in t))) (BeyondWindow (millis_in t / 60_000)) s moment.1 in
-    let nonzero = ok_unless (is_zeros (drop 30 t)) ZeroNode (stamp_in t) s within.1 in
-    (record {
-      long = eqb-true (length t) 46 long.0;
-      formed = formed.0;
-      moment = moment.0;
-      within = ltb-true (millis_in t / 60_000) window within.0;
-      nonzero = nonzero.0;
-    }, nonzero.1)
+    let nonzero = ok_unless (is_zeros (drop 30 t)) ZeroNode (stamp_in t) s within.1 in (
+      record {
+        long = eqb-true (length t) 46 long.0;
+        formed = formed.0;
+        moment = moment.0;
+        within = ltb-true (millis_in t / 60_000) window within.0;
+        nonzero = nonzero.0;
+      },
+      nonzero.1,
+    )
 
 some_if : (b : Bool) (x n : ℕ) → Some n ≡ cond b (Some x) None → (b ≡ true) × (n ≡ x)
 some_if true x n e = (refl, cc)

@@ -115,7 +115,7 @@ date_in t p =
     let year = m.year in
     let year_end = m.year_end in
     let civil : IsCivilDate (pos (four_at t 0)) (two_at t 5) (two_at t 8) =
-      ((omega (arith, signed_arith, year), omega (arith, signed_arith, year_end)), (m.month, m.month_end), (m.day, m.day_end)) in
+    ((omega (arith, signed_arith, year), omega (arith, signed_arith, year_end)), (m.month, m.month_end), (m.day, m.day_end)) in
     let same = same_day (pos (four_at t 0)) (two_at t 5) (two_at t 8) (day_in t) early civil (number_in t p) in
     (let e = same.0 in omega (arith, signed_arith, e), sym same.1, sym same.2)
 
@@ -162,7 +162,7 @@ text_is t p =
     let same = s.day in
     let P : ℕ → Type 0 = λ k. head_text (day_of k).year (day_of k).month (day_of k).day (millis_in t % 86_400_000) (hex_at t 25) ++ drop 30 t ≡ t in
     subst P (sym same) (head_is t (day_of (day_in t)).year (day_of (day_in t)).month (day_of (day_in t)).day (millis_in t % 86_400_000) (hex_at t 25) p
-      date.0 date.1 date.2 s.hour s.minute s.second s.milli refl ∙ sym (unrolled 30 0 t (let long = p.long in omega (arith, long))))
+    date.0 date.1 date.2 s.hour s.minute s.second s.milli refl ∙ sym (unrolled 30 0 t (let long = p.long in omega (arith, long))))
 
 fits_drop : (k : ℕ) (ps bs : List ℕ) → Fits ps bs → Fits (drop k ps) (drop k bs)
 fits_drop zero ps bs h = h
@@ -182,14 +182,14 @@ counter_below a b c d p q r s = omega arith
 
 stamp_is : (t : List ℕ) → Passes t → IsStamp (stamp_in t)
 stamp_is t p = record {
-    within = (let within = p.within in omega (arith, within));
-    counter = counter_below (hex_value (get_or t 25 0)) (hex_value (get_or t 26 0)) (hex_value (get_or t 27 0)) (hex_value (get_or t 28 0)) (hex_in t 25 p refl).bound (hex_in t 26 p refl).bound (hex_in t 27 p refl).bound (hex_in t 28 p refl).bound;
-    node = record {
-      sixteen = length-drop 30 t ∙ (let long = p.long in omega (arith, long));
-      characters = all_fit 16 (drop 30 t) (fits_drop 30 form t (fits t p.long p.formed));
-      nonzero = p.nonzero;
-    };
-  }
+  within = (let within = p.within in omega (arith, within));
+  counter = counter_below (hex_value (get_or t 25 0)) (hex_value (get_or t 26 0)) (hex_value (get_or t 27 0)) (hex_value (get_or t 28 0)) (hex_in t 25 p refl).bound (hex_in t 26 p refl).bound (hex_in t 27 p refl).bound (hex_in t 28 p refl).bound;
+  node = record {
+    sixteen = length-drop 30 t ∙ (let long = p.long in omega (arith, long));
+    characters = all_fit 16 (drop 30 t) (fits_drop 30 form t (fits t p.long p.formed));
+    nonzero = p.nonzero;
+  };
+}
 
 pub read_valid : (t : List ℕ) (s : Stamp) → read_stamp t ≡ Ok s → IsStamp s
 read_valid t s e = let both = passed t s e in

@@ -32,15 +32,82 @@ fits_node (suc n) (b ∷ bs) l h = let p = and_parts (is_ascii_alphanumeric b) (
 fits_head : (y m d n c : ℕ) (node : List ℕ) → AreParts y m d n c → Fits (replicate 16 78) node → Fits form (head_text y m d n c ++ node)
 unfolding head_text
 fits_head y m d n c node p rest =
-    let a = p.year in let b = p.month in let e = p.day in let f = p.time in let g = p.counter in
-    (digit_is (y / 1000) (omega arith), (digit_is (y / 100 % 10) (omega arith), (digit_is (y / 10 % 10) (omega arith), (digit_is (y % 10) (omega arith), (refl,
-    (digit_is (m / 10) (omega arith), (digit_is (m % 10) (omega arith), (refl,
-    (digit_is (d / 10) (omega arith), (digit_is (d % 10) (omega arith), (refl,
-    (digit_is (n / 3_600_000 / 10) (omega arith), (digit_is (n / 3_600_000 % 10) (omega arith), (refl,
-    (digit_is (n / 60_000 % 60 / 10) (omega arith), (digit_is (n / 60_000 % 60 % 10) (omega arith), (refl,
-    (digit_is (n / 1000 % 60 / 10) (omega arith), (digit_is (n / 1000 % 60 % 10) (omega arith), (refl,
-    (digit_is (n % 1000 / 100) (omega arith), (digit_is (n % 1000 / 10 % 10) (omega arith), (digit_is (n % 1000 % 10) (omega arith), (refl, (refl,
-    (hex_is (c / 4096) (omega arith), (hex_is (c / 256 % 16) (omega arith), (hex_is (c / 16 % 16) (omega arith), (hex_is (c % 16) (omega arith), (refl, rest))))))))))))))))))))))))))))))
+    let a = p.year in let b = p.month in let e = p.day in let f = p.time in let g = p.counter in (
+      digit_is (y / 1000) (omega arith),
+      (
+        digit_is (y / 100 % 10) (omega arith),
+        (
+          digit_is (y / 10 % 10) (omega arith),
+          (
+            digit_is (y % 10) (omega arith),
+            (
+              refl,
+              (
+                digit_is (m / 10) (omega arith),
+                (
+                  digit_is (m % 10) (omega arith),
+                  (
+                    refl,
+                    (
+                      digit_is (d / 10) (omega arith),
+                      (
+                        digit_is (d % 10) (omega arith),
+                        (
+                          refl,
+                          (
+                            digit_is (n / 3_600_000 / 10) (omega arith),
+                            (
+                              digit_is (n / 3_600_000 % 10) (omega arith),
+                              (
+                                refl,
+                                (
+                                  digit_is (n / 60_000 % 60 / 10) (omega arith),
+                                  (
+                                    digit_is (n / 60_000 % 60 % 10) (omega arith),
+                                    (
+                                      refl,
+                                      (
+                                        digit_is (n / 1000 % 60 / 10) (omega arith),
+                                        (
+                                          digit_is (n / 1000 % 60 % 10) (omega arith),
+                                          (
+                                            refl,
+                                            (
+                                              digit_is (n % 1000 / 100) (omega arith),
+                                              (
+                                                digit_is (n % 1000 / 10 % 10) (omega arith),
+                                                (
+                                                  digit_is (n % 1000 % 10) (omega arith),
+                                                  (
+                                                    refl,
+                                                    (
+                                                      refl,
+                                                      (hex_is (c / 4096) (omega arith), (hex_is (c / 256 % 16) (omega arith), (hex_is (c / 16 % 16) (omega arith), (hex_is (c % 16) (omega arith), (refl, rest))))),
+                                                    ),
+                                                  ),
+                                                ),
+                                              ),
+                                            ),
+                                          ),
+                                        ),
+                                      ),
+                                    ),
+                                  ),
+                                ),
+                              ),
+                            ),
+                          ),
+                        ),
+                      ),
+                    ),
+                  ),
+                ),
+              ),
+            ),
+          ),
+        ),
+      ),
+    )
 
 -- the numbers that the text of a head has at its places
 record HasParts (t : List ℕ) (y m d n c : ℕ) : Type 0 where
@@ -56,15 +123,15 @@ record HasParts (t : List ℕ) (y m d n c : ℕ) : Type 0 where
 head_parts : (y m d n c : ℕ) (node : List ℕ) → c ≤ 65_535 → HasParts (head_text y m d n c ++ node) y m d n c
 unfolding head_text
 head_parts y m d n c node h = record {
-    year = four_value y;
-    month = two_value m;
-    day = two_value d;
-    hour = two_value (n / 3_600_000);
-    minute = two_value (n / 60_000 % 60);
-    second = two_value (n / 1000 % 60);
-    milli = three_value (n % 1000);
-    counter = hex_counter c h;
-  }
+  year = four_value y;
+  month = two_value m;
+  day = two_value d;
+  hour = two_value (n / 3_600_000);
+  minute = two_value (n / 60_000 % 60);
+  second = two_value (n / 1000 % 60);
+  milli = three_value (n % 1000);
+  counter = hex_counter c h;
+}
 
 head_rest : (y m d n c : ℕ) (node : List ℕ) → drop 30 (head_text y m d n c ++ node) ≡ node
 unfolding head_text
@@ -118,7 +185,7 @@ unfolding is_moment
 moment_from t y m d n c p date within =
     let a = p.year in let b = p.month in let e = p.day in let f = p.hour in let g = p.minute in let k = p.second in
     rw (a, b, e, f, g, k) (and_from (is_date y m d) (is_time (n / 3_600_000) (n / 60_000 % 60) (n / 1000 % 60)) date
-      (and_from _ _ (le-leb (n / 3_600_000) 23 (omega arith)) (and_from _ _ (le-leb (n / 60_000 % 60) 59 (omega arith)) (le-leb (n / 1000 % 60) 59 (omega arith)))))
+    (and_from _ _ (le-leb (n / 3_600_000) 23 (omega arith)) (and_from _ _ (le-leb (n / 60_000 % 60) 59 (omega arith)) (le-leb (n / 1000 % 60) 59 (omega arith)))))
 
 millis_from : (t : List ℕ) (y m d n c k : ℕ) → HasParts t y m d n c → days_from_civil (pos y) m d ≡ pos k → millis_in t ≡ 86_400_000 * k + 3_600_000 * (n / 3_600_000) + 60_000 * (n / 60_000 % 60) + 1000 * (n / 1000 % 60) + n % 1000
 unfolding millis_in
@@ -136,16 +203,16 @@ text_moment s h =
     let is = day_is (day_number s) (short_day s h) in
     let at = is.at in
     moment_from (stamp_text s) (day_of (day_number s)).year (day_of (day_number s)).month (day_of (day_number s)).day (s.millis % 86_400_000) s.counter (text_parts s h)
-      (is_date-true (day_of (day_number s)).year (day_of (day_number s)).month (day_of (day_number s)).day is.from at.first_month at.last_month at.first_day at.last_day) (omega arith)
+    (is_date-true (day_of (day_number s)).year (day_of (day_number s)).month (day_of (day_number s)).day is.from at.first_month at.last_month at.first_day at.last_day) (omega arith)
 
 pub text_passes : (s : Stamp) → IsStamp s → Passes (stamp_text s)
 text_passes s h = record {
-    long = text_long s h;
-    formed = text_formed s h;
-    moment = text_moment s h;
-    within = (let same = text_millis s h in let within = h.within in omega (arith, same, within));
-    nonzero = (let same = text_rest s in rw same h.node.nonzero);
-  }
+  long = text_long s h;
+  formed = text_formed s h;
+  moment = text_moment s h;
+  within = (let same = text_millis s h in let within = h.within in omega (arith, same, within));
+  nonzero = (let same = text_rest s in rw same h.node.nonzero);
+}
 
 pub text_reads : (s : Stamp) → IsStamp s → read_stamp (stamp_text s) ≡ Ok s
 text_reads s h =

@@ -3,3 +3,4 @@ pub mod Calendar
 pub mod Stamp
 pub mod Reading
 pub mod Order
+pub mod Clock

@@ -5,6 +5,7 @@
 //! characters, as `2024-01-05T10:00:00.000Z-0000-00000000000000aa`.
 #![tactic(auto)]
 
+mod clock;
 mod laws;
 mod node;
 mod order;
@@ -12,6 +13,7 @@ mod parse;
 mod stamp;
 mod write;
 
+pub use clock::{ClockFault, HybridClock};
 pub use laws::{date_of_number, order_of_texts, read_writes_back, text_reads_back};
 pub use node::{Node, NodeFault};
 pub use stamp::{Stamp, StampFault};

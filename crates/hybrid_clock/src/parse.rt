@@ -7,15 +7,12 @@ ghost use Rattle.hybrid_clock.specs.Reading as spec;
 ghost use Rattle.hybrid_clock.specs.Reading.{form, is_allowed, digit_at, two_at, three_at, four_at, hex_value, hex_at, is_date, is_moment, millis_in, read_stamp};
 
 use crate::node::{Node, is_zeros};
-use crate::stamp::{Stamp, StampFault};
+use crate::stamp::{Stamp, StampFault, WINDOW};
 use jiff_core::civil::Date;
 
 /// `0` stands for a digit, `X` for an upper-case hexadecimal one, `N` for a letter or digit,
 /// and any other character for itself.
 const FORM: [u8; 46] = *b"0000-00-00T00:00:00.000Z-XXXX-NNNNNNNNNNNNNNNN";
-
-/// The minutes of timestamps lie below 3 to the 16.
-const WINDOW: u64 = 43_046_721;
 
 impl Stamp {
     /// The timestamp that a text writes.

@@ -1,6 +1,9 @@
 //! Timestamps.
 use crate::node::Node;
 
+/// The first minute since 1970 that is past those of timestamps, which is 3 to the 16.
+pub(crate) const WINDOW: u64 = 43_046_721;
+
 /// A timestamp of a hybrid clock.
 ///
 /// It is valid (`IsStamp`) where its minute is below 43,046,721 and its node is one that

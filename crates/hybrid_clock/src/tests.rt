@@ -4,21 +4,44 @@ use std::test::Fail;
 #[test]
 fn reads_texts(rt: HostRuntime) -> Result<(), Fail> {
     let cases: [(&[u8], Result<u64, StampFault>); 9] = [
-        (b"2024-01-05T10:00:00.000Z-0000-00000000000000aa", Ok(1_704_448_800_000)),
-        (b"2051-11-05T13:20:59.999Z-FFFF-zzzzzzzzzzzzzzzz", Ok(2_582_803_259_999)),
+        (
+            b"2024-01-05T10:00:00.000Z-0000-00000000000000aa",
+            Ok(1_704_448_800_000),
+        ),
+        (
+            b"2051-11-05T13:20:59.999Z-FFFF-zzzzzzzzzzzzzzzz",
+            Ok(2_582_803_259_999),
+        ),
         (
             b"2051-11-05T13:21:00.000Z-0000-00000000000000aa",
             Err(StampFault::BeyondWindow { minute: 43_046_721 }),
         ),
-        (b"2024-01-05T10:00:00.000Z-00ff-00000000000000aa", Err(StampFault::BadByte { at: 27 })),
-        (b"2024-01-05T10:00:00.000Z-0000-00000000000000a", Err(StampFault::Length { len: 45 })),
-        (b"2023-02-29T00:00:00.000Z-0000-00000000000000aa", Err(StampFault::NoSuchMoment)),
-        (b"9999-02-30T00:00:00.000Z-0000-00000000000000aa", Err(StampFault::NoSuchMoment)),
+        (
+            b"2024-01-05T10:00:00.000Z-00ff-00000000000000aa",
+            Err(StampFault::BadByte { at: 27 }),
+        ),
+        (
+            b"2024-01-05T10:00:00.000Z-0000-00000000000000a",
+            Err(StampFault::Length { len: 45 }),
+        ),
+        (
+            b"2023-02-29T00:00:00.000Z-0000-00000000000000aa",
+            Err(StampFault::NoSuchMoment),
+        ),
+        (
+            b"9999-02-30T00:00:00.000Z-0000-00000000000000aa",
+            Err(StampFault::NoSuchMoment),
+        ),
         (
             b"9999-12-31T00:00:00.000Z-0000-0000000000000000",
-            Err(StampFault::BeyondWindow { minute: 4_223_370_240 }),
+            Err(StampFault::BeyondWindow {
+                minute: 4_223_370_240,
+            }),
         ),
-        (b"2024-01-05T10:00:00.000Z-0000-0000000000000000", Err(StampFault::ZeroNode)),
+        (
+            b"2024-01-05T10:00:00.000Z-0000-0000000000000000",
+            Err(StampFault::ZeroNode),
+        ),
     ];
     for (text, expected) in cases {
         let read = Stamp::parse(text);
@@ -27,7 +50,95 @@ fn reads_texts(rt: HostRuntime) -> Result<(), Fail> {
             let mut written = [0u8; 46];
             stamp.write_text(&mut written);
             assert_eq!(rt; &written[..], text);
+            assert_eq!(rt; stamp.minute() as u64, stamp.millis / 60_000);
         }
     }
+    let nodes: [(&[u8], Result<[u8; 16], NodeFault>); 7] = [
+        (b"aa", Ok(*b"00000000000000aa")),
+        (b"zzzzzzzzzzzzzzzz", Ok(*b"zzzzzzzzzzzzzzzz")),
+        (b"", Err(NodeFault::Empty)),
+        (b"00000000000000000", Err(NodeFault::TooLong { len: 17 })),
+        (b"a-b", Err(NodeFault::BadByte { at: 1 })),
+        (b"0", Err(NodeFault::Zero)),
+        (b"0000", Err(NodeFault::Zero)),
+    ];
+    for (text, expected) in nodes {
+        assert_eq!(rt; Node::make(text).map(|n| n.bytes()), expected);
+    }
+    Ok(())
+}
+
+#[test]
+fn moves_clocks(rt: HostRuntime) -> Result<(), Fail> {
+    let node = Node::make(b"aa")?;
+    let cases: [(u64, u16, u64, u32, Result<u16, ClockFault>, (u64, u16)); 10] = [
+        (1000, 4, 1000, 1, Ok(5), (1000, 5)),
+        (301_000, 0, 1000, 1, Ok(1), (301_000, 1)),
+        (
+            301_001,
+            7,
+            1000,
+            1,
+            Err(ClockFault::Drift {
+                logical: 301_001,
+                reading: 1000,
+            }),
+            (301_001, 7),
+        ),
+        (
+            1000,
+            65_535,
+            1000,
+            1,
+            Err(ClockFault::Overflow { counter: 65_536 }),
+            (1000, 65_535),
+        ),
+        (1000, 65_535, 1001, 1, Ok(0), (1001, 0)),
+        (1000, 65_533, 1000, 2, Ok(65_534), (1000, 65_535)),
+        (
+            1000,
+            65_533,
+            1000,
+            3,
+            Err(ClockFault::Overflow { counter: 65_536 }),
+            (1000, 65_533),
+        ),
+        (0, 0, 5, 65_536, Ok(0), (5, 65_535)),
+        (
+            0,
+            0,
+            2_582_803_260_000,
+            1,
+            Err(ClockFault::Beyond {
+                reading: 2_582_803_260_000,
+            }),
+            (0, 0),
+        ),
+        (0, 0, 2_582_803_259_999, 1, Ok(0), (2_582_803_259_999, 0)),
+    ];
+    for (millis, counter, reading, n, expected, after) in cases {
+        let mut clock = HybridClock::new(
+            node,
+            Some(Stamp {
+                millis,
+                counter,
+                node,
+            }),
+        );
+        assert_eq!(rt; clock.draw(reading, n).map(|s| s.counter), expected);
+        assert_eq!(rt; (clock.last().millis, clock.last().counter), after);
+    }
+    let mut clock = HybridClock::new(node, None);
+    let message = Stamp::parse(b"1970-01-01T00:05:01.000Z-0007-00000000000000bb")?;
+    assert_eq!(rt;
+        clock.receive(999, &message).err(),
+        Some(ClockFault::Drift {
+            logical: 301_000,
+            reading: 999,
+        })
+    );
+    assert_eq!(rt; clock.last().millis, 0);
+    assert_eq!(rt; clock.receive(1000, &message).is_ok(), true);
+    assert_eq!(rt; (clock.last().millis, clock.last().counter), (301_000, 8));
     Ok(())
 }

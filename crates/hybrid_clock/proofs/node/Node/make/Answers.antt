@@ -8,5 +8,5 @@ returns-clause-node c =
     let P : List ℕ → Type 0 = λ node. IsNode node in
     subst P (sym c.padded.ensures)
     (padded_node c.args.text.now c.if-text-gt16.false
-      (all_pass c.args.text.now (sym c.bad_byte.ensures ∙ c.in_default.is))
-      (sym c.is_zeros.ensures ∙ c.if-is_zeros.false))
+    (all_pass c.args.text.now (sym c.bad_byte.ensures ∙ c.in_default.is))
+    (sym c.is_zeros.ensures ∙ c.if-is_zeros.false))

@@ -13,8 +13,8 @@ read c =
     let same : c.in-Ok.bytes ≡ c.args.text.now = search rules in
     let P : List ℕ → Type 0 = λ t. Ok (stamp_of c.in-Some-millis_of.millis c.hex.result c.of.result) ≡ read_stamp t in
     subst P same (read_parts c.in-Ok.bytes c.in-Some-millis_of.millis c.hex.result c.of.result
-      (omega arith) (sym c.misfit.ensures ∙ c.in_default-misfit.is) c.in-Some-millis_of.ensures c.if-minute-ge-WINDOW.false
-      (ap is_zeros c.of.ensures ∙ sym c.is_zeros.ensures ∙ c.if-is_zeros.false) c.hex.ensures (c.of.ensures ∙ c.node_of-node.ensures))
+    (omega arith) (sym c.misfit.ensures ∙ c.in_default-misfit.is) c.in-Some-millis_of.ensures c.if-minute-ge-WINDOW.false
+    (ap is_zeros c.of.ensures ∙ sym c.is_zeros.ensures ∙ c.if-is_zeros.false) c.hex.ensures (c.of.ensures ∙ c.node_of-node.ensures))
 
 pub returns-clause-is : goal.returns-clause-is
 returns-clause-is c = read c

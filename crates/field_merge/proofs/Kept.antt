@@ -1,0 +1,254 @@
+-- The maps of a log, as lists of messages and of latest timestamps.
+use Rattle.std.proofs.Common.{◌≡◌, ◌≢◌, ◌+◌, IsTrue, arith, length, List, [], ◌∷◌, Bool, true, false, not, ◌&&◌, ◌||◌, ◌↔◌, cond, Option, None, Some, map, refl, sym, ap, ◌∙◌, subst}
+use Rattle.std.specs.Ordering.{is_eq, is_lt, ordering_reverse, match_ordering}
+use Rattle.std.specs.Option.{is_none, is_some, option_map, option_or}
+use Rattle.std.proofs.lemmas.Bool.{both_ways}
+use Rattle.std.specs.Cmp.{tied_itself}
+use Rattle.std.specs.List.{find, list_any, AllByRecursion, Contains, IsDistinct}
+use Rattle.std.specs.List.Sorted.{IsStrictlySortedBy}
+use Rattle.std.specs.Map.{keys_of, lookup, values_of}
+use Rattle.std.specs.BTreeMap.{insert_entry, is_at}
+use Rattle.std.specs.BTreeSet.{BTreeSet, IsOrdered, contains}
+use Rattle.std.proofs.lemmas.Map.Keys.{IsDistinct-from_sorted}
+use Rattle.std.proofs.lemmas.Map.Views.{btree_set_contains_iff}
+use Rattle.std.specs.declared.cmp.Ordering.{Ordering}
+use Rattle.std.specs.declared.cmp.Ordering.TheVariants.{Less, Equal, Greater}
+use Rattle.field_values.specs.Names.{FieldNames, names_cmp, names_eq}
+use Rattle.hybrid_clock.specs.declared.stamp.Stamp.{Stamp}
+use Rattle.hybrid_clock.specs.Order.{stamp_cmp}
+use Rattle.field_merge.specs.declared.message.Message.{Message}
+use Rattle.field_merge.specs.Messages.{AreMessages, IsMessage}
+use Rattle.field_merge.specs.Log.{IsRising, at_stamp, by_stamp, has_field, has_stamp, join_one, latest, placed}
+use Rattle.field_merge.specs.Joining.{AreChanged}
+use Rattle.field_merge.specs.Kept.{AreEntries, IsIndex, MarksChanged, Notes, is_newer}
+use Rattle.field_merge.proofs.Orders.{stamps_total, names_alike, names_exact, names_total}
+use Rattle.field_merge.proofs.Joining.{stamp_of}
+use Rattle.field_merge.proofs.Latest.{latest_there}
+use Rattle.field_merge.proofs.Members.{found_in, is_some-find, missed, some_passes}
+use Rattle.field_merge.proofs.Ordered.{equal, found_by_key}
+use Rattle.field_merge.proofs.Placing.{all_placed, find-placed, in_order, length-placed}
+use Rattle.field_merge.proofs.Entering.{latest-placed, wins}
+
+abbrev pub AreOwn : List (Stamp × Message) → Type 0
+AreOwn es = AllByRecursion (λ e. e.0 ≡ e.1.stamp) es
+
+-- ---- the map of messages
+pub lookup-own : (es : List (Stamp × Message)) → AreOwn es → (s : Stamp) → lookup (is_at (stamp_cmp s)) es ≡ at_stamp (values_of es) s
+lookup-own [] u s = refl
+lookup-own (e ∷ es) u s =
+    ap (λ (t : Stamp). cond (is_eq (stamp_cmp s t)) (Some e.1) (lookup (is_at (stamp_cmp s)) es)) u.0
+    ∙ ap (cond (has_stamp s e.1) (Some e.1)) (lookup-own es u.1 s)
+
+same_keys : (es : List (Stamp × Message)) → AreOwn es → keys_of es ≡ map (λ (m : Message). m.stamp) (values_of es)
+same_keys [] u = refl
+same_keys (e ∷ es) u = λ i. u.0 i ∷ same_keys es u.1 i
+
+pub rising_from : (es : List (Stamp × Message)) → AreOwn es → IsStrictlySortedBy stamp_cmp (keys_of es) → IsRising (values_of es)
+rising_from es u h = subst (λ (ss : List Stamp). IsStrictlySortedBy stamp_cmp ss) (same_keys es u) h
+
+placed_by : (o : Ordering) (n : Message) (e : Stamp × Message) (es rest : List (Stamp × Message)) (ms : List Message) → is_eq o ≡ false → values_of rest ≡ ms → values_of (match_ordering o ((n.stamp, n) ∷ e ∷ es) ((e.0, n) ∷ es) (e ∷ rest)) ≡ cond (is_lt o) (n ∷ e.1 ∷ values_of es) (e.1 ∷ ms)
+placed_by Less n e es rest ms h ih = refl
+placed_by Equal n e es rest ms h ih = cc
+placed_by Greater n e es rest ms h ih = ap (λ xs. e.1 ∷ xs) ih
+
+-- a new entry goes to the place of its timestamp
+pub values-insert : (n : Message) (es : List (Stamp × Message)) → AreOwn es → lookup (is_at (stamp_cmp n.stamp)) es ≡ None → values_of (insert_entry stamp_cmp es n.stamp n) ≡ placed by_stamp (values_of es) n
+values-insert n [] u h = refl
+values-insert n (e ∷ es) u h =
+    let new = missed (is_eq (stamp_cmp n.stamp e.0)) e.1 (lookup (is_at (stamp_cmp n.stamp)) es) h in
+    placed_by (stamp_cmp n.stamp e.0) n e es (insert_entry stamp_cmp es n.stamp n) (placed by_stamp (values_of es) n) new.0 (values-insert n es u.1 new.1)
+    ∙ ap (λ (t : Stamp). cond (is_lt (stamp_cmp n.stamp t)) (n ∷ e.1 ∷ values_of es) (e.1 ∷ placed by_stamp (values_of es) n)) u.0
+
+own_by : (o : Ordering) (n : Message) (e : Stamp × Message) (es rest : List (Stamp × Message)) → is_eq o ≡ false → AreOwn (e ∷ es) → AreOwn rest → AreOwn (match_ordering o ((n.stamp, n) ∷ e ∷ es) ((e.0, n) ∷ es) (e ∷ rest))
+own_by Less n e es rest h u r = (refl, u)
+own_by Equal n e es rest h u r = cc
+own_by Greater n e es rest h u r = (u.0, r)
+
+own-insert : (n : Message) (es : List (Stamp × Message)) → AreOwn es → lookup (is_at (stamp_cmp n.stamp)) es ≡ None → AreOwn (insert_entry stamp_cmp es n.stamp n)
+own-insert n [] u h = (refl, tt)
+own-insert n (e ∷ es) u h =
+    let new = missed (is_eq (stamp_cmp n.stamp e.0)) e.1 (lookup (is_at (stamp_cmp n.stamp)) es) h in
+    own_by (stamp_cmp n.stamp e.0) n e es (insert_entry stamp_cmp es n.stamp n) new.0 u (own-insert n es u.1 new.1)
+
+-- the keys of messages that stand under their own timestamps rise where the timestamps do
+rising_back : (es : List (Stamp × Message)) → AreOwn es → IsRising (values_of es) → IsStrictlySortedBy stamp_cmp (keys_of es)
+rising_back es u h = subst (λ (ss : List Stamp). IsStrictlySortedBy stamp_cmp ss) (sym (same_keys es u)) h
+
+pub fresh_stamp : (es : List (Stamp × Message)) (n : Message) → AreOwn es → lookup (is_at (stamp_cmp n.stamp)) es ≡ None → at_stamp (values_of es) n.stamp ≡ None
+fresh_stamp es n u new = sym (lookup-own es u n.stamp) ∙ new
+
+-- the entries stand after an insert at a new timestamp
+pub entries-insert : (n : Message) (es fs : List (Stamp × Message)) → AreEntries es → IsMessage n → lookup (is_at (stamp_cmp n.stamp)) es ≡ None → fs ≡ insert_entry stamp_cmp es n.stamp n → AreEntries fs
+entries-insert n es fs h v new is =
+    let own : AreOwn fs = subst (λ (es : List (Stamp × Message)). AreOwn es) (sym is) (own-insert n es h.own new) in
+    let values : values_of fs ≡ placed by_stamp (values_of es) n = ap values_of is ∙ values-insert n es h.own new in
+    let rises : IsRising (placed by_stamp (values_of es) n) = in_order stamp_of stamp_cmp stamps_total (values_of es) n (fresh_stamp es n h.own new) (rising_from es h.own h.rising) in
+    record {
+      rising = rising_back fs own (subst (λ (ms : List Message). IsRising ms) (sym values) rises);
+      own = own;
+      valid = subst (λ (ms : List Message). AreMessages ms) (sym values) (all_placed by_stamp IsMessage (values_of es) n v h.valid);
+    }
+
+-- whether the map has a timestamp
+pub any-own : (es : List (Stamp × Message)) → AreOwn es → (s : Stamp) → list_any (has_stamp s) (values_of es) ≡ is_some (lookup (is_at (stamp_cmp s)) es)
+any-own es u s = sym (is_some-find (has_stamp s) (values_of es)) ∙ ap is_some (sym (lookup-own es u s))
+
+pub join-there : (ms : List Message) (n : Message) → list_any (has_stamp n.stamp) ms ≡ true → ms ≡ join_one ms n
+join-there ms n h = sym (ap (λ b. cond b ms (placed by_stamp ms n)) h)
+
+pub join-fresh : (ms : List Message) (n : Message) → list_any (has_stamp n.stamp) ms ≡ false → placed by_stamp ms n ≡ join_one ms n
+join-fresh ms n h = sym (ap (λ b. cond b ms (placed by_stamp ms n)) h)
+
+-- ---- the index
+flips : (r : Ordering) → is_eq (ordering_reverse r) ≡ is_eq r
+flips Less = refl
+flips Equal = refl
+flips Greater = refl
+
+pub names_flip : (f g : FieldNames) → is_eq (names_cmp f g) ≡ is_eq (names_cmp g f)
+names_flip f g = ap is_eq (names_total.antisymm f g) ∙ flips (names_cmp g f)
+
+map_cond : (b : Bool) (n : Message) (o : Option Message) → option_map (λ (m : Message). m.stamp) (cond b (Some n) o) ≡ cond b (Some n.stamp) (option_map (λ (m : Message). m.stamp) o)
+map_cond true n o = refl
+map_cond false n o = refl
+
+-- what is noted of a message, against the messages
+pub wins_by_index : (ms : List Message) (n : Message) (index new_index : List (FieldNames × Stamp)) (w : Bool) → IsIndex ms index → Notes index new_index n w → w ≡ wins ms n
+wins_by_index ms n index new_index w right note = note.is_later ∙ ap (λ o. is_newer o n.stamp) (right n.field)
+
+pub index-placed : (ms : List Message) (n : Message) (index new_index : List (FieldNames × Stamp)) (w : Bool) → IsRising ms → at_stamp ms n.stamp ≡ None → IsIndex ms index → Notes index new_index n w → IsIndex (placed by_stamp ms n) new_index
+index-placed ms n index new_index w s new right note f =
+    note.now f
+    ∙ (λ i. cond (wins_by_index ms n index new_index w right note i && names_flip n.field f i) (Some n.stamp) (right f i))
+    ∙ sym (map_cond (wins ms n && has_field f n) n (latest ms f))
+    ∙ ap (option_map (λ (m : Message). m.stamp)) (sym (latest-placed ms n s new f))
+
+-- ---- a note where the index has the field, and where it does not
+keep : (a b : Bool) (s t : Stamp) (o : Option Stamp) → (a ≡ true → o ≡ Some t) → cond a (Some (cond b s t)) o ≡ cond (b && a) (Some s) o
+keep a true s t o h = refl
+keep true false s t o h = sym (h refl)
+keep false false s t o h = refl
+
+pub noted_there : (index new_index : List (FieldNames × Stamp)) (n : Message) (old : Stamp) (w : Bool) → Some old ≡ lookup (is_at (names_cmp n.field)) index → w ≡ is_lt (stamp_cmp old n.stamp) → ((f : FieldNames) → lookup (is_at (names_cmp f)) new_index ≡ cond (is_at (names_cmp n.field) f) (Some (cond w n.stamp old)) (lookup (is_at (names_cmp f)) index)) → Notes index new_index n w
+noted_there index new_index n old w there later now = record {
+  is_later = later ∙ ap (λ o. is_newer o n.stamp) there;
+  now = λ f. now f ∙ keep (is_at (names_cmp n.field) f) w n.stamp old (lookup (is_at (names_cmp f)) index)
+    (λ t. subst (λ (g : FieldNames). lookup (is_at (names_cmp g)) index ≡ Some old) (names_exact n.field f (equal _ t)) (sym there));
+}
+
+pub noted_first : (index new_index : List (FieldNames × Stamp)) (n : Message) → None ≡ lookup (is_at (names_cmp n.field)) index → ((f : FieldNames) → lookup (is_at (names_cmp f)) new_index ≡ cond (is_at (names_cmp n.field) f) (Some n.stamp) (lookup (is_at (names_cmp f)) index)) → Notes index new_index n true
+noted_first index new_index n lacks now = record {
+  is_later = ap (λ o. is_newer o n.stamp) lacks;
+  now = now;
+}
+
+-- the index leads to the latest message
+some_stamp : (o : Option Message) (s : Stamp) → option_map (λ (m : Message). m.stamp) o ≡ Some s → (m : Message) × (o ≡ Some m) × (m.stamp ≡ s)
+some_stamp None s h = cc
+some_stamp (Some m) s h = (m, refl, cc)
+
+pub by_index : (es : List (Stamp × Message)) (index : List (FieldNames × Stamp)) (f : FieldNames) (s : Stamp) → AreEntries es → IsIndex (values_of es) index → Some s ≡ lookup (is_at (names_cmp f)) index → lookup (is_at (stamp_cmp s)) es ≡ latest (values_of es) f
+by_index es index f s stand right there =
+    let known = some_stamp (latest (values_of es) f) s (sym (right f) ∙ sym there) in
+    lookup-own es stand.own s
+    ∙ ap (λ (t : Stamp). at_stamp (values_of es) t) (sym known.2)
+    ∙ found_by_key stamp_of stamp_cmp stamps_total (values_of es) (rising_from es stand.own stand.rising) known.0 (latest_there (values_of es) f known.0 known.1).0
+    ∙ sym known.1
+
+-- ---- what enters
+pub entered_right : (n : Message) (es fs : List (Stamp × Message)) (index new_index : List (FieldNames × Stamp)) (w : Bool) → AreEntries es → lookup (is_at (stamp_cmp n.stamp)) es ≡ None → fs ≡ insert_entry stamp_cmp es n.stamp n → IsIndex (values_of es) index → Notes index new_index n w → IsIndex (values_of fs) new_index
+entered_right n es fs index new_index w stand new is right note =
+    subst (λ (ms : List Message). IsIndex ms new_index) (sym (ap values_of is ∙ values-insert n es stand.own new))
+      (index-placed (values_of es) n index new_index w (rising_from es stand.own stand.rising) (fresh_stamp es n stand.own new) right note)
+
+pub entered_wins : (n : Message) (es fs : List (Stamp × Message)) (index new_index : List (FieldNames × Stamp)) (w : Bool) → AreEntries es → lookup (is_at (stamp_cmp n.stamp)) es ≡ None → fs ≡ insert_entry stamp_cmp es n.stamp n → IsIndex (values_of es) index → Notes index new_index n w → (f : FieldNames) → latest (values_of fs) f ≡ cond (w && has_field f n) (Some n) (latest (values_of es) f)
+entered_wins n es fs index new_index w stand new is right note f =
+    ap (λ (ms : List Message). latest ms f) (ap values_of is ∙ values-insert n es stand.own new)
+    ∙ latest-placed (values_of es) n (rising_from es stand.own stand.rising) (fresh_stamp es n stand.own new) f
+    ∙ ap (λ b. cond (b && has_field f n) (Some n) (latest (values_of es) f)) (sym (wins_by_index (values_of es) n index new_index w right note))
+
+-- ---- what is marked
+some_or : (b : Bool) (n : Message) (o : Option Message) → is_some o ≡ true → is_some (cond b (Some n) o) ≡ true
+some_or true n o h = refl
+some_or false n o h = h
+
+not_latest_before : (before ms : List Message) (n : Message) (f : FieldNames) → ((s : Stamp) → is_some (at_stamp before s) ≡ true → is_some (at_stamp ms s) ≡ true) → at_stamp ms n.stamp ≡ None → latest before f ≢ Some n
+not_latest_before before ms n f grown new is =
+    let there : Contains before n = (latest_there before f n is).0 in
+    let kept : is_some (at_stamp before n.stamp) ≡ true =
+        elim (at_stamp before n.stamp) as (λ o. at_stamp before n.stamp ≡ o → is_some o ≡ true) [
+          | None ↦ λ e. absurd (some_passes (has_stamp n.stamp) before n there (ap is_eq (tied_itself stamps_total n.stamp)) e)
+          | Some m ↦ λ e. refl
+        ] refl in
+    let now : is_some (at_stamp ms n.stamp) ≡ true = grown n.stamp kept in
+    let lacks : is_some (at_stamp ms n.stamp) ≡ false = ap is_some new in
+    cc
+
+marked_by : (b m : Bool) (o p : Option Message) (n : Message) → o ≢ Some n → (IsTrue m ↔ (o ≢ p)) → IsTrue (b || m) ↔ (o ≢ cond b (Some n) p)
+marked_by true m o p n differs h = (λ _. differs, λ _. refl)
+marked_by false m o p n differs h = h
+
+pub marks-placed : (before ms new : List Message) (marked new_marked : BTreeSet FieldNames) (n : Message) (w : Bool) → at_stamp ms n.stamp ≡ None → new ≡ placed by_stamp ms n → ((f : FieldNames) → latest new f ≡ cond (w && has_field f n) (Some n) (latest ms f)) → ((f : FieldNames) → contains names_cmp new_marked f ≡ ((w && has_field f n) || contains names_cmp marked f)) → MarksChanged before ms marked → MarksChanged before new new_marked
+marks-placed before ms new marked new_marked n w fresh is now marks h = record {
+  grown = λ s there. ap (λ (ms : List Message). is_some (at_stamp ms s)) is
+    ∙ ap is_some (find-placed stamp_of stamp_cmp stamps_total ms n fresh s)
+    ∙ some_or (has_stamp s n) n (at_stamp ms s) (h.grown s there);
+  exactly = λ f.
+    let both = marked_by (w && has_field f n) (contains names_cmp marked f) (latest before f) (latest ms f) n (not_latest_before before ms n f h.grown fresh) (h.exactly f) in
+    (λ t is. both.0 (sym (marks f) ∙ t) (is ∙ now f), λ differs. marks f ∙ both.1 (λ is. differs (is ∙ sym (now f))));
+}
+
+-- a field that is marked already
+pub marked-already : (marked : BTreeSet FieldNames) (g : FieldNames) → contains names_cmp marked g ≡ true → (f : FieldNames) → contains names_cmp marked f ≡ (is_at (names_cmp g) f || contains names_cmp marked f)
+marked-already marked g there f =
+    elim (is_at (names_cmp g) f) as (λ b. is_at (names_cmp g) f ≡ b → contains names_cmp marked f ≡ (b || contains names_cmp marked f)) [
+      | true ↦ λ t. subst (λ (h : FieldNames). contains names_cmp marked h ≡ true) (names_exact g f (equal _ t)) there
+      | false ↦ λ t. refl
+    ] refl
+
+pub marked-more : (b m : Bool) → cond b true m ≡ (b || m)
+marked-more true m = refl
+marked-more false m = refl
+
+-- nothing is marked before the first message
+pub marks-none : (ms : List Message) (marked : BTreeSet FieldNames) → marked.keys ≡ [] → MarksChanged ms ms marked
+marks-none ms marked empty = record {
+  grown = λ s there. there;
+  exactly = λ f. (
+    λ t. let no : contains names_cmp marked f ≡ false = ap (λ (ks : List FieldNames). list_any (is_at (names_cmp f)) ks) empty in absurd (both_ways (contains names_cmp marked f) no t),
+    λ differs. absurd (differs refl));
+}
+
+pub flag-none : (o : Option Message) (b : Bool) → is_some o ≡ b → not b ≡ is_none o
+flag-none None b h = ap not (sym h)
+flag-none (Some m) b h = ap not (sym h)
+
+pub message-at : (t : Stamp → Bool) (es : List (Stamp × Message)) (m : Message) → AreMessages (values_of es) → Some m ≡ lookup t es → IsMessage m
+message-at t [] m v h = cc
+message-at t (e ∷ es) m v h =
+    elim (t e.0) as (λ b. Some m ≡ cond b (Some e.1) (lookup t es) → IsMessage m) [
+      | true ↦ λ is. let same : e.1 ≡ m = cc in subst (λ (n : Message). IsMessage n) same v.0
+      | false ↦ λ is. message-at t es m v.1 is
+    ] h
+
+-- the marked fields, as a list
+same_test : (λ (f g : FieldNames). is_eq (names_cmp f g)) ≡ names_eq
+same_test = λ i f g. names_alike f g i
+
+pub are-changed : (before ms : List Message) (marked : BTreeSet FieldNames) (changed : List FieldNames) → changed ≡ marked.keys → IsOrdered names_cmp marked → MarksChanged before ms marked → AreChanged before ms changed
+are-changed before ms marked changed is s h =
+    let distinct : IsDistinct names_eq marked.keys = subst (λ (e : FieldNames → FieldNames → Bool). IsDistinct e marked.keys) same_test (IsDistinct-from_sorted names_cmp marked.keys s) in
+    let has = btree_set_contains_iff names_total names_exact marked in
+    record {
+      once = subst (λ (fs : List FieldNames). IsDistinct names_eq fs) (sym is) distinct;
+      exactly = λ f. (
+        λ c. (h.exactly f).0 ((has f).1 (subst (λ (fs : List FieldNames). Contains fs f) is c)),
+        λ differs. subst (λ (fs : List FieldNames). Contains fs f) (sym is) ((has f).0 ((h.exactly f).1 differs)));
+    }
+
+pub length-join_one : (ms : List Message) (n : Message) (fresh : Bool) → fresh ≡ not (list_any (has_stamp n.stamp) ms) → length (join_one ms n) ≡ length ms + cond fresh 1 0
+length-join_one ms n fresh h =
+    elim (list_any (has_stamp n.stamp) ms) as (λ b. fresh ≡ not b → length (cond b ms (placed by_stamp ms n)) ≡ length ms + cond fresh 1 0) [
+      | true ↦ λ no. rw no (omega arith)
+      | false ↦ λ yes. rw yes (length-placed by_stamp ms n ∙ omega arith)
+    ] h

@@ -1,0 +1,13 @@
+pub mod EscapeLemmas
+pub mod LineLemmas
+pub mod StampLemmas
+pub mod Orders
+pub mod Members
+pub mod Ordered
+pub mod Placing
+pub mod Joining
+pub mod Latest
+pub mod Fields
+pub mod Entering
+pub mod Kept
+pub mod Listed

@@ -1,0 +1,116 @@
+-- The parts of a line.
+use Rattle.std.proofs.Common.{◌≡◌, ◌≢◌, ℕ, suc, ◌+◌, ◌<◌, Bool, true, false, eqb, List, [], ◌∷◌, ◌++◌, length, Option, None, Some, MatchOption, Bor, refl, ap, sym, ◌∙◌, arith, append_assoc, Result, Ok, Err}
+use Rattle.std.specs.Prelude.{count_by, ◌==◌}
+use Rattle.std.specs.List.{slice_split, onto_first}
+use Rattle.std.proofs.lemmas.List.{append-nil}
+use Rattle.std.proofs.lemmas.List.Splits.{length-slice_split}
+use Rattle.field_values.specs.Names.{FieldNames, names_fault}
+use Rattle.field_values.specs.Value.{value_text, value_of}
+use Rattle.field_values.proofs.NameLemmas.{names_fault-none}
+use Rattle.field_values.proofs.Values.{value_of_text}
+use Rattle.hybrid_clock.specs.declared.stamp.Stamp.{Stamp}
+use Rattle.hybrid_clock.specs.declared.stamp.StampFault.{StampFault}
+use Rattle.hybrid_clock.specs.Stamp.{stamp_text}
+use Rattle.hybrid_clock.specs.Reading.{read_stamp}
+use Rattle.hybrid_clock.proofs.Writing.{text_reads}
+use Rattle.field_merge.specs.declared.message.Message.{Message}
+use Rattle.field_merge.specs.declared.line.LineFault.{LineFault}
+use Rattle.field_merge.specs.declared.line.LineFault.TheVariants.{Columns, Escape, Stamp as BadStamp, Name as BadName}
+use Rattle.field_merge.specs.Escapes.{escaped, unescaped, bad_escape}
+use Rattle.field_merge.specs.Messages.{IsMessage, message_line}
+use Rattle.field_merge.specs.Lines.{parts, with_names, with_stamp, message_of, of_parts, reading}
+use Rattle.field_merge.proofs.EscapeLemmas.{Lacks, Lacks-from_reads, CutsAt, Fails-append, unescaped-escaped, escaped-no_tab, escaped-no_feed, bad_escape-escaped, bad_escape-tab}
+
+pub parts-none : (xs : List ℕ) → Lacks 9 xs → parts xs ≡ xs ∷ []
+parts-none [] h = refl
+parts-none (x ∷ xs) h = let first = h.0 in rw (first, parts-none xs h.1) refl
+
+pub parts-at : (xs ys : List ℕ) → Lacks 9 xs → parts (xs ++ 9 ∷ ys) ≡ xs ∷ parts ys
+parts-at [] ys h = refl
+parts-at (x ∷ xs) ys h = let first = h.0 in rw (first, parts-at xs ys h.1) refl
+
+-- what a cut at the first TAB gives
+pub parts-cut : (bs : List ℕ) (r : Option (Bor (List ℕ) × Bor (List ℕ))) → CutsAt 9 bs r → MatchOption r (parts bs ≡ bs ∷ []) (λ p. parts bs ≡ p.0.now ∷ parts p.1.now)
+parts-cut bs None h = parts-none bs (Lacks-from_reads 9 bs h)
+parts-cut bs (Some x) h = ap parts h.0 ∙ parts-at x.0.now x.1.now (Lacks-from_reads 9 x.0.now h.1)
+
+pub length_of_parts : (line : List ℕ) → length (parts line) ≡ count_by (λ b. b == 9) line + 1
+length_of_parts line = length-slice_split (λ b. b == 9) line
+
+-- a part behind the fifth makes six or more
+pub too_many : (line a r1 b r2 c r3 d r4 e r5 : List ℕ) → parts line ≡ a ∷ parts r1 → parts r1 ≡ b ∷ parts r2 → parts r2 ≡ c ∷ parts r3 → parts r3 ≡ d ∷ parts r4 → parts r4 ≡ e ∷ parts r5 → length (parts line) ≡ 5 → ⊥
+too_many line a r1 b r2 c r3 d r4 e r5 h1 h2 h3 h4 h5 five =
+    omega (arith, ap length h1, ap length h2, ap length h3, ap length h4, ap length h5, length_of_parts r5)
+
+-- another number of parts
+pub reading-columns : (ps : List (List ℕ)) (bad : Option ℕ) → length ps ≢ 5 → of_parts ps bad ≡ Err (Columns (length ps))
+reading-columns [] bad h = refl
+reading-columns (a ∷ []) bad h = refl
+reading-columns (a ∷ b ∷ []) bad h = refl
+reading-columns (a ∷ b ∷ c ∷ []) bad h = refl
+reading-columns (a ∷ b ∷ c ∷ d ∷ []) bad h = refl
+reading-columns (a ∷ b ∷ c ∷ d ∷ e ∷ []) bad h = absurd (h refl)
+reading-columns (a ∷ b ∷ c ∷ d ∷ e ∷ f ∷ ps) bad h = refl
+
+pub reading_of_others : (line : List ℕ) → length (parts line) ≢ 5 → reading line ≡ Err (Columns (length (parts line)))
+reading_of_others line h = reading-columns (parts line) (bad_escape line) h
+
+-- one more escaped text and a TAB before a line
+abbrev before : List ℕ → List ℕ → List ℕ
+before text line = escaped text ++ (9 ∷ line)
+
+before-parts : (text line : List ℕ) → parts (before text line) ≡ escaped text ∷ parts line
+before-parts text line = parts-at (escaped text) line (escaped-no_tab text)
+
+before-good : (text line : List ℕ) → bad_escape line ≡ None → bad_escape (before text line) ≡ None
+before-good text line h = bad_escape-escaped text (9 ∷ line) (bad_escape-tab line h)
+
+before-no_feed : (text line : List ℕ) → Lacks 10 line → Lacks 10 (before text line)
+before-no_feed text line h = Fails-append (λ x. x == 10) (escaped text) (9 ∷ line) (escaped-no_feed text) (refl, h)
+
+last-good : (text : List ℕ) → bad_escape (escaped text) ≡ None
+last-good text = ap bad_escape (sym (append-nil (escaped text))) ∙ bad_escape-escaped text [] refl
+
+-- the line of five texts
+abbrev five : List ℕ → List ℕ → List ℕ → List ℕ → List ℕ → List ℕ
+five a b c d e = before a (before b (before c (before d (escaped e))))
+
+five-parts : (a b c d e : List ℕ) → parts (five a b c d e) ≡ escaped a ∷ escaped b ∷ escaped c ∷ escaped d ∷ escaped e ∷ []
+five-parts a b c d e =
+    before-parts a (before b (before c (before d (escaped e)))) ∙ ap (λ ps. escaped a ∷ ps) (
+    before-parts b (before c (before d (escaped e))) ∙ ap (λ ps. escaped b ∷ ps) (
+    before-parts c (before d (escaped e)) ∙ ap (λ ps. escaped c ∷ ps) (
+    before-parts d (escaped e) ∙ ap (λ ps. escaped d ∷ ps) (
+    parts-none (escaped e) (escaped-no_tab e)))))
+
+five-good : (a b c d e : List ℕ) → bad_escape (five a b c d e) ≡ None
+five-good a b c d e =
+    before-good a (before b (before c (before d (escaped e)))) (
+    before-good b (before c (before d (escaped e))) (
+    before-good c (before d (escaped e)) (
+    before-good d (escaped e) (last-good e))))
+
+-- the line of a message reads as the message
+pub reading_of_line : (m : Message) → IsMessage m → reading (message_line m) ≡ Ok m
+reading_of_line m valid =
+    let e1 = five-parts (stamp_text m.stamp) m.field.dataset m.field.row m.field.column (value_text m.value) in
+    let e2 = five-good (stamp_text m.stamp) m.field.dataset m.field.row m.field.column (value_text m.value) in
+    ap (λ ps. of_parts ps (bad_escape (message_line m))) e1
+    ∙ ap (λ bad. of_parts (escaped (stamp_text m.stamp) ∷ escaped m.field.dataset ∷ escaped m.field.row ∷ escaped m.field.column ∷ escaped (value_text m.value) ∷ []) bad) e2
+    ∙ rw (unescaped-escaped (stamp_text m.stamp), unescaped-escaped m.field.dataset, unescaped-escaped m.field.row, unescaped-escaped m.field.column, unescaped-escaped (value_text m.value), text_reads m.stamp valid.stamp, names_fault-none m.field valid.field, value_of_text m.value valid.value) refl
+
+-- a line that is written part by part
+pub line_pushed : (old a b c d e : List ℕ) → ((((old ++ a) ++ 9 ∷ b) ++ 9 ∷ c) ++ 9 ∷ d) ++ 9 ∷ e ≡ old ++ (a ++ (9 ∷ (b ++ (9 ∷ (c ++ (9 ∷ (d ++ (9 ∷ e))))))))
+line_pushed old a b c d e = simp append_assoc
+
+-- a line has no LF
+pub message_line_on_one_line : (m : Message) → Lacks 10 (message_line m)
+message_line_on_one_line m =
+    let d = m.field.dataset in
+    let r = m.field.row in
+    let c = m.field.column in
+    let v = value_text m.value in
+    before-no_feed (stamp_text m.stamp) (before d (before r (before c (escaped v)))) (
+    before-no_feed d (before r (before c (escaped v))) (
+    before-no_feed r (before c (escaped v)) (
+    before-no_feed c (escaped v) (escaped-no_feed v))))

@@ -1,0 +1,165 @@
+//! The escapes of a line's parts: `\0`, `\t`, `\n` and `\\` for the bytes 0, 9, 10 and 92.
+ghost use Rattle.std.specs.Prelude.{◌≡◌, ◌<◌, ◌≤◌, ◌++◌, ◌∷◌, length, IfOk, IsTrue, OnOk, MatchOption, position, string_bytes};
+ghost use Rattle.std.specs.Bool.{OnTrue};
+ghost use Rattle.field_merge.specs.Escapes as spec;
+ghost use Rattle.field_merge.specs.Escapes.{escaped, escaped_byte, unescaped};
+
+use field_values::NoMemory;
+use std::alloc::Global;
+
+/// Whether a byte makes an escape with a backslash before it.
+fn is_letter(byte: u8) -> bool
+    ensures { result ≡ spec.is_letter byte }
+{
+    matches!(byte, b'0' | b't' | b'n' | b'\\')
+}
+
+/// The place of the first backslash that begins no escape.
+pub(crate) fn bad_escape(text: &[u8]) -> Option<usize>
+    ensures { result ≡ spec.bad_escape text.now }
+{
+    let mut at = 0;
+    while at < text.len() {
+        if text[at] != b'\\' {
+            at += 1;
+        } else if at + 1 < text.len() && is_letter(text[at + 1]) {
+            at += 2;
+        } else {
+            return Some(at);
+        }
+    }
+    None
+}
+
+/// A text, cut at a byte that is written by an escape.
+#[derive(Drop)]
+struct Cut<'a> {
+    before: &'a str,
+    byte: u8,
+    after: &'a str,
+}
+
+/// Cuts at the first backslash.
+fn cut_backslash(part: &str) -> Option<(&str, &str)>
+    ensures { MatchOption result (unescaped part.now ≡ part.now)
+        (λ p. (unescaped part.now ≡ p.0.now ++ unescaped (92 ∷ p.1.now)) × (length p.1.now < length part.now)) }
+{
+    part.split_once('\\')
+}
+
+/// Whether a part stands for itself, since it has no backslash.
+pub(crate) fn is_plain(part: &str) -> bool
+    ensures { OnTrue result (unescaped part.now ≡ part.now) }
+{
+    cut_backslash(part).is_none()
+}
+
+/// What stands behind a backslash: the byte that the two stand for, and the text after them.
+/// A backslash that begins no escape stands for itself.
+fn after_backslash(text: &str) -> (u8, &str)
+    ensures meaning { unescaped (92 ∷ text.now) ≡ result.0 ∷ unescaped result.1.now }
+    ensures ascii { result.0 < 128 }
+    ensures length { length result.1.now ≤ length text.now }
+{
+    if let Some(rest) = text.strip_prefix('0') {
+        return (0, rest);
+    }
+    if let Some(rest) = text.strip_prefix('t') {
+        return (9, rest);
+    }
+    if let Some(rest) = text.strip_prefix('n') {
+        return (10, rest);
+    }
+    if let Some(rest) = text.strip_prefix('\\') {
+        return (92, rest);
+    }
+    (92, text)
+}
+
+/// Cuts at the first escape.
+fn cut_escape(part: &str) -> Option<Cut<'_>>
+    ensures { MatchOption result (unescaped part.now ≡ part.now)
+        (λ cut. (unescaped part.now ≡ cut.before.now ++ (cut.byte ∷ unescaped cut.after.now))
+            × (cut.byte < 128) × (length cut.after.now < length part.now)) }
+{
+    let (before, rest) = cut_backslash(part)?;
+    let (byte, after) = after_backslash(rest);
+    Some(Cut {
+        before,
+        byte,
+        after,
+    })
+}
+
+/// The text that a part stands for.
+pub(crate) fn unescape(alloc: Global, part: &str) -> Result<String, NoMemory>
+    ensures { IfOk result (λ text. string_bytes text ≡ unescaped part.now) }
+{
+    let mut text = String::with_capacity(alloc, part.len())?;
+    let mut rest = part;
+    'escapes: while let Some(cut) = cut_escape(rest) {
+        text.push_str(cut.before)?;
+        text.push(char::from(cut.byte))?;
+        rest = cut.after;
+    }
+    text.push_str(rest)?;
+    Ok(text)
+}
+
+/// Whether a part writes the byte by an escape.
+fn is_special(byte: u8) -> bool
+    ensures { result ≡ spec.is_special byte }
+{
+    matches!(byte, 0 | 9 | 10 | 92)
+}
+
+/// The place of the first byte that a part writes by an escape.
+fn first_special(text: &str) -> Option<usize>
+    ensures { result ≡ position spec.is_special text.now }
+{
+    text.as_bytes().iter().position(|byte| is_special(*byte))
+}
+
+/// The escape of a byte.
+fn escape_of(byte: u8) -> &'static str
+    requires { IsTrue (spec.is_special byte) }
+    ensures { result.now ≡ escaped_byte byte }
+{
+    match byte {
+        0 => "\\0",
+        9 => "\\t",
+        10 => "\\n",
+        _ => "\\\\",
+    }
+}
+
+/// Cuts at the first byte that a part writes by an escape.
+fn cut_special(text: &str) -> Option<Cut<'_>>
+    ensures { MatchOption result (escaped text.now ≡ text.now)
+        (λ cut. (escaped text.now ≡ cut.before.now ++ (escaped_byte cut.byte ++ escaped cut.after.now))
+            × IsTrue (spec.is_special cut.byte) × (length cut.after.now < length text.now)) }
+{
+    let at = first_special(text)?;
+    let byte = text.as_bytes()[at];
+    let (before, _) = text.split_at(at);
+    let (_, after) = text.split_at(at + 1);
+    Some(Cut {
+        before,
+        byte,
+        after,
+    })
+}
+
+/// Puts a text at the end of a line, as a part writes it.
+pub(crate) fn push_escaped(line: &mut String, text: &str) -> Result<(), NoMemory>
+    ensures { OnOk result (string_bytes line.new ≡ string_bytes line.old ++ escaped text.now) }
+{
+    let mut rest = text;
+    'specials: while let Some(cut) = cut_special(rest) {
+        line.push_str(cut.before)?;
+        line.push_str(escape_of(cut.byte))?;
+        rest = cut.after;
+    }
+    line.push_str(rest)?;
+    Ok(())
+}

@@ -1,0 +1,21 @@
+//! Field messages: their lines, and the log that merges them.
+#![tactic(auto)]
+
+mod escape;
+mod index;
+mod laws;
+mod line;
+mod log;
+mod message;
+
+pub use laws::{
+    joined, joined_again, joined_in_any_order, joined_in_turn, latest_message, listed_fields,
+};
+pub use line::{LineFault, push_line, read_line, write_line};
+pub use log::{Joined, Log};
+pub use message::Message;
+
+#[cfg(test)]
+mod log_tests;
+#[cfg(test)]
+mod tests;

@@ -1,0 +1,230 @@
+//! The line of a message, read and written.
+ghost use Rattle.std.specs.Prelude.{◌≡◌, ◌≢◌, ◌==◌, ◌≤◌, ◌∷◌, ◌++◌, [], length, count_by, IfOk, IfErr, OnOk, MatchOption, MatchResult, IsUtf8, Ok, Some, None, string_bytes};
+ghost use Rattle.field_values.specs.Names.{field_of, names_fault, AreNames};
+ghost use Rattle.field_values.specs.Value.{value_of, IsValue};
+ghost use Rattle.hybrid_clock.specs.Stamp.{stamp_text, IsStamp};
+ghost use Rattle.hybrid_clock.specs.Reading.{read_stamp};
+ghost use Rattle.field_merge.specs.Escapes.{escaped, unescaped};
+ghost use Rattle.field_merge.specs.Lines.{reading, parts, of_parts, IsFaultIn};
+ghost use Rattle.field_merge.specs.Messages.{IsMessage, message_line};
+ghost use Rattle.field_merge.specs.declared.line.LineFault.TheVariants.{NoMemory as OutOfMemory};
+
+use crate::escape::{bad_escape, is_plain, push_escaped, unescape};
+use crate::message::Message;
+use field_values::{Field, NameFault, NoMemory, Txt, Value};
+use hybrid_clock::{Stamp, StampFault};
+use std::alloc::Global;
+use std::str;
+
+/// Why a line is refused. The causes are tested in this order, over the whole line each.
+#[derive(Clone, Copy, Debug, PartialEq, Eq)]
+pub enum LineFault {
+    /// The line has another number of parts between TABs than five.
+    Columns { found: usize },
+    /// A backslash that none of `0`, `t`, `n` and a backslash follows within its part, the first
+    /// one: `at` counts the bytes of the line before it.
+    Escape { at: usize },
+    /// The first part is no timestamp.
+    Stamp(StampFault),
+    /// The second, third or fourth part is no name.
+    Name(NameFault),
+    /// Memory ran out.
+    NoMemory,
+}
+
+impl From<NoMemory> for LineFault {
+    ghost from_gives = { λ _ e. e ≡ OutOfMemory };
+
+    fn from(_e: NoMemory) -> LineFault {
+        LineFault::NoMemory
+    }
+}
+
+/// The five parts of a line, still with their escapes.
+#[derive(Drop)]
+struct Parts<'a> {
+    stamp: &'a str,
+    dataset: &'a str,
+    row: &'a str,
+    column: &'a str,
+    value: &'a str,
+}
+
+/// Cuts at the first TAB.
+fn cut(text: &str) -> Option<(&str, &str)>
+    ensures { MatchOption result (parts text.now ≡ text.now ∷ []) (λ p. parts text.now ≡ p.0.now ∷ parts p.1.now) }
+{
+    text.split_once('\t')
+}
+
+/// The parts of a line that has five.
+fn five_parts(line: &str) -> Option<Parts<'_>>
+    ensures { MatchOption result (length (parts line.now) ≢ 5) (λ p. parts line.now
+        ≡ p.stamp.now ∷ p.dataset.now ∷ p.row.now ∷ p.column.now ∷ p.value.now ∷ []) }
+{
+    let (stamp, rest) = cut(line)?;
+    let (dataset, rest) = cut(rest)?;
+    let (row, rest) = cut(rest)?;
+    let (column, value) = cut(rest)?;
+    match cut(value) {
+        Some(_) => None,
+        None => Some(Parts {
+            stamp,
+            dataset,
+            row,
+            column,
+            value,
+        }),
+    }
+}
+
+fn count_tabs(line: &[u8]) -> usize
+    ensures count { result ≡ count_by (λ b. b == 9) line.now }
+    ensures bound { result ≤ length line.now }
+{
+    line.iter().filter(|byte| **byte == 9).count()
+}
+
+/// How many parts a line has.
+#[tactic(auto, using(crate::proofs::LineLemmas::length_of_parts))]
+fn count_parts(line: &[u8]) -> usize
+    ensures { result ≡ length (parts line.now) }
+{
+    count_tabs(line) + 1
+}
+
+/// The timestamp that a part stands for.
+fn stamp_in(alloc: Global, part: &str) -> Result<Result<Stamp, StampFault>, NoMemory>
+    ensures reading { IfOk result (λ read. read ≡ read_stamp (unescaped part.now)) }
+    ensures valid { IfOk result (λ read. IfOk read IsStamp) }
+{
+    if is_plain(part) {
+        return Ok(Stamp::parse(part.as_bytes()));
+    }
+    let text = unescape(alloc, part)?;
+    Ok(Stamp::parse(text.as_bytes()))
+}
+
+/// The field that three parts stand for.
+fn field_in(alloc: Global, parts: &Parts<'_>) -> Result<Result<Field, NameFault>, NoMemory>
+    ensures { let names = field_of (unescaped parts.now.dataset.now) (unescaped parts.now.row.now) (unescaped parts.now.column.now) in
+        IfOk result (λ read. MatchResult read
+            (λ field. (field ≡ names) × AreNames names × (names_fault names ≡ None))
+            (λ fault. names_fault names ≡ Some fault)) }
+{
+    let dataset = Txt::new(unescape(alloc, parts.dataset)?);
+    let row = Txt::new(unescape(alloc, parts.row)?);
+    let column = Txt::new(unescape(alloc, parts.column)?);
+    match Field::of(alloc, dataset, row, column) {
+        Ok(field) => Ok(Ok(field)),
+        Err(NameFault::NoMemory) => Err(NoMemory),
+        Err(fault) => Ok(Err(fault)),
+    }
+}
+
+/// The value that a part stands for.
+fn value_in(alloc: Global, part: &str) -> Result<Value, NoMemory>
+    ensures value { IfOk result (λ v. v ≡ value_of (unescaped part.now)) }
+    ensures valid { IfOk result IsValue }
+{
+    if is_plain(part) {
+        return Value::read(alloc, part);
+    }
+    let text = unescape(alloc, part)?;
+    Value::read(alloc, text.as_str())
+}
+
+/// The message that five parts stand for.
+fn message_in(alloc: Global, parts: &Parts<'_>) -> Result<Message, LineFault>
+    ensures ok { IfOk result (λ m. of_parts (parts.now.stamp.now ∷ parts.now.dataset.now ∷ parts.now.row.now
+        ∷ parts.now.column.now ∷ parts.now.value.now ∷ []) None ≡ Ok m) }
+    ensures valid { IfOk result IsMessage }
+    ensures err { IfErr result (IsFaultIn (of_parts (parts.now.stamp.now ∷ parts.now.dataset.now ∷ parts.now.row.now
+        ∷ parts.now.column.now ∷ parts.now.value.now ∷ []) None)) }
+{
+    let stamp = match stamp_in(alloc, parts.stamp)? {
+        Ok(stamp) => stamp,
+        Err(fault) => return Err(LineFault::Stamp(fault)),
+    };
+    let field = match field_in(alloc, parts)? {
+        Ok(field) => field,
+        Err(fault) => return Err(LineFault::Name(fault)),
+    };
+    let value = value_in(alloc, parts.value)?;
+    Ok(Message {
+        stamp,
+        field,
+        value,
+    })
+}
+
+/// The message of a line. The line stands without its end: a LF in it is read as any other byte.
+#[tactic(auto, using(crate::proofs::LineLemmas::reading_of_others))]
+pub fn read_line(alloc: Global, line: &Txt) -> Result<Message, LineFault>
+    ensures ok { IfOk result (λ m. reading line.now ≡ Ok m) }
+    ensures valid { IfOk result IsMessage }
+    ensures err { IfErr result (IsFaultIn (reading line.now)) }
+{
+    let Some(parts) = five_parts(line.as_str()) else {
+        return Err(LineFault::Columns {
+            found: count_parts(line.bytes()),
+        });
+    };
+    if let Some(at) = bad_escape(line.bytes()) {
+        return Err(LineFault::Escape { at });
+    }
+    message_in(alloc, &parts)
+}
+
+/// Bytes that are UTF-8, as a text.
+fn text_of(bytes: &[u8]) -> &str
+    requires { IsUtf8 bytes.now }
+    ensures { result.now ≡ bytes.now }
+{
+    str::from_utf8(bytes).unwrap()
+}
+
+/// Puts the text of a timestamp at the end of a line. No byte of it needs an escape.
+#[tactic(auto, using(crate::proofs::StampLemmas::stamp_text_escaped, crate::proofs::StampLemmas::stamp_text_utf8))]
+fn push_stamp(line: &mut String, stamp: &Stamp) -> Result<(), NoMemory>
+    requires { IsStamp stamp.now }
+    ensures { OnOk result (string_bytes line.new ≡ string_bytes line.old ++ escaped (stamp_text stamp.now)) }
+{
+    let mut text = [0u8; 46];
+    stamp.write_text(&mut text);
+    line.push_str(text_of(&text))?;
+    Ok(())
+}
+
+/// Puts a TAB and an escaped text at the end of a line.
+fn push_part(line: &mut String, text: &str) -> Result<(), NoMemory>
+    ensures { OnOk result (string_bytes line.new ≡ string_bytes line.old ++ 9 ∷ escaped text.now) }
+{
+    line.push('\t')?;
+    push_escaped(line, text)
+}
+
+/// Puts a message's line at the end of a text. After NoMemory the text may have got a part of it.
+#[tactic(auto, using(crate::proofs::LineLemmas::line_pushed))]
+pub fn push_line(alloc: Global, line: &mut String, message: &Message) -> Result<(), NoMemory>
+    requires { IsMessage message.now }
+    ensures { OnOk result (string_bytes line.new ≡ string_bytes line.old ++ message_line message.now) }
+{
+    push_stamp(line, &message.stamp)?;
+    push_part(line, message.field.dataset().as_str())?;
+    push_part(line, message.field.row().as_str())?;
+    push_part(line, message.field.column().as_str())?;
+    push_part(line, message.value.text(alloc)?.as_str())
+}
+
+/// The line of a message, without its end. It has no LF, and reads as the message again.
+#[tactic(auto, using(crate::proofs::LineLemmas::reading_of_line))]
+pub fn write_line(alloc: Global, message: &Message) -> Result<Txt, NoMemory>
+    requires { IsMessage message.now }
+    ensures line { IfOk result (λ t. t ≡ message_line message.now) }
+    ensures reads_back { IfOk result (λ t. reading t ≡ Ok message.now) }
+{
+    let mut line = String::new(alloc);
+    push_line(alloc, &mut line, message)?;
+    Ok(Txt::new(line))
+}

@@ -1,0 +1,191 @@
+//! The message log.
+ghost use Rattle.std.specs.Prelude.{◌≡◌, ◌+◌, ◌↔◌, IfOk, IsTrue, OnOk, OnErr, false, true, [], ◌∷◌, ◌++◌, length, option_map, string_bytes};
+ghost use Rattle.std.specs.BTreeSet.{IsOrdered};
+ghost use Rattle.field_values.specs.Names.{names_cmp};
+ghost use Rattle.std.specs.Option.{option_copied, is_none};
+ghost use Rattle.std.specs.BTreeMap.{values};
+ghost use Rattle.field_merge.specs.Messages.{AreMessages, IsMessage};
+ghost use Rattle.field_merge.specs.Log.{IsRising, at_stamp, ended_line, field_text, join, last_stamp, latest};
+ghost use Rattle.field_merge.specs.Joining.{AreChanged};
+
+use crate::index::{Index, Messages, enter, take_in};
+use crate::line::push_line;
+use crate::message::Message;
+use field_values::{Field, Items, NoMemory, Txt, Value};
+use hybrid_clock::Stamp;
+use std::alloc::Global;
+use std::collections::{BTreeMap, BTreeSet};
+use std::marker::Model;
+
+/// All messages that a device knows, by timestamp, with the latest message of
+/// each field at hand.
+///
+/// Of the messages with one timestamp the log keeps the first. The latest
+/// message of a field, the one with the greatest timestamp, gives the field's
+/// value, in whatever order messages come. A call that answers `NoMemory`
+/// and may have changed the log leaves it spent; then nothing but `is_spent`
+/// may be asked of it.
+#[derive(Drop)]
+pub struct Log {
+    alloc: Global,
+    messages: Messages,
+    index: Index,
+    spent: bool,
+}
+
+impl Model for Log {
+    ghost use Rattle.std.specs.BTreeMap.{values};
+    ghost use Rattle.field_merge.specs.Log.{LogState};
+    ghost use Rattle.field_merge.specs.Kept.{IsKept};
+
+    ghost Value = { LogState };
+
+    ghost view = { λ l. record { messages = values l.messages; spent = l.spent } };
+
+    ghost invariant = { λ l. IsKept l.messages.entries l.index.entries l.spent };
+}
+
+/// What a join tells.
+#[derive(Debug, Drop)]
+pub struct Joined {
+    /// How many messages had a timestamp that the log did not have.
+    pub added: usize,
+    /// Each field whose latest message is now another one, once.
+    pub changed: Items<Field>,
+}
+
+/// Writes the line of a message and a line feed after a text.
+fn push_ended(alloc: Global, text: &mut String, message: &Message) -> Result<(), NoMemory>
+    requires { IsMessage message.now }
+    ensures { OnOk result (string_bytes text.new ≡ string_bytes text.old ++ ended_line message.now) }
+{
+    push_line(alloc, text, message)?;
+    text.push_str("\n")?;
+    Ok(())
+}
+
+/// The marked fields as a list.
+fn fields_of(alloc: Global, marked: BTreeSet<Field>) -> Result<Items<Field>, NoMemory>
+    ensures all { IfOk result (λ fields. fields ≡ marked.keys) }
+    ensures ordered { IsOrdered names_cmp marked }
+{
+    let fields: Vec<Field> = marked.into_iter().collect(alloc)?;
+    Ok(Items::new(fields))
+}
+
+impl Log {
+    /// A log without messages.
+    pub fn new(alloc: Global) -> Result<Log, NoMemory>
+        ensures { IfOk result (λ l. l ≡ record { messages = []; spent = false }) }
+    {
+        Ok(Log {
+            alloc,
+            messages: BTreeMap::new(alloc),
+            index: BTreeMap::new(alloc),
+            spent: false,
+        })
+    }
+
+    /// Whether a want of memory has spoilt the log.
+    pub fn is_spent(&self) -> bool
+        ensures { result ≡ self.now.spent }
+    {
+        self.spent
+    }
+
+    /// Joins copies of the messages of a batch, one after the other.
+    pub fn join(&mut self, batch: &[Message]) -> Result<Joined, NoMemory>
+        requires live { self.old.spent ≡ false }
+        requires valid { AreMessages batch.now }
+        ensures joined { OnOk result (self.new.messages ≡ join self.old.messages batch.now) }
+        ensures added { IfOk result (λ j. length self.old.messages + j.added ≡ length self.new.messages) }
+        ensures changed { IfOk result (λ j. AreChanged self.old.messages self.new.messages j.changed) }
+        ensures kept { OnOk result (self.new.spent ≡ false) }
+        ensures spent { OnErr result (self.new.spent ≡ true) }
+    {
+        self.spent = true;
+        let mut added = 0;
+        let mut changed = BTreeSet::new(self.alloc);
+        for message in batch {
+            if take_in(&mut self.messages, &mut self.index, &mut changed, message)? {
+                added += 1;
+            }
+        }
+        let changed = fields_of(self.alloc, changed)?;
+        self.spent = false;
+        Ok(Joined { added, changed })
+    }
+
+    /// Joins one message, which moves into the log, and says whether its
+    /// timestamp was new.
+    pub fn add(&mut self, message: Message) -> Result<bool, NoMemory>
+        requires live { self.old.spent ≡ false }
+        requires valid { IsMessage message }
+        ensures joined { OnOk result (self.new.messages ≡ join self.old.messages (message ∷ [])) }
+        ensures fresh { IfOk result (λ fresh. fresh ≡ is_none (at_stamp self.old.messages message.stamp)) }
+        ensures kept { OnOk result (self.new.spent ≡ false) }
+        ensures spent { OnErr result (self.new.spent ≡ true) }
+    {
+        if self.messages.contains_key(&message.stamp) {
+            return Ok(false);
+        }
+        self.spent = true;
+        enter(&mut self.messages, &mut self.index, message)?;
+        self.spent = false;
+        Ok(true)
+    }
+
+    /// The latest message of a field.
+    pub fn winner(&self, field: &Field) -> Option<&Message>
+        requires { self.now.spent ≡ false }
+        ensures { option_copied result ≡ latest self.now.messages field.now }
+    {
+        let stamp = self.index.get(field)?;
+        self.messages.get(stamp)
+    }
+
+    /// The value of a field: that of its latest message.
+    pub fn value(&self, field: &Field) -> Option<&Value>
+        requires { self.now.spent ≡ false }
+        ensures { option_copied result ≡ option_map (λ m. m.value) (latest self.now.messages field.now) }
+    {
+        let message = self.winner(field)?;
+        Some(&message.value)
+    }
+
+    /// How many messages the log has.
+    pub fn len(&self) -> usize
+        requires { self.now.spent ≡ false }
+        ensures count { result ≡ length self.now.messages }
+        ensures rising { IsRising self.now.messages }
+        ensures valid { AreMessages self.now.messages }
+    {
+        self.messages.len()
+    }
+
+    /// The greatest timestamp, that of the last message.
+    pub fn last(&self) -> Option<Stamp>
+        requires { self.now.spent ≡ false }
+        ensures { result ≡ last_stamp self.now.messages }
+    {
+        match self.messages.last_key_value() {
+            Some((stamp, _)) => Some(*stamp),
+            None => None,
+        }
+    }
+
+    /// The lines of the latest message of each field, by dataset, row and
+    /// column, each with a line feed.
+    pub fn field_lines(&self) -> Result<Txt, NoMemory>
+        requires { self.now.spent ≡ false }
+        ensures { IfOk result (λ t. t ≡ field_text self.now.messages) }
+    {
+        let mut text = String::new(self.alloc);
+        for stamp in self.index.values() {
+            if let Some(message) = self.messages.get(stamp) {
+                push_ended(self.alloc, &mut text, message)?;
+            }
+        }
+        Ok(Txt::new(text))
+    }
+}

@@ -1,0 +1,31 @@
+//! Field messages.
+ghost use Rattle.std.specs.Prelude.{◌≡◌, IfOk};
+
+use field_values::{Field, NoMemory, Value};
+use hybrid_clock::Stamp;
+use std::alloc::Global;
+
+/// A write of a field: what is written, where, and when. Every message is told to every device of
+/// the household, and no message is changed afterwards.
+#[derive(Debug, Drop)]
+pub struct Message {
+    /// When it was written, and by which node. No two writes have the same timestamp.
+    pub stamp: Stamp,
+    /// The field that it writes.
+    pub field: Field,
+    /// What it writes.
+    pub value: Value,
+}
+
+impl Message {
+    /// A copy in memory of its own.
+    pub fn copy(&self) -> Result<Message, NoMemory>
+        ensures { IfOk result (λ m. m ≡ self.now) }
+    {
+        Ok(Message {
+            stamp: self.stamp,
+            field: self.field.copy()?,
+            value: self.value.copy()?,
+        })
+    }
+}

@@ -1,0 +1,52 @@
+use super::*;
+use field_values::{Field, NameFault, NamePart, Txt, Value};
+use hybrid_clock::StampFault;
+use std::test::Fail;
+
+#[test]
+fn lines(rt: HostRuntime) -> Result<(), Fail> {
+    let alloc = rt.alloc();
+    // lines that are written again as they were read
+    for text in [
+        "2024-01-05T10:00:00.000Z-0000-00000000000000aa\tnotes\tr\tnote\tS:",
+        "2024-01-05T10:00:00.000Z-0000-00000000000000aa\ta\\\\b\tr\tc\tS:\\0\\t\\n\\\\x",
+        "2024-01-05T10:00:00.000Z-0000-00000000000000aa\ta\tr\tc\tN:007",
+        "2024-01-05T10:00:00.000Z-0000-00000000000000aa\ta\tr\tc\tN:-7",
+    ] {
+        let message = read_line(alloc, &Txt::from_text(alloc, text)?)?;
+        assert_eq!(rt; write_line(alloc, &message)?.as_str(), text);
+    }
+    let line = "2024-01-05T10:00:00.000Z-0000-00000000000000aa\ta\\\\b\tr\tc\tS:\\0\\t\\n\\\\\0\n";
+    let message = read_line(alloc, &Txt::from_text(alloc, line)?)?;
+    let names = [Txt::from_text(alloc, "a\\b")?, Txt::from_text(alloc, "r")?, Txt::from_text(alloc, "c")?];
+    let [dataset, row, column] = names;
+    assert_eq!(rt; message.field, Field::of(alloc, dataset, row, column)?);
+    assert_eq!(rt; message.value, Value::Text(Txt::from_text(alloc, "\0\t\n\\\0\n")?));
+    // lines that are refused
+    for (text, fault) in [
+        ("", LineFault::Columns { found: 1 }),
+        ("a\tb\tc\t\\", LineFault::Columns { found: 4 }),
+        ("a\tb\tc\td\te\t", LineFault::Columns { found: 6 }),
+        ("x\t\tb\\\\c\td\ty\\x", LineFault::Escape { at: 11 }),
+        ("x\\\tb\tc\td\t\\x", LineFault::Escape { at: 1 }),
+        ("x\tb\tc\td\te\\\\\\", LineFault::Escape { at: 11 }),
+        ("x\t\tc\td\te", LineFault::Stamp(StampFault::Length { len: 1 })),
+        (
+            "2024-01-05T10:00:00.000Z-0000-00000000000000aa\ta\t\t\tS:",
+            LineFault::Name(NameFault::Empty {
+                part: NamePart::Row,
+            }),
+        ),
+        (
+            "2024-01-05T10:00:00.000Z-0000-00000000000000aa\ta\\t\t\t\tS:",
+            LineFault::Name(NameFault::BadByte {
+                part: NamePart::Dataset,
+                at: 1,
+            }),
+        ),
+    ] {
+        let read = read_line(alloc, &Txt::from_text(alloc, text)?);
+        assert_eq!(rt; read.err(), Some(fault), "{text:?}");
+    }
+    Ok(())
+}
