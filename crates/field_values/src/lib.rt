@@ -17,7 +17,7 @@ pub mod value;
 pub use field::Field;
 pub use items::{Copied, Items};
 pub use memory::NoMemory;
-pub use name::{NameFault, NamePart};
+pub use name::{NameFault, NamePart, check_name};
 pub use steps::Steps;
 pub use text::{Txt, TxtFault};
 pub use value::Value;

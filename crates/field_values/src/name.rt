@@ -44,7 +44,7 @@ fn bad_byte(name: &[u8]) -> Option<usize>
 }
 
 /// Whether the bytes may be the name of this part, or what is first wrong with them.
-pub(crate) fn check_name(part: NamePart, name: &[u8]) -> Result<(), NameFault>
+pub fn check_name(part: NamePart, name: &[u8]) -> Result<(), NameFault>
     ensures good { OnOk result (name_fault part name.now ≡ None) }
     ensures bad { IfErr result (λ fault. name_fault part name.now ≡ Some fault) }
 {
