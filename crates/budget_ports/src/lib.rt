@@ -1,14 +1,24 @@
-//! The outside as the program sees it: where bytes come from and where they go, each with a count
-//! of its failures, and such objects in memory for tests.
+//! The outside as the program sees it: where bytes come from and where they go, where readings of
+//! the time come from, and where records and texts are kept, each with a count of its failures; and
+//! such objects in memory for tests.
 #![tactic(auto)]
 
 mod calls;
+mod clock;
+mod keeper;
+#[cfg(test)]
+mod keeper_tests;
+mod memory_keeper;
 mod memory_sink;
 mod memory_source;
+mod records;
 mod stream;
 #[cfg(test)]
 mod tests;
 
+pub use clock::{ListClock, WallClock};
+pub use keeper::{Keeper, Kept, PortFault};
+pub use memory_keeper::MemoryKeeper;
 pub use memory_sink::MemorySink;
 pub use memory_source::MemorySource;
 pub use stream::{Failed, Sink, Source};

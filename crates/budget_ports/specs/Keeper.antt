@@ -1,0 +1,35 @@
+-- What the calls of a keeper do.
+use Rattle.std.specs.Prelude.{◌≡◌, ◌⊎◌, ℕ, ◌<◌, ◌≤◌, List, [], ◌∷◌, length, Result, IsErrOf}
+use Rattle.std.specs.List.{AllByRecursion}
+use Rattle.std.specs.declared.cmp.Ordering.TheVariants.{Less}
+use Rattle.budget_ports.specs.Faults.{Rose}
+use Rattle.budget_ports.specs.declared.keeper.PortFault.{PortFault}
+use Rattle.budget_ports.specs.declared.keeper.PortFault.TheVariants.{Failed}
+use Rattle.budget_ports.specs.declared.keeper.Kept.{Kept}
+use Rattle.budget_ports.specs.Contents.{Contents, text_cmp}
+
+-- the count did not fall, and `Failed` comes only where it rose
+pub record FailsFrom {T : Type 0} (before now : ℕ) (result : Result T PortFault) : Type 0 where
+  pub later : before ≤ now
+  pub failed : IsErrOf result Failed → Rose before now
+
+-- each key has at least one byte
+abbrev pub HaveKeys : List Kept → Type 0
+HaveKeys = AllByRecursion (λ r. 0 < length r.key)
+
+-- each key has at least one byte and is below each later one
+abbrev pub Rise : List Kept → Type 0
+Rise [] = Unit {0}
+Rise (r ∷ rs) = (0 < length r.key) × AllByRecursion (λ s. text_cmp r.key s.key ≡ Less) rs × Rise rs
+
+-- a stop leaves what it could leave before, or the new contents
+abbrev pub Commits : (Contents → Type 0) → (Contents → Type 0) → Contents → Type 0
+Commits old new done = (k : Contents) → new k → old k ⊎ (k ≡ done)
+
+-- a stop leaves nothing that it could not leave before
+abbrev pub LeavesNoMore : (Contents → Type 0) → (Contents → Type 0) → Type 0
+LeavesNoMore old new = (k : Contents) → new k → old k
+
+-- a stop leaves this alone
+abbrev pub Only : Contents → (Contents → Type 0) → Type 0
+Only now left = (k : Contents) → left k → k ≡ now
