@@ -3,7 +3,7 @@ pub mod Days
 pub mod Pieces
 pub mod Nodes
 pub mod Digits
-pub mod Tests
+pub mod Passing
 pub mod Texts
 pub mod Writing
 pub mod TextOrder

@@ -14,7 +14,7 @@ use Rattle.hybrid_clock.specs.Reading.{form, is_allowed, misfit, digit_at, two_a
 use Rattle.hybrid_clock.proofs.Form.{Fits, fits, allowed_at}
 use Rattle.hybrid_clock.proofs.Digits.{IsDigit, digit_from, two_digits, three_digits, four_digits, IsHex, hex_from, hex_digits, IsSplit, split}
 use Rattle.hybrid_clock.proofs.Days.{days_from_1970, same_day}
-use Rattle.hybrid_clock.proofs.Tests.{Passes, passed}
+use Rattle.hybrid_clock.proofs.Passing.{Passes, passed}
 
 -- what a place of the text has
 digit_in : (t : List ℕ) (i : ℕ) → Passes t → get_or form i 0 ≡ 48 → IsDigit (get_or t i 0)

@@ -13,7 +13,7 @@ use Rattle.hybrid_clock.specs.Reading.{form, is_allowed, misfit, two_at, three_a
 use Rattle.hybrid_clock.proofs.Form.{Fits, no_misfit}
 use Rattle.hybrid_clock.proofs.Digits.{digit_is, two_value, three_value, four_value, hex_is, hex_counter, joined}
 use Rattle.hybrid_clock.proofs.Days.{IsAt, IsBy, day_is, number, is_date-true}
-use Rattle.hybrid_clock.proofs.Tests.{Passes, reads}
+use Rattle.hybrid_clock.proofs.Passing.{Passes, reads}
 
 -- a head whose parts have their digits
 record AreParts (y m d n c : ℕ) : Type 0 where

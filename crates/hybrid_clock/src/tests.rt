@@ -44,9 +44,8 @@ fn reads_texts(rt: HostRuntime) -> Result<(), Fail> {
         ),
     ];
     for (text, expected) in cases {
-        let read = Stamp::parse(text);
-        assert_eq!(rt; read.map(|s| s.millis), expected);
-        if let Ok(stamp) = read {
+        assert_eq!(rt; Stamp::parse(text).map(|s| s.millis), expected);
+        if let Ok(stamp) = Stamp::parse(text) {
             let mut written = [0u8; 46];
             stamp.write_text(&mut written);
             assert_eq!(rt; &written[..], text);
@@ -71,12 +70,23 @@ fn reads_texts(rt: HostRuntime) -> Result<(), Fail> {
 #[test]
 fn moves_clocks(rt: HostRuntime) -> Result<(), Fail> {
     let node = Node::make(b"aa")?;
-    let cases: [(u64, u16, u64, u32, Result<u16, ClockFault>, (u64, u16)); 10] = [
-        (1000, 4, 1000, 1, Ok(5), (1000, 5)),
-        (301_000, 0, 1000, 1, Ok(1), (301_000, 1)),
+    let cases: [(&[u8], u64, u32, Result<u16, ClockFault>, (u64, u16)); 10] = [
         (
-            301_001,
-            7,
+            b"1970-01-01T00:00:01.000Z-0004-00000000000000bb",
+            1000,
+            1,
+            Ok(5),
+            (1000, 5),
+        ),
+        (
+            b"1970-01-01T00:05:01.000Z-0000-00000000000000bb",
+            1000,
+            1,
+            Ok(1),
+            (301_000, 1),
+        ),
+        (
+            b"1970-01-01T00:05:01.001Z-0007-00000000000000bb",
             1000,
             1,
             Err(ClockFault::Drift {
@@ -86,27 +96,42 @@ fn moves_clocks(rt: HostRuntime) -> Result<(), Fail> {
             (301_001, 7),
         ),
         (
-            1000,
-            65_535,
+            b"1970-01-01T00:00:01.000Z-FFFF-00000000000000bb",
             1000,
             1,
             Err(ClockFault::Overflow { counter: 65_536 }),
             (1000, 65_535),
         ),
-        (1000, 65_535, 1001, 1, Ok(0), (1001, 0)),
-        (1000, 65_533, 1000, 2, Ok(65_534), (1000, 65_535)),
         (
+            b"1970-01-01T00:00:01.000Z-FFFF-00000000000000bb",
+            1001,
+            1,
+            Ok(0),
+            (1001, 0),
+        ),
+        (
+            b"1970-01-01T00:00:01.000Z-FFFD-00000000000000bb",
             1000,
-            65_533,
+            2,
+            Ok(65_534),
+            (1000, 65_535),
+        ),
+        (
+            b"1970-01-01T00:00:01.000Z-FFFD-00000000000000bb",
             1000,
             3,
             Err(ClockFault::Overflow { counter: 65_536 }),
             (1000, 65_533),
         ),
-        (0, 0, 5, 65_536, Ok(0), (5, 65_535)),
         (
-            0,
-            0,
+            b"1970-01-01T00:00:00.000Z-0000-00000000000000bb",
+            5,
+            65_536,
+            Ok(0),
+            (5, 65_535),
+        ),
+        (
+            b"1970-01-01T00:00:00.000Z-0000-00000000000000bb",
             2_582_803_260_000,
             1,
             Err(ClockFault::Beyond {
@@ -114,17 +139,17 @@ fn moves_clocks(rt: HostRuntime) -> Result<(), Fail> {
             }),
             (0, 0),
         ),
-        (0, 0, 2_582_803_259_999, 1, Ok(0), (2_582_803_259_999, 0)),
+        (
+            b"1970-01-01T00:00:00.000Z-0000-00000000000000bb",
+            2_582_803_259_999,
+            1,
+            Ok(0),
+            (2_582_803_259_999, 0),
+        ),
     ];
-    for (millis, counter, reading, n, expected, after) in cases {
-        let mut clock = HybridClock::new(
-            node,
-            Some(Stamp {
-                millis,
-                counter,
-                node,
-            }),
-        );
+    for (last, reading, n, expected, after) in cases {
+        assert!(rt; 1 <= n && n <= 65_536);
+        let mut clock = HybridClock::new(node, Some(Stamp::parse(last)?));
         assert_eq!(rt; clock.draw(reading, n).map(|s| s.counter), expected);
         assert_eq!(rt; (clock.last().millis, clock.last().counter), after);
     }

@@ -3,7 +3,7 @@ use Rattle.hybrid_clock.specs.declared.stamp.Stamp.{Stamp}
 use Rattle.hybrid_clock.specs.declared.stamp.StampFault.{StampFault}
 use Rattle.hybrid_clock.specs.Reading.{read_stamp, is_moment, millis_in}
 use Rattle.hybrid_clock.specs.Node.{is_zeros}
-use Rattle.hybrid_clock.proofs.Tests.{read_parts, stamp_of}
+use Rattle.hybrid_clock.proofs.Passing.{read_parts, stamp_of}
 use Rattle.hybrid_clock.proofs.Texts.{read_valid, read_text}
 use Rattle.hybrid_clock.proofs.stamp.Stamp.parse.Goals as goal
 use Rattle.hybrid_clock.proofs.stamp.Stamp.parse.Goals.{After-of}
