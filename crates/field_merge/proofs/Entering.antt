@@ -53,8 +53,8 @@ own_field (m ∷ ms) n s h =
           latest-cons n (m ∷ ms) n.field
           ∙ ap (λ r. option_or (latest (m ∷ ms) n.field) (cond (is_eq r) (Some n) None)) (tied_itself names_total n.field)
           ∙ last_of_its_field (latest (m ∷ ms) n.field) n (λ l e.
-              let less : stamp_cmp n.stamp l.stamp ≡ Less = all_of (λ (l : Message). stamp_cmp n.stamp l.stamp ≡ Less) (m ∷ ms) above l (latest_there (m ∷ ms) n.field l e).0 in
-              ap is_lt (stamps_total.antisymm l.stamp n.stamp ∙ ap ordering_reverse less))
+          let less : stamp_cmp n.stamp l.stamp ≡ Less = all_of (λ (l : Message). stamp_cmp n.stamp l.stamp ≡ Less) (m ∷ ms) above l (latest_there (m ∷ ms) n.field l e).0 in
+          ap is_lt (stamps_total.antisymm l.stamp n.stamp ∙ ap ordering_reverse less))
       | Equal ↦ λ p e. cc
       | Greater ↦ λ p _.
           let less : is_lt (stamp_cmp m.stamp n.stamp) ≡ true = ap is_lt (stamps_total.antisymm m.stamp n.stamp ∙ ap ordering_reverse p) in
@@ -79,6 +79,6 @@ latest-placed ms n s h f =
       | true ↦ λ t.
           let its_own : n.field ≡ f = sym (names_exact f n.field (equal _ t)) in
           subst (λ (g : FieldNames). latest (placed by_stamp ms n) g ≡ cond (wins ms n && true) (Some n) (latest ms g)) its_own
-            (own_field ms n s h ∙ ap (λ b. cond b (Some n) (latest ms n.field)) (sym (and_true (wins ms n))))
+          (own_field ms n s h ∙ ap (λ b. cond b (Some n) (latest ms n.field)) (sym (and_true (wins ms n))))
       | false ↦ λ t. other_field ms n f t ∙ ap (λ b. cond b (Some n) (latest ms f)) (sym (and_false (wins ms n)))
     ] refl

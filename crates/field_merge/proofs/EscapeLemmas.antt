@@ -138,8 +138,8 @@ bad_escape-on text at l h e =
 pub bad_escape-over : (text : List ℕ) (at : ℕ) → at + 1 < length text → get_or text at 0 ≡ 92 → is_letter (get_or text (at + 1) 0) ≡ true → bad_escape text ≡ later at (bad_escape (drop at text)) → bad_escape text ≡ later (at + 2) (bad_escape (drop (at + 2) text))
 bad_escape-over text at l is letter e =
     let two : drop at text ≡ 92 ∷ get_or text (at + 1) 0 ∷ drop (at + 2) text =
-        drop_more text at 0 (omega arith) ∙ ap (λ b. b ∷ drop (at + 1) text) is
-        ∙ ap (λ t. 92 ∷ t) (drop_more text (at + 1) 0 l ∙ ap (λ n. get_or text (at + 1) 0 ∷ drop n text) (omega arith)) in
+    drop_more text at 0 (omega arith) ∙ ap (λ b. b ∷ drop (at + 1) text) is
+    ∙ ap (λ t. 92 ∷ t) (drop_more text (at + 1) 0 l ∙ ap (λ n. get_or text (at + 1) 0 ∷ drop n text) (omega arith)) in
     e ∙ ap (λ t. later at (bad_escape t)) two
     ∙ ap (later at) (bad_escape-pair (get_or text (at + 1) 0) (drop (at + 2) text) letter)
     ∙ later-later at 2 (bad_escape (drop (at + 2) text))

@@ -133,7 +133,7 @@ pub noted_there : (index new_index : List (FieldNames × Stamp)) (n : Message) (
 noted_there index new_index n old w there later now = record {
   is_later = later ∙ ap (λ o. is_newer o n.stamp) there;
   now = λ f. now f ∙ keep (is_at (names_cmp n.field) f) w n.stamp old (lookup (is_at (names_cmp f)) index)
-    (λ t. subst (λ (g : FieldNames). lookup (is_at (names_cmp g)) index ≡ Some old) (names_exact n.field f (equal _ t)) (sym there));
+      (λ t. subst (λ (g : FieldNames). lookup (is_at (names_cmp g)) index ≡ Some old) (names_exact n.field f (equal _ t)) (sym there));
 }
 
 pub noted_first : (index new_index : List (FieldNames × Stamp)) (n : Message) → None ≡ lookup (is_at (names_cmp n.field)) index → ((f : FieldNames) → lookup (is_at (names_cmp f)) new_index ≡ cond (is_at (names_cmp n.field) f) (Some n.stamp) (lookup (is_at (names_cmp f)) index)) → Notes index new_index n true
@@ -159,7 +159,7 @@ by_index es index f s stand right there =
 pub entered_right : (n : Message) (es fs : List (Stamp × Message)) (index new_index : List (FieldNames × Stamp)) (w : Bool) → AreEntries es → lookup (is_at (stamp_cmp n.stamp)) es ≡ None → fs ≡ insert_entry stamp_cmp es n.stamp n → IsIndex (values_of es) index → Notes index new_index n w → IsIndex (values_of fs) new_index
 entered_right n es fs index new_index w stand new is right note =
     subst (λ (ms : List Message). IsIndex ms new_index) (sym (ap values_of is ∙ values-insert n es stand.own new))
-      (index-placed (values_of es) n index new_index w (rising_from es stand.own stand.rising) (fresh_stamp es n stand.own new) right note)
+    (index-placed (values_of es) n index new_index w (rising_from es stand.own stand.rising) (fresh_stamp es n stand.own new) right note)
 
 pub entered_wins : (n : Message) (es fs : List (Stamp × Message)) (index new_index : List (FieldNames × Stamp)) (w : Bool) → AreEntries es → lookup (is_at (stamp_cmp n.stamp)) es ≡ None → fs ≡ insert_entry stamp_cmp es n.stamp n → IsIndex (values_of es) index → Notes index new_index n w → (f : FieldNames) → latest (values_of fs) f ≡ cond (w && has_field f n) (Some n) (latest (values_of es) f)
 entered_wins n es fs index new_index w stand new is right note f =
@@ -176,10 +176,10 @@ not_latest_before : (before ms : List Message) (n : Message) (f : FieldNames) �
 not_latest_before before ms n f grown new is =
     let there : Contains before n = (latest_there before f n is).0 in
     let kept : is_some (at_stamp before n.stamp) ≡ true =
-        elim (at_stamp before n.stamp) as (λ o. at_stamp before n.stamp ≡ o → is_some o ≡ true) [
-          | None ↦ λ e. absurd (some_passes (has_stamp n.stamp) before n there (ap is_eq (tied_itself stamps_total n.stamp)) e)
-          | Some m ↦ λ e. refl
-        ] refl in
+    elim (at_stamp before n.stamp) as (λ o. at_stamp before n.stamp ≡ o → is_some o ≡ true) [
+      | None ↦ λ e. absurd (some_passes (has_stamp n.stamp) before n there (ap is_eq (tied_itself stamps_total n.stamp)) e)
+      | Some m ↦ λ e. refl
+    ] refl in
     let now : is_some (at_stamp ms n.stamp) ≡ true = grown n.stamp kept in
     let lacks : is_some (at_stamp ms n.stamp) ≡ false = ap is_some new in
     cc
@@ -191,11 +191,11 @@ marked_by false m o p n differs h = h
 pub marks-placed : (before ms new : List Message) (marked new_marked : BTreeSet FieldNames) (n : Message) (w : Bool) → at_stamp ms n.stamp ≡ None → new ≡ placed by_stamp ms n → ((f : FieldNames) → latest new f ≡ cond (w && has_field f n) (Some n) (latest ms f)) → ((f : FieldNames) → contains names_cmp new_marked f ≡ ((w && has_field f n) || contains names_cmp marked f)) → MarksChanged before ms marked → MarksChanged before new new_marked
 marks-placed before ms new marked new_marked n w fresh is now marks h = record {
   grown = λ s there. ap (λ (ms : List Message). is_some (at_stamp ms s)) is
-    ∙ ap is_some (find-placed stamp_of stamp_cmp stamps_total ms n fresh s)
-    ∙ some_or (has_stamp s n) n (at_stamp ms s) (h.grown s there);
+      ∙ ap is_some (find-placed stamp_of stamp_cmp stamps_total ms n fresh s)
+      ∙ some_or (has_stamp s n) n (at_stamp ms s) (h.grown s there);
   exactly = λ f.
-    let both = marked_by (w && has_field f n) (contains names_cmp marked f) (latest before f) (latest ms f) n (not_latest_before before ms n f h.grown fresh) (h.exactly f) in
-    (λ t is. both.0 (sym (marks f) ∙ t) (is ∙ now f), λ differs. marks f ∙ both.1 (λ is. differs (is ∙ sym (now f))));
+      let both = marked_by (w && has_field f n) (contains names_cmp marked f) (latest before f) (latest ms f) n (not_latest_before before ms n f h.grown fresh) (h.exactly f) in
+      (λ t is. both.0 (sym (marks f) ∙ t) (is ∙ now f), λ differs. marks f ∙ both.1 (λ is. differs (is ∙ sym (now f))));
 }
 
 -- a field that is marked already
@@ -216,7 +216,8 @@ marks-none ms marked empty = record {
   grown = λ s there. there;
   exactly = λ f. (
     λ t. let no : contains names_cmp marked f ≡ false = ap (λ (ks : List FieldNames). list_any (is_at (names_cmp f)) ks) empty in absurd (both_ways (contains names_cmp marked f) no t),
-    λ differs. absurd (differs refl));
+    λ differs. absurd (differs refl),
+  );
 }
 
 pub flag-none : (o : Option Message) (b : Bool) → is_some o ≡ b → not b ≡ is_none o
@@ -243,7 +244,8 @@ are-changed before ms marked changed is s h =
       once = subst (λ (fs : List FieldNames). IsDistinct names_eq fs) (sym is) distinct;
       exactly = λ f. (
         λ c. (h.exactly f).0 ((has f).1 (subst (λ (fs : List FieldNames). Contains fs f) is c)),
-        λ differs. subst (λ (fs : List FieldNames). Contains fs f) (sym is) ((has f).0 ((h.exactly f).1 differs)));
+        λ differs. subst (λ (fs : List FieldNames). Contains fs f) (sym is) ((has f).0 ((h.exactly f).1 differs)),
+      );
     }
 
 pub length-join_one : (ms : List Message) (n : Message) (fresh : Bool) → fresh ≡ not (list_any (has_stamp n.stamp) ms) → length (join_one ms n) ≡ length ms + cond fresh 1 0

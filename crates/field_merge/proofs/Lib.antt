@@ -11,3 +11,4 @@ pub mod Fields
 pub mod Entering
 pub mod Kept
 pub mod Listed
+pub mod LastOnes

@@ -1,17 +1,20 @@
 -- The parts of a line.
-use Rattle.std.proofs.Common.{◌≡◌, ◌≢◌, ℕ, suc, ◌+◌, ◌<◌, Bool, true, false, eqb, List, [], ◌∷◌, ◌++◌, length, Option, None, Some, MatchOption, Bor, refl, ap, sym, ◌∙◌, arith, append_assoc, Result, Ok, Err}
-use Rattle.std.specs.Prelude.{count_by, ◌==◌}
+use Rattle.std.proofs.Common.{◌≡◌, ◌≢◌, ℕ, suc, ◌+◌, ◌<◌, Bool, true, false, eqb, List, [], ◌∷◌, ◌++◌, length, Option, None, Some, MatchOption, Bor, refl, ap, sym, subst, ◌∙◌, arith, zero, IfOk, append_assoc, Result, Ok, Err}
+use Rattle.std.specs.Prelude.{count_by, ◌==◌, All}
 use Rattle.std.specs.List.{slice_split, onto_first}
+use Rattle.std.proofs.lemmas.Bool.{eqb-false}
 use Rattle.std.proofs.lemmas.List.{append-nil}
 use Rattle.std.proofs.lemmas.List.Splits.{length-slice_split}
-use Rattle.field_values.specs.Names.{FieldNames, names_fault}
+use Rattle.field_values.specs.Names.{FieldNames, field_of, names_fault}
 use Rattle.field_values.specs.Value.{value_text, value_of}
-use Rattle.field_values.proofs.NameLemmas.{names_fault-none}
-use Rattle.field_values.proofs.Values.{value_of_text}
+use Rattle.field_values.proofs.NameLemmas.{names_fault-none, names_without_fault}
+use Rattle.field_values.proofs.Values.{value_of_text, texts_write_back_lem}
 use Rattle.hybrid_clock.specs.declared.stamp.Stamp.{Stamp}
 use Rattle.hybrid_clock.specs.declared.stamp.StampFault.{StampFault}
-use Rattle.hybrid_clock.specs.Stamp.{stamp_text}
+use Rattle.hybrid_clock.specs.Stamp.{IsStamp, stamp_text}
 use Rattle.hybrid_clock.specs.Reading.{read_stamp}
+use Rattle.field_values.specs.declared.name.NameFault.{NameFault}
+use Rattle.hybrid_clock.proofs.Texts.{read_valid}
 use Rattle.hybrid_clock.proofs.Writing.{text_reads}
 use Rattle.field_merge.specs.declared.message.Message.{Message}
 use Rattle.field_merge.specs.declared.line.LineFault.{LineFault}
@@ -103,9 +106,8 @@ reading_of_line m valid =
 pub line_pushed : (old a b c d e : List ℕ) → ((((old ++ a) ++ 9 ∷ b) ++ 9 ∷ c) ++ 9 ∷ d) ++ 9 ∷ e ≡ old ++ (a ++ (9 ∷ (b ++ (9 ∷ (c ++ (9 ∷ (d ++ (9 ∷ e))))))))
 line_pushed old a b c d e = simp append_assoc
 
--- a line has no LF
-pub message_line_on_one_line : (m : Message) → Lacks 10 (message_line m)
-message_line_on_one_line m =
+no_feed : (m : Message) → Lacks 10 (message_line m)
+no_feed m =
     let d = m.field.dataset in
     let r = m.field.row in
     let c = m.field.column in
@@ -114,3 +116,38 @@ message_line_on_one_line m =
     before-no_feed d (before r (before c (escaped v))) (
     before-no_feed r (before c (escaped v)) (
     before-no_feed c (escaped v) (escaped-no_feed v))))
+
+each_other : (c : ℕ) (xs : List ℕ) → Lacks c xs → All (λ b. b ≢ c) xs
+each_other c [] h k d l = absurd (omega arith)
+each_other c (x ∷ xs) h zero d l = eqb-false x c h.0
+each_other c (x ∷ xs) h (suc k) d l = each_other c xs h.1 k d (omega arith)
+
+-- a line has no LF
+pub message_line_on_one_line : (m : Message) → All (λ b. b ≢ 10) (message_line m)
+message_line_on_one_line m = each_other 10 (message_line m) (no_feed m)
+
+valid_names : (found : Option NameFault) (stamp : Stamp) (names : FieldNames) (value : List ℕ) (m : Message) → names_fault names ≡ found → IsStamp stamp → with_names found stamp names value ≡ Ok m → IsMessage m
+valid_names (Some fault) stamp names value m told valid e = absurd (cc)
+valid_names None stamp names value m told valid e =
+    let P : Result Message LineFault → Type 0 = λ r. IfOk r IsMessage in
+    subst P e (record { stamp = valid; field = names_without_fault names told; value = (texts_write_back_lem value).0 })
+
+valid_stamp : (read : Result Stamp StampFault) (text : List ℕ) (names : FieldNames) (value : List ℕ) (m : Message) → read_stamp text ≡ read → with_stamp read names value ≡ Ok m → IsMessage m
+valid_stamp (Err fault) text names value m told e = absurd (cc)
+valid_stamp (Ok stamp) text names value m told e =
+    valid_names (names_fault names) stamp names value m refl (read_valid text stamp told) e
+
+valid_parts : (ps : List (List ℕ)) (bad : Option ℕ) (m : Message) → of_parts ps bad ≡ Ok m → IsMessage m
+valid_parts [] bad m h = absurd (cc)
+valid_parts (a ∷ []) bad m h = absurd (cc)
+valid_parts (a ∷ b ∷ []) bad m h = absurd (cc)
+valid_parts (a ∷ b ∷ c ∷ []) bad m h = absurd (cc)
+valid_parts (a ∷ b ∷ c ∷ d ∷ []) bad m h = absurd (cc)
+valid_parts (a ∷ b ∷ c ∷ d ∷ e ∷ []) (Some at) m h = absurd (cc)
+valid_parts (a ∷ b ∷ c ∷ d ∷ e ∷ []) None m h =
+    valid_stamp (read_stamp (unescaped a)) (unescaped a) (field_of (unescaped b) (unescaped c) (unescaped d)) (unescaped e) m refl h
+valid_parts (a ∷ b ∷ c ∷ d ∷ e ∷ f ∷ ps) bad m h = absurd (cc)
+
+-- what a line reads as is a message
+pub reading_is_message : (line : List ℕ) (m : Message) → reading line ≡ Ok m → IsMessage m
+reading_is_message line m h = valid_parts (parts line) (bad_escape line) m h

@@ -54,9 +54,9 @@ named ms k =
 index_is : (ms : List Message) (index : List (FieldNames × Stamp)) → IsIndex ms index → IsStrictlySortedBy names_cmp (keys_of index) → index ≡ map entry_of (fields ms)
 index_is ms index right s =
     same field_at names_cmp names_total index (map entry_of (fields ms)) s
-      (subst (λ (fs : List FieldNames). IsStrictlySortedBy names_cmp fs) (same_names (fields ms)) (fields_in_order ms))
-      (λ k. find-lookup k index ∙ ap (option_map (λ (s : Stamp). (k, s))) (right k) ∙ named ms k
-        ∙ sym (find-map k (fields ms) ∙ ap (option_map entry_of) (find-fields ms k)))
+    (subst (λ (fs : List FieldNames). IsStrictlySortedBy names_cmp fs) (same_names (fields ms)) (fields_in_order ms))
+    (λ k. find-lookup k index ∙ ap (option_map (λ (s : Stamp). (k, s))) (right k) ∙ named ms k
+    ∙ sym (find-map k (fields ms) ∙ ap (option_map entry_of) (find-fields ms k)))
 
 led : (es : List (Stamp × Message)) (ms : List Message) → AllByRecursion (λ (m : Message). lookup (is_at (stamp_cmp m.stamp)) es ≡ Some m) ms → filter_map (λ (s : Stamp). lookup (is_at (stamp_cmp s)) es) (values_of (map entry_of ms)) ≡ ms
 led es [] h = refl
@@ -68,9 +68,9 @@ pub listed : (es : List (Stamp × Message)) (index : List (FieldNames × Stamp))
 listed es index stand right s =
     let ms = values_of es in
     let each : AllByRecursion (λ (m : Message). lookup (is_at (stamp_cmp m.stamp)) es ≡ Some m) (fields (values_of es)) =
-        all_from (λ (m : Message). lookup (is_at (stamp_cmp m.stamp)) es ≡ Some m) (fields (values_of es))
-          (λ m c.
-            let is : latest (values_of es) m.field ≡ Some m = ((lists_latest (values_of es)).exactly m).0 c in
-            lookup-own es stand.own m.stamp ∙ found_by_key stamp_of stamp_cmp stamps_total (values_of es) (rising_from es stand.own stand.rising) m (latest_there (values_of es) m.field m is).0) in
+    all_from (λ (m : Message). lookup (is_at (stamp_cmp m.stamp)) es ≡ Some m) (fields (values_of es))
+    (λ m c.
+    let is : latest (values_of es) m.field ≡ Some m = ((lists_latest (values_of es)).exactly m).0 c in
+    lookup-own es stand.own m.stamp ∙ found_by_key stamp_of stamp_cmp stamps_total (values_of es) (rising_from es stand.own stand.rising) m (latest_there (values_of es) m.field m is).0) in
     ap (λ (is : List (FieldNames × Stamp)). filter_map (λ (s : Stamp). lookup (is_at (stamp_cmp s)) es) (values_of is)) (index_is (values_of es) index right s)
     ∙ led es (fields (values_of es)) each

@@ -78,6 +78,10 @@ field_text ms = flat_map ended_line (fields ms)
 abbrev pub last_stamp : List Message → Option Stamp
 last_stamp ms = option_map (λ m. m.stamp) (slice_get ms (length ms - 1))
 
--- the messages whose timestamp's text is greater than the text, by bytes
+-- whether the text of a message's timestamp is greater than the text, by bytes
+abbrev pub is_after : List ℕ → Message → Bool
+is_after text m = is_gt (slice_cmp nat_cmp (stamp_text m.stamp) text)
+
+-- the messages whose timestamp's text is greater than the text
 abbrev pub later : List ℕ → List Message → List Message
-later text ms = filter (λ m. is_gt (slice_cmp nat_cmp (stamp_text m.stamp) text)) ms
+later text ms = filter (is_after text) ms

@@ -15,7 +15,7 @@ fn is_letter(byte: u8) -> bool
 }
 
 /// The place of the first backslash that begins no escape.
-pub(crate) fn bad_escape(text: &[u8]) -> Option<usize>
+pub fn bad_escape(text: &[u8]) -> Option<usize>
     ensures { result ≡ spec.bad_escape text.now }
 {
     let mut at = 0;
@@ -80,7 +80,7 @@ fn after_backslash(text: &str) -> (u8, &str)
 fn cut_escape(part: &str) -> Option<Cut<'_>>
     ensures { MatchOption result (unescaped part.now ≡ part.now)
         (λ cut. (unescaped part.now ≡ cut.before.now ++ (cut.byte ∷ unescaped cut.after.now))
-            × (cut.byte < 128) × (length cut.after.now < length part.now)) }
+        × (cut.byte < 128) × (length cut.after.now < length part.now)) }
 {
     let (before, rest) = cut_backslash(part)?;
     let (byte, after) = after_backslash(rest);
@@ -92,7 +92,7 @@ fn cut_escape(part: &str) -> Option<Cut<'_>>
 }
 
 /// The text that a part stands for.
-pub(crate) fn unescape(alloc: Global, part: &str) -> Result<String, NoMemory>
+pub fn unescape(alloc: Global, part: &str) -> Result<String, NoMemory>
     ensures { IfOk result (λ text. string_bytes text ≡ unescaped part.now) }
 {
     let mut text = String::with_capacity(alloc, part.len())?;
@@ -137,7 +137,7 @@ fn escape_of(byte: u8) -> &'static str
 fn cut_special(text: &str) -> Option<Cut<'_>>
     ensures { MatchOption result (escaped text.now ≡ text.now)
         (λ cut. (escaped text.now ≡ cut.before.now ++ (escaped_byte cut.byte ++ escaped cut.after.now))
-            × IsTrue (spec.is_special cut.byte) × (length cut.after.now < length text.now)) }
+        × IsTrue (spec.is_special cut.byte) × (length cut.after.now < length text.now)) }
 {
     let at = first_special(text)?;
     let byte = text.as_bytes()[at];
@@ -151,7 +151,7 @@ fn cut_special(text: &str) -> Option<Cut<'_>>
 }
 
 /// Puts a text at the end of a line, as a part writes it.
-pub(crate) fn push_escaped(line: &mut String, text: &str) -> Result<(), NoMemory>
+pub fn push_escaped(line: &mut String, text: &str) -> Result<(), NoMemory>
     ensures { OnOk result (string_bytes line.new ≡ string_bytes line.old ++ escaped text.now) }
 {
     let mut rest = text;

@@ -1,5 +1,7 @@
 //! The line of a message, read and written.
-ghost use Rattle.std.specs.Prelude.{◌≡◌, ◌≢◌, ◌==◌, ◌≤◌, ◌∷◌, ◌++◌, [], length, count_by, IfOk, IfErr, OnOk, MatchOption, MatchResult, IsUtf8, Ok, Some, None, string_bytes};
+ghost use Rattle.std.specs.Prelude.{ℕ, List, All, ◌≡◌, ◌≢◌, ◌==◌, ◌≤◌, ◌∷◌, ◌++◌, [], length, count_by, IfOk, IfErr, OnOk, MatchOption, MatchResult, IsUtf8, Ok, Some, None, string_bytes};
+ghost use Rattle.hybrid_clock.specs.declared.stamp.Stamp.{Stamp};
+ghost use Rattle.field_merge.specs.declared.message.Message.{Message};
 ghost use Rattle.field_values.specs.Names.{field_of, names_fault, AreNames};
 ghost use Rattle.field_values.specs.Value.{value_of, IsValue};
 ghost use Rattle.hybrid_clock.specs.Stamp.{stamp_text, IsStamp};
@@ -109,8 +111,8 @@ fn stamp_in(alloc: Global, part: &str) -> Result<Result<Stamp, StampFault>, NoMe
 fn field_in(alloc: Global, parts: &Parts<'_>) -> Result<Result<Field, NameFault>, NoMemory>
     ensures { let names = field_of (unescaped parts.now.dataset.now) (unescaped parts.now.row.now) (unescaped parts.now.column.now) in
         IfOk result (λ read. MatchResult read
-            (λ field. (field ≡ names) × AreNames names × (names_fault names ≡ None))
-            (λ fault. names_fault names ≡ Some fault)) }
+        (λ field. (field ≡ names) × AreNames names × (names_fault names ≡ None))
+        (λ fault. names_fault names ≡ Some fault)) }
 {
     let dataset = Txt::new(unescape(alloc, parts.dataset)?);
     let row = Txt::new(unescape(alloc, parts.row)?);
@@ -228,3 +230,18 @@ pub fn write_line(alloc: Global, message: &Message) -> Result<Txt, NoMemory>
     push_line(alloc, &mut line, message)?;
     Ok(Txt::new(line))
 }
+
+/// Laws of all lines and messages.
+pub fn message_lines()
+    // what is written is read back
+    ensures reads_back { (m : Message) → IsMessage m → reading (message_line m) ≡ Ok m }
+
+    // what is read is a message that may be written
+    ensures valid { (line : List ℕ) (m : Message) → reading line ≡ Ok m → IsMessage m }
+
+    // a line has no LF, so lines that LF ends can be told apart
+    ensures one_line { (m : Message) → All (λ b. b ≢ 10) (message_line m) }
+
+    // a line begins with the text of its timestamp, as it is
+    ensures stamp { (s : Stamp) → IsStamp s → escaped (stamp_text s) ≡ stamp_text s }
+{}

@@ -5,10 +5,11 @@ ghost use Rattle.field_values.specs.Names.{names_cmp};
 ghost use Rattle.std.specs.Option.{option_copied, is_none};
 ghost use Rattle.std.specs.BTreeMap.{values};
 ghost use Rattle.field_merge.specs.Messages.{AreMessages, IsMessage};
-ghost use Rattle.field_merge.specs.Log.{IsRising, at_stamp, ended_line, field_text, join, last_stamp, latest};
+ghost use Rattle.field_merge.specs.Log.{IsRising, at_stamp, ended_line, field_text, join, last_stamp, later, latest};
 ghost use Rattle.field_merge.specs.Joining.{AreChanged};
 
 use crate::index::{Index, Messages, enter, take_in};
+use crate::later::copies_after;
 use crate::line::push_line;
 use crate::message::Message;
 use field_values::{Field, Items, NoMemory, Txt, Value};
@@ -172,6 +173,18 @@ impl Log {
             Some((stamp, _)) => Some(*stamp),
             None => None,
         }
+    }
+
+    /// Copies of the messages whose timestamp's text is greater than a text by
+    /// bytes, from the oldest on. They cost the time that they take alone,
+    /// however many older messages the log has.
+    pub fn since(&self, text: &[u8]) -> Result<Items<Message>, NoMemory>
+        requires { self.now.spent ≡ false }
+        ensures messages { IfOk result (λ ms. ms ≡ later text.now self.now.messages) }
+        ensures valid { IfOk result AreMessages }
+    {
+        let found = copies_after(self.alloc, &self.messages, text)?;
+        Ok(Items::new(found))
     }
 
     /// The lines of the latest message of each field, by dataset, row and

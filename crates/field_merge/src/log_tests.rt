@@ -17,7 +17,7 @@ fn field(alloc: Global, row: &str) -> Result<Field, Fail> {
     let dataset = Txt::from_text(alloc, "notes")?;
     let row = Txt::from_text(alloc, row)?;
     let column = Txt::from_text(alloc, "note")?;
-    Ok(Field::make(&dataset, &row, &column)?)
+    Ok(Field::of(alloc, dataset, row, column)?)
 }
 
 fn message(alloc: Global, stamp: &str, row: &str, value: &str) -> Result<Message, Fail>
@@ -29,7 +29,7 @@ fn message(alloc: Global, stamp: &str, row: &str, value: &str) -> Result<Message
     let value = Txt::from_text(alloc, value)?;
     Ok(Message {
         stamp: Stamp::parse(stamp.as_bytes())?,
-        field: Field::make(&dataset, &row, &column)?,
+        field: Field::of(alloc, dataset, row, column)?,
         value: Value::from_text(alloc, &value)?,
     })
 }
@@ -120,6 +120,14 @@ fn answers(rt: HostRuntime) -> Result<(), Fail> {
     assert_eq!(rt; log.last(), Some(Stamp::parse(SECOND.as_bytes())?));
     assert!(rt; log.value(&row) == Some(&Value::Number(2)));
     assert!(rt; log.winner(&row).is_some());
+    for (text, count) in [
+        ("", 2),
+        (FIRST, 1),
+        (SECOND, 0),
+        ("2024-01-05T10:00:00.000Z-0000-1", 1),
+    ] {
+        assert_eq!(rt; log.since(text.as_bytes())?.len(), count, "{text}");
+    }
     assert!(rt; log.winner(&field(alloc, "s")?).is_none());
     Ok(())
 }

@@ -1,13 +1,12 @@
 //! Field messages.
 ghost use Rattle.std.specs.Prelude.{◌≡◌, IfOk};
 
-use field_values::{Field, NoMemory, Value};
+use field_values::{Copied, Field, NoMemory, Value};
 use hybrid_clock::Stamp;
-use std::alloc::Global;
 
 /// A write of a field: what is written, where, and when. Every message is told to every device of
 /// the household, and no message is changed afterwards.
-#[derive(Debug, Drop)]
+#[derive(Debug, PartialEq, Eq, Drop)]
 pub struct Message {
     /// When it was written, and by which node. No two writes have the same timestamp.
     pub stamp: Stamp,
@@ -27,5 +26,11 @@ impl Message {
             field: self.field.copy()?,
             value: self.value.copy()?,
         })
+    }
+}
+
+impl Copied for Message {
+    fn copied(&self) -> Result<Message, NoMemory> {
+        self.copy()
     }
 }

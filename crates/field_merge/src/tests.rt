@@ -18,10 +18,17 @@ fn lines(rt: HostRuntime) -> Result<(), Fail> {
     }
     let line = "2024-01-05T10:00:00.000Z-0000-00000000000000aa\ta\\\\b\tr\tc\tS:\\0\\t\\n\\\\\0\n";
     let message = read_line(alloc, &Txt::from_text(alloc, line)?)?;
-    let names = [Txt::from_text(alloc, "a\\b")?, Txt::from_text(alloc, "r")?, Txt::from_text(alloc, "c")?];
+    let names = [
+        Txt::from_text(alloc, "a\\b")?,
+        Txt::from_text(alloc, "r")?,
+        Txt::from_text(alloc, "c")?,
+    ];
     let [dataset, row, column] = names;
     assert_eq!(rt; message.field, Field::of(alloc, dataset, row, column)?);
-    assert_eq!(rt; message.value, Value::Text(Txt::from_text(alloc, "\0\t\n\\\0\n")?));
+    assert_eq!(rt;
+        message.value,
+        Value::Text(Txt::from_text(alloc, "\0\t\n\\\0\n")?)
+    );
     // lines that are refused
     for (text, fault) in [
         ("", LineFault::Columns { found: 1 }),
@@ -30,7 +37,10 @@ fn lines(rt: HostRuntime) -> Result<(), Fail> {
         ("x\t\tb\\\\c\td\ty\\x", LineFault::Escape { at: 11 }),
         ("x\\\tb\tc\td\t\\x", LineFault::Escape { at: 1 }),
         ("x\tb\tc\td\te\\\\\\", LineFault::Escape { at: 11 }),
-        ("x\t\tc\td\te", LineFault::Stamp(StampFault::Length { len: 1 })),
+        (
+            "x\t\tc\td\te",
+            LineFault::Stamp(StampFault::Length { len: 1 }),
+        ),
         (
             "2024-01-05T10:00:00.000Z-0000-00000000000000aa\ta\t\t\tS:",
             LineFault::Name(NameFault::Empty {

@@ -10,7 +10,7 @@ returns-clause-stands c =
 pub returns-clause-right : goal.returns-clause-right
 returns-clause-right c =
     entered_right c.args.message c.args.messages.now.entries c.store.new.messages.entries c.args.index.now.entries c.note.new.index.entries c.in_ok-is_latest.is_latest
-      c.requires.stands c.requires.fresh c.in_ok-store.ensures.stored c.requires.right c.in_ok-is_latest.ensures
+    c.requires.stands c.requires.fresh c.in_ok-store.ensures.stored c.requires.right c.in_ok-is_latest.ensures
 
 pub returns-clause-placed : goal.returns-clause-placed
 returns-clause-placed c = ap values_of c.in_ok-store.ensures.stored ∙ values-insert c.args.message c.args.messages.now.entries c.requires.stands.own c.requires.fresh
@@ -18,4 +18,4 @@ returns-clause-placed c = ap values_of c.in_ok-store.ensures.stored ∙ values-i
 pub returns-clause-wins : goal.returns-clause-wins
 returns-clause-wins c =
     entered_wins c.args.message c.args.messages.now.entries c.store.new.messages.entries c.args.index.now.entries c.note.new.index.entries c.in_ok-is_latest.is_latest
-      c.requires.stands c.requires.fresh c.in_ok-store.ensures.stored c.requires.right c.in_ok-is_latest.ensures
+    c.requires.stands c.requires.fresh c.in_ok-store.ensures.stored c.requires.right c.in_ok-is_latest.ensures

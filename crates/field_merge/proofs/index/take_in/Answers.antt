@@ -11,7 +11,7 @@ use Rattle.field_merge.proofs.index.take_in.Goals as goal
 pub returns-then-contains_key-clause-joined : goal.returns-then-contains_key-clause-joined
 returns-then-contains_key-clause-joined c =
     join-there (values c.args.messages.now) c.args.message.now
-      (any-own c.args.messages.now.entries c.requires.stands.own c.args.message.now.stamp ∙ sym c.contains_key.ensures ∙ c.if-contains_key.true)
+    (any-own c.args.messages.now.entries c.requires.stands.own c.args.message.now.stamp ∙ sym c.contains_key.ensures ∙ c.if-contains_key.true)
 
 pub returns-then-contains_key-clause-fresh : goal.returns-then-contains_key-clause-fresh
 returns-then-contains_key-clause-fresh c =
@@ -29,16 +29,16 @@ returns-in_ok-mark-clause-fresh c =
 pub returns-in_ok-mark-clause-marked : goal.returns-in_ok-mark-clause-marked
 returns-in_ok-mark-clause-marked c =
     λ before h.
-      let ms = values c.args.messages.now in
-      let n = c.args.message.now in
-      let copy = c.in_ok-copy.ensures in
-      let lacks = any-own c.args.messages.now.entries c.requires.stands.own c.args.message.now.stamp ∙ sym c.contains_key.ensures ∙ c.if-contains_key.false in
-      marks-placed before (values c.args.messages.now) (values c.enter.new.messages) c.args.changed.now c.mark.new.changed c.args.message.now c.in_ok-enter.field-0
-        (none_from_any (has_stamp c.args.message.now.stamp) (values c.args.messages.now) lacks)
-        (c.in_ok-enter.ensures.placed ∙ ap (placed by_stamp (values c.args.messages.now)) copy)
-        (λ f. c.in_ok-enter.ensures.wins f ∙ (λ i. cond (c.in_ok-enter.field-0 && has_field f (copy i)) (Some (copy i)) (latest (values c.args.messages.now) f)))
-        (λ f. c.in_ok-mark.ensures f ∙ (λ i. names_flip c.args.message.now.field f i || contains names_cmp c.args.changed.now f) ∙ (λ i. (sym c.if-branch.true i && has_field f c.args.message.now) || contains names_cmp c.args.changed.now f))
-        h
+    let ms = values c.args.messages.now in
+    let n = c.args.message.now in
+    let copy = c.in_ok-copy.ensures in
+    let lacks = any-own c.args.messages.now.entries c.requires.stands.own c.args.message.now.stamp ∙ sym c.contains_key.ensures ∙ c.if-contains_key.false in
+    marks-placed before (values c.args.messages.now) (values c.enter.new.messages) c.args.changed.now c.mark.new.changed c.args.message.now c.in_ok-enter.field-0
+    (none_from_any (has_stamp c.args.message.now.stamp) (values c.args.messages.now) lacks)
+    (c.in_ok-enter.ensures.placed ∙ ap (placed by_stamp (values c.args.messages.now)) copy)
+    (λ f. c.in_ok-enter.ensures.wins f ∙ (λ i. cond (c.in_ok-enter.field-0 && has_field f (copy i)) (Some (copy i)) (latest (values c.args.messages.now) f)))
+    (λ f. c.in_ok-mark.ensures f ∙ (λ i. names_flip c.args.message.now.field f i || contains names_cmp c.args.changed.now f) ∙ (λ i. (sym c.if-branch.true i && has_field f c.args.message.now) || contains names_cmp c.args.changed.now f))
+    h
 
 pub returns-else-branch-clause-joined : goal.returns-else-branch-clause-joined
 returns-else-branch-clause-joined c =
@@ -52,13 +52,13 @@ returns-else-branch-clause-fresh c =
 pub returns-else-branch-clause-marked : goal.returns-else-branch-clause-marked
 returns-else-branch-clause-marked c =
     λ before h.
-      let ms = values c.args.messages.now in
-      let n = c.args.message.now in
-      let copy = c.in_ok-copy.ensures in
-      let lacks = any-own c.args.messages.now.entries c.requires.stands.own c.args.message.now.stamp ∙ sym c.contains_key.ensures ∙ c.if-contains_key.false in
-      marks-placed before (values c.args.messages.now) (values c.enter.new.messages) c.args.changed.now c.args.changed.now c.args.message.now c.in_ok-enter.field-0
-        (none_from_any (has_stamp c.args.message.now.stamp) (values c.args.messages.now) lacks)
-        (c.in_ok-enter.ensures.placed ∙ ap (placed by_stamp (values c.args.messages.now)) copy)
-        (λ f. c.in_ok-enter.ensures.wins f ∙ (λ i. cond (c.in_ok-enter.field-0 && has_field f (copy i)) (Some (copy i)) (latest (values c.args.messages.now) f)))
-        (λ f. λ i. (sym c.if-branch.false i && has_field f c.args.message.now) || contains names_cmp c.args.changed.now f)
-        h
+    let ms = values c.args.messages.now in
+    let n = c.args.message.now in
+    let copy = c.in_ok-copy.ensures in
+    let lacks = any-own c.args.messages.now.entries c.requires.stands.own c.args.message.now.stamp ∙ sym c.contains_key.ensures ∙ c.if-contains_key.false in
+    marks-placed before (values c.args.messages.now) (values c.enter.new.messages) c.args.changed.now c.args.changed.now c.args.message.now c.in_ok-enter.field-0
+    (none_from_any (has_stamp c.args.message.now.stamp) (values c.args.messages.now) lacks)
+    (c.in_ok-enter.ensures.placed ∙ ap (placed by_stamp (values c.args.messages.now)) copy)
+    (λ f. c.in_ok-enter.ensures.wins f ∙ (λ i. cond (c.in_ok-enter.field-0 && has_field f (copy i)) (Some (copy i)) (latest (values c.args.messages.now) f)))
+    (λ f. λ i. (sym c.if-branch.false i && has_field f c.args.message.now) || contains names_cmp c.args.changed.now f)
+    h

@@ -13,5 +13,5 @@ loop-stamp-init c =
     let all = c.into_iter-stamp-iterator.ensures.into_iter_gives ∙ c.values-stamp-items.ensures.rest in
     (λ i. c.new-text.ensures.bytes i ++ flat_map ended_line (filter_map (λ (s : Stamp). lookup (is_at (stamp_cmp s)) c.self.inside.messages.entries) (all i)))
     ∙ ap (flat_map ended_line)
-        (listed c.self.inside.messages.entries c.self.inside.index.entries c.self.invariant.entries_stand
-          (c.self.invariant.index_right (ap (λ v. v.spent) c.self.view_is ∙ c.requires)) c.values-stamp-items.ensures.ordered)
+    (listed c.self.inside.messages.entries c.self.inside.index.entries c.self.invariant.entries_stand
+    (c.self.invariant.index_right (ap (λ v. v.spent) c.self.view_is ∙ c.requires)) c.values-stamp-items.ensures.ordered)

@@ -12,15 +12,15 @@ loop-message-preserved c =
     let old = values c.loop-message.self-inside.messages in
     let more = take_more c.args.batch.now c.loop-message.message-index c.message-item.result (omega arith) in
     let longer : length (values c.take_in.new.messages) ≡ length (values c.loop-message.self-inside.messages) + cond c.in_ok-take_in.field-0 1 0 =
-        ap length c.in_ok-take_in.ensures.joined ∙ length-join_one (values c.loop-message.self-inside.messages) c.message-item.result c.in_ok-take_in.field-0 c.in_ok-take_in.ensures.fresh in
+    ap length c.in_ok-take_in.ensures.joined ∙ length-join_one (values c.loop-message.self-inside.messages) c.message-item.result c.in_ok-take_in.field-0 c.in_ok-take_in.ensures.fresh in
     record {
       stands = c.in_ok-take_in.ensures.stands;
       right = c.in_ok-take_in.ensures.right;
       joined =
-        c.in_ok-take_in.ensures.joined
-        ∙ ap (λ ms. join_one ms c.message-item.result) c.loop-message.invariant.joined
-        ∙ in_turn (values c.self.inside.messages) (take c.loop-message.message-index c.args.batch.now) (c.message-item.result ∷ [])
-        ∙ ap (λ ns. join (values c.self.inside.messages) ns) (ap (λ x. take c.loop-message.message-index c.args.batch.now ++ x ∷ []) c.message-item.is ∙ sym more);
+          c.in_ok-take_in.ensures.joined
+          ∙ ap (λ ms. join_one ms c.message-item.result) c.loop-message.invariant.joined
+          ∙ in_turn (values c.self.inside.messages) (take c.loop-message.message-index c.args.batch.now) (c.message-item.result ∷ [])
+          ∙ ap (λ ns. join (values c.self.inside.messages) ns) (ap (λ x. take c.loop-message.message-index c.args.batch.now ++ x ∷ []) c.message-item.is ∙ sym more);
       spent = c.loop-message.invariant.spent;
       small = elim c.if-branch.branch [ then-branch w ↦ omega arith | else-branch w ↦ omega arith ];
       count = elim c.if-branch.branch [
@@ -38,4 +38,4 @@ pub returns-clause-changed : goal.returns-clause-changed
 returns-clause-changed c =
     rw (← c.self.view_is)
     (are-changed (values c.self.inside.messages) (values c.loop-message.self-inside.messages) c.loop-message.changed c.in_ok-changed.changed
-      c.in_ok-changed.ensures.all c.in_ok-changed.ensures.ordered c.loop-message.invariant.marked)
+    c.in_ok-changed.ensures.all c.in_ok-changed.ensures.ordered c.loop-message.invariant.marked)

@@ -1,0 +1,49 @@
+//! The messages after a text, taken from the end of a log.
+ghost use Rattle.std.specs.Prelude.{◌≡◌, IfOk};
+ghost use Rattle.std.specs.Ordering.{is_gt, nat_cmp};
+ghost use Rattle.std.specs.Cmp.Lexicographic.{slice_cmp};
+ghost use Rattle.std.specs.BTreeMap.{values};
+ghost use Rattle.hybrid_clock.specs.Stamp.{IsStamp, stamp_text};
+ghost use Rattle.field_merge.specs.Kept.{AreEntries};
+ghost use Rattle.field_merge.specs.Messages.{AreMessages};
+ghost use Rattle.field_merge.specs.Log.{later};
+
+use crate::index::Messages;
+use crate::message::Message;
+use field_values::NoMemory;
+use hybrid_clock::{Stamp, order_of_texts};
+use std::alloc::Global;
+
+/// Whether the text of a timestamp is greater than a text, by bytes.
+fn is_after(stamp: &Stamp, text: &[u8]) -> bool
+    requires { IsStamp stamp.now }
+    ensures { result ≡ is_gt (slice_cmp nat_cmp (stamp_text stamp.now) text.now) }
+{
+    let mut own = [0u8; 46];
+    stamp.write_text(&mut own);
+    own.as_slice().cmp(&text).is_gt()
+}
+
+/// Copies of the messages whose timestamp's text is greater than a text, by
+/// timestamp.
+pub(crate) fn copies_after(
+    alloc: Global,
+    messages: &Messages,
+    text: &[u8],
+) -> Result<Vec<Message>, NoMemory>
+    requires { AreEntries messages.now.entries }
+    ensures messages { IfOk result (λ found. found.items ≡ later text.now (values messages.now)) }
+    ensures valid { IfOk result (λ found. AreMessages found.items) }
+{
+    order_of_texts();
+    let mut left = messages.values();
+    let mut found = Vec::new(alloc);
+    while let Some(message) = left.next_back() {
+        if !is_after(&message.stamp, text) {
+            break;
+        }
+        found.push(message.copy()?)?;
+    }
+    found.reverse();
+    Ok(found)
+}
