@@ -1,9 +1,9 @@
 -- What a text must pass to be read.
-use Rattle.std.proofs.Common.{◌≡◌, ℕ, ◌+◌, ◌*◌, ◌/◌, ◌<◌, ◌≤◌, Bool, true, false, ◌==◌, nat_lt, cond, List, length, drop, Option, None, Some, Result, Ok, Err, arith, refl, sym, ◌∙◌, ap, eq-eqb}
+use Rattle.std.proofs.Common.{◌≡◌, ℕ, ◌/◌, ◌<◌, Bool, true, false, ◌==◌, nat_lt, cond, List, length, drop, Option, None, Some, Result, Ok, Err, refl, sym, ◌∙◌, ap, eq-eqb}
 use Rattle.std.proofs.lemmas.Bool.{eqb-true, ltb-true, lt-ltb}
 use Rattle.hybrid_clock.specs.declared.stamp.Stamp.{Stamp}
 use Rattle.hybrid_clock.specs.declared.stamp.StampFault.{StampFault}
-use Rattle.hybrid_clock.specs.declared.stamp.StampFault.TheVariants.{Length, BadByte, NoSuchMoment, BeyondWindow, ZeroNode}
+use Rattle.hybrid_clock.specs.declared.stamp.StampFault.TheVariants.{Length, NoSuchMoment, BeyondWindow, ZeroNode}
 use Rattle.hybrid_clock.specs.Node.{is_zeros}
 use Rattle.hybrid_clock.specs.Stamp.{window}
 use Rattle.hybrid_clock.specs.Reading.{misfit, is_moment, millis_in, hex_at, stamp_in, read_form, read_moment, read_stamp}

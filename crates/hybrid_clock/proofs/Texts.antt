@@ -1,5 +1,5 @@
 -- A text that is read is the one that is written for its timestamp.
-use Rattle.std.proofs.Common.{◌≡◌, ℕ, zero, suc, ◌+◌, ◌-◌, ◌*◌, ◌/◌, ◌%◌, ◌<◌, ◌≤◌, Bool, true, false, ◌==◌, ◌&&◌, nat_lt, nat_le, List, [], ◌∷◌, ◌++◌, length, get_or, take, drop, replicate, Option, None, Some, arith, refl, sym, ◌∙◌, ap, subst, ℤ, pos, negsuc, ◌≤ℤ◌, unsigned_abs, add-one, drop-cons, IsTrue, length-drop, Ok}
+use Rattle.std.proofs.Common.{◌≡◌, ℕ, zero, suc, ◌+◌, ◌-◌, ◌*◌, ◌/◌, ◌%◌, ◌<◌, ◌≤◌, ◌&&◌, nat_le, List, [], ◌∷◌, ◌++◌, length, get_or, drop, replicate, arith, refl, sym, ◌∙◌, ap, subst, ℤ, pos, negsuc, ◌≤ℤ◌, unsigned_abs, add-one, drop-cons, IsTrue, length-drop, Ok}
 use Rattle.std.proofs.lemmas.Bool.{and_parts, and_from, leb-true, eqb-true}
 use Rattle.std.specs.List.{list_all}
 use Rattle.std.specs.Int.{is_in_range}
@@ -7,10 +7,9 @@ use Rattle.std.specs.Char.{is_ascii_alphanumeric}
 use Rattle.jiff_core.specs.Calendar.{days_in_month, days_from_civil, IsCivilDate}
 use Rattle.jiff_core.proofs.SignedLemmas.{signed_arith}
 use Rattle.hybrid_clock.specs.declared.stamp.Stamp.{Stamp}
-use Rattle.hybrid_clock.specs.Calendar.{Day, day_of}
-use Rattle.hybrid_clock.specs.Node.{IsNode, is_zeros}
-use Rattle.hybrid_clock.specs.Stamp.{IsStamp, window, stamp_text, head_text, two, three, four, hex, hex_digit}
-use Rattle.hybrid_clock.specs.Reading.{form, is_allowed, misfit, digit_at, two_at, three_at, four_at, hex_value, hex_at, is_date, is_time, is_moment, millis_in, stamp_in, read_stamp}
+use Rattle.hybrid_clock.specs.Calendar.{day_of}
+use Rattle.hybrid_clock.specs.Stamp.{IsStamp, stamp_text, head_text}
+use Rattle.hybrid_clock.specs.Reading.{form, two_at, three_at, four_at, hex_value, hex_at, is_date, is_time, is_moment, millis_in, stamp_in, read_stamp}
 use Rattle.hybrid_clock.proofs.Form.{Fits, fits, allowed_at}
 use Rattle.hybrid_clock.proofs.Digits.{IsDigit, digit_from, two_digits, three_digits, four_digits, IsHex, hex_from, hex_digits, IsSplit, split}
 use Rattle.hybrid_clock.proofs.Days.{days_from_1970, same_day}

@@ -1,18 +1,17 @@
 -- The text of a timestamp passes the tests and is read as that timestamp.
-use Rattle.std.proofs.Common.{◌≡◌, ℕ, zero, suc, ◌+◌, ◌-◌, ◌*◌, ◌/◌, ◌%◌, ◌<◌, ◌≤◌, Bool, true, false, List, [], ◌∷◌, ◌++◌, length, get_or, drop, replicate, Option, None, arith, refl, sym, ◌∙◌, ap, subst, ℤ, pos, unsigned_abs, IsTrue, Ok}
+use Rattle.std.proofs.Common.{◌≡◌, ℕ, zero, suc, ◌+◌, ◌*◌, ◌/◌, ◌%◌, ◌<◌, ◌≤◌, true, List, [], ◌∷◌, ◌++◌, length, drop, replicate, None, arith, refl, ◌∙◌, ap, ℤ, pos, IsTrue, Ok}
 use Rattle.std.proofs.lemmas.Bool.{and_parts, and_from, le-leb}
 use Rattle.std.specs.List.{list_all}
 use Rattle.std.specs.Char.{is_ascii_alphanumeric}
 use Rattle.jiff_core.specs.Calendar.{days_in_month, days_from_civil}
 use Rattle.jiff_core.proofs.CalendarLemmas.{days_in_month_bounds}
 use Rattle.hybrid_clock.specs.declared.stamp.Stamp.{Stamp}
-use Rattle.hybrid_clock.specs.Calendar.{Day, day_of}
-use Rattle.hybrid_clock.specs.Node.{IsNode}
-use Rattle.hybrid_clock.specs.Stamp.{IsStamp, window, stamp_text, head_text, hex_digit}
-use Rattle.hybrid_clock.specs.Reading.{form, is_allowed, misfit, two_at, three_at, four_at, hex_value, hex_at, is_date, is_time, is_moment, millis_in, stamp_in, read_stamp}
+use Rattle.hybrid_clock.specs.Calendar.{day_of}
+use Rattle.hybrid_clock.specs.Stamp.{IsStamp, stamp_text, head_text}
+use Rattle.hybrid_clock.specs.Reading.{form, misfit, two_at, three_at, four_at, hex_at, is_date, is_time, is_moment, millis_in, stamp_in, read_stamp}
 use Rattle.hybrid_clock.proofs.Form.{Fits, no_misfit}
 use Rattle.hybrid_clock.proofs.Digits.{digit_is, two_value, three_value, four_value, hex_is, hex_counter, joined}
-use Rattle.hybrid_clock.proofs.Days.{IsAt, IsBy, day_is, number, is_date-true}
+use Rattle.hybrid_clock.proofs.Days.{day_is, number, is_date-true}
 use Rattle.hybrid_clock.proofs.Passing.{Passes, reads}
 
 -- a head whose parts have their digits

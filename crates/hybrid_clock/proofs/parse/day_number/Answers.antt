@@ -1,4 +1,4 @@
-use Rattle.std.proofs.Common.{arith, ◌≡◌, pos}
+use Rattle.std.proofs.Common.{arith}
 use Rattle.jiff_core.proofs.SignedLemmas.{signed_casts}
 use Rattle.hybrid_clock.proofs.Days.{number_is}
 use Rattle.hybrid_clock.proofs.parse.day_number.Goals as goal

@@ -1,4 +1,4 @@
-use Rattle.std.proofs.Common.{◌≡◌, ◌≤◌, ◌<◌, arith, get_or}
+use Rattle.std.proofs.Common.{arith, get_or}
 use Rattle.hybrid_clock.proofs.Form.{within_form, allowed_at, digit_bounds}
 use Rattle.hybrid_clock.proofs.parse.digit.Goals as goal
 

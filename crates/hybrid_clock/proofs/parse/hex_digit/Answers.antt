@@ -1,4 +1,4 @@
-use Rattle.std.proofs.Common.{◌≡◌, ◌≤◌, ◌<◌, ◌∙◌, sym, false, arith, get_or}
+use Rattle.std.proofs.Common.{◌≡◌, ◌≤◌, ◌∙◌, sym, false, arith, get_or}
 use Rattle.hybrid_clock.proofs.Form.{within_form, allowed_at, hex_letter, hex_value-letter}
 use Rattle.std.specs.Char.{is_ascii_digit}
 use Rattle.hybrid_clock.proofs.parse.hex_digit.Goals as goal

@@ -1,4 +1,4 @@
-use Rattle.std.proofs.Common.{◌≡◌, ◌∙◌, arith}
+use Rattle.std.proofs.Common.{◌∙◌}
 use Rattle.hybrid_clock.proofs.Pieces.{rest_of}
 use Rattle.hybrid_clock.proofs.parse.node_of.Goals as goal
 

@@ -1,5 +1,4 @@
-use Rattle.std.proofs.Common.{arith, ◌≡◌, ◌≤◌, pos, ◌≤ℤ◌, ℤ, sym, ◌∙◌, subst}
-use Rattle.jiff_core.specs.Date.{epoch_day}
+use Rattle.std.proofs.Common.{arith, pos, ◌≤ℤ◌, ℤ, sym, ◌∙◌, subst}
 use Rattle.jiff_core.proofs.SignedLemmas.{signed_casts}
 use Rattle.hybrid_clock.proofs.Days.{days_from_1970}
 use Rattle.hybrid_clock.proofs.parse.number_of.Goals as goal

@@ -1,6 +1,5 @@
-use Rattle.std.proofs.Common.{◌≡◌, arith, ℤ, pos, w16, FitsSigned, to_z, of_z, refl}
+use Rattle.std.proofs.Common.{arith, w16, FitsSigned, refl}
 use Rattle.std.proofs.lemmas.Int.{ints, to_z-of_z}
-use Rattle.hybrid_clock.specs.Calendar.{Day, day_of}
 use Rattle.hybrid_clock.proofs.Days.{date_day, day_is}
 use Rattle.hybrid_clock.proofs.write.day_of_number.Goals as goal
 

@@ -1,4 +1,4 @@
-use Rattle.std.proofs.Common.{◌≡◌, sym, ◌∙◌, subst, ℕ, List}
+use Rattle.std.proofs.Common.{sym, ◌∙◌, subst, ℕ, List}
 use Rattle.hybrid_clock.specs.Node.{IsNode}
 use Rattle.hybrid_clock.proofs.Nodes.{all_pass, padded_node}
 use Rattle.hybrid_clock.proofs.node.Node.make.Goals as goal

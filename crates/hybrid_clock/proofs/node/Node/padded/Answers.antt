@@ -1,4 +1,4 @@
-use Rattle.std.proofs.Common.{◌≡◌, length, refl}
+use Rattle.std.proofs.Common.{length, refl}
 use Rattle.hybrid_clock.proofs.Pieces.{at_the_end}
 use Rattle.hybrid_clock.proofs.node.Node.padded.Goals as goal
 

@@ -1,7 +1,6 @@
-use Rattle.std.proofs.Common.{◌≡◌, refl, sym, ◌∙◌, subst, List, ℕ, Ok, arith, ap, length, false, rules}
+use Rattle.std.proofs.Common.{◌≡◌, sym, ◌∙◌, subst, List, ℕ, Ok, arith, ap, rules}
 use Rattle.hybrid_clock.specs.declared.stamp.Stamp.{Stamp}
-use Rattle.hybrid_clock.specs.declared.stamp.StampFault.{StampFault}
-use Rattle.hybrid_clock.specs.Reading.{read_stamp, is_moment, millis_in}
+use Rattle.hybrid_clock.specs.Reading.{read_stamp}
 use Rattle.hybrid_clock.specs.Node.{is_zeros}
 use Rattle.hybrid_clock.proofs.Passing.{read_parts, stamp_of}
 use Rattle.hybrid_clock.proofs.Texts.{read_valid, read_text}

@@ -1,4 +1,4 @@
-use Rattle.std.proofs.Common.{◌≡◌, arith, refl, ◌∙◌, ◌++◌, length, sym, ap, length-take, length-drop, length-append}
+use Rattle.std.proofs.Common.{◌≡◌, arith, refl, ◌∙◌, length, ap, length-take, length-drop, length-append}
 use Rattle.hybrid_clock.specs.Stamp.{stamp_text}
 use Rattle.hybrid_clock.specs.Calendar.{Day}
 use Rattle.hybrid_clock.proofs.Pieces.{assembled}
