@@ -129,6 +129,11 @@ keep a true s t o h = refl
 keep true false s t o h = sym (h refl)
 keep false false s t o h = refl
 
+-- a timestamp that was replaced is put back
+pub put_back : (b w : Bool) (s t : Stamp) (before between after : Option Stamp) → w ≡ false → between ≡ cond b (Some s) before → after ≡ cond b (Some t) between → after ≡ cond b (Some (cond w s t)) before
+put_back true w s t before between after isnt first second = second ∙ ap (λ v. Some (cond v s t)) (sym isnt)
+put_back false w s t before between after isnt first second = second ∙ first
+
 pub noted_there : (index new_index : List (FieldNames × Stamp)) (n : Message) (old : Stamp) (w : Bool) → Some old ≡ lookup (is_at (names_cmp n.field)) index → w ≡ is_lt (stamp_cmp old n.stamp) → ((f : FieldNames) → lookup (is_at (names_cmp f)) new_index ≡ cond (is_at (names_cmp n.field) f) (Some (cond w n.stamp old)) (lookup (is_at (names_cmp f)) index)) → Notes index new_index n w
 noted_there index new_index n old w there later now = record {
   is_later = later ∙ ap (λ o. is_newer o n.stamp) there;

@@ -23,20 +23,30 @@ pub(crate) type Messages = BTreeMap<Stamp, Message>;
 /// The timestamp of the latest message of each field.
 pub(crate) type Index = BTreeMap<Field, Stamp>;
 
+/// Gives a field a timestamp, and says which one it had.
+fn give(index: &mut Index, field: &Field, stamp: Stamp) -> Result<Option<Stamp>, NoMemory>
+    ensures before { IfOk result (λ before. before ≡ lookup (is_at (names_cmp field.now)) index.old.entries) }
+    ensures now { OnOk result ((f : FieldNames) → lookup (is_at (names_cmp f)) index.new.entries
+        ≡ cond (is_at (names_cmp field.now) f) (Some stamp) (lookup (is_at (names_cmp f)) index.old.entries)) }
+{
+    let before = index.insert(field.copy()?, stamp)?;
+    Ok(before)
+}
+
 /// Enters a message into the index where it is later than the one of its
-/// field there, and says whether it is.
+/// field there, and says whether it is. A field that is new or has a later
+/// message now costs one look-up.
 fn note(index: &mut Index, message: &Message) -> Result<bool, NoMemory>
     ensures { IfOk result (Notes index.old.entries index.new.entries message.now) }
 {
-    if let Some(stamp) = index.get_mut(&message.field) {
-        let is_later = *stamp < message.stamp;
-        if is_later {
-            *stamp = message.stamp;
-        }
-        return Ok(is_later);
+    let Some(before) = give(index, &message.field, message.stamp)? else {
+        return Ok(true);
+    };
+    let is_later = before < message.stamp;
+    if !is_later {
+        give(index, &message.field, before)?;
     }
-    index.insert(message.field.copy()?, message.stamp)?;
-    Ok(true)
+    Ok(is_later)
 }
 
 /// Puts a message under its timestamp, which no message has yet.

@@ -157,8 +157,8 @@ impl Ord for Field {
     fn cmp(&self, other: &Field) -> Ordering {
         self.dataset()
             .cmp(&other.dataset())
-            .then(self.row().cmp(&other.row()))
-            .then(self.column().cmp(&other.column()))
+            .then_with(|| self.row().cmp(&other.row()))
+            .then_with(|| self.column().cmp(&other.column()))
     }
 }
 

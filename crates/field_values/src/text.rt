@@ -111,7 +111,7 @@ impl PartialEq for Txt {
     ghost laws = { Prim.search (comparing, rules) };
 
     fn eq(&self, other: &Txt) -> bool {
-        self.text.as_bytes() == other.text.as_bytes()
+        self.text.as_str() == other.text.as_str()
     }
 }
 
@@ -129,7 +129,7 @@ impl Ord for Txt {
     ghost matches_eq = { Prim.search (comparing, rules) };
 
     fn cmp(&self, other: &Txt) -> Ordering {
-        self.text.as_bytes().cmp(&other.text.as_bytes())
+        self.text.as_str().cmp(other.text.as_str())
     }
 }
 

@@ -20,8 +20,8 @@ impl Ord for Stamp {
     fn cmp(&self, other: &Stamp) -> Ordering {
         self.millis
             .cmp(&other.millis)
-            .then(self.counter.cmp(&other.counter))
-            .then(self.node.cmp(&other.node))
+            .then_with(|| self.counter.cmp(&other.counter))
+            .then_with(|| self.node.cmp(&other.node))
     }
 }
 

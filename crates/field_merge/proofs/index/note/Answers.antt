@@ -1,28 +1,18 @@
-use Rattle.std.proofs.Common.{◌≡◌, ◌∙◌, Some, cond, true, false, Option, subst, sym, ap}
-use Rattle.std.specs.Option.{is_some}
+use Rattle.std.proofs.Common.{◌∙◌, sym}
 use Rattle.std.specs.Map.{lookup}
 use Rattle.std.specs.BTreeMap.{is_at}
-use Rattle.field_values.specs.Names.{FieldNames, names_cmp}
-use Rattle.hybrid_clock.specs.declared.stamp.Stamp.{Stamp}
-use Rattle.field_merge.proofs.Kept.{noted_first, noted_there}
+use Rattle.field_values.specs.Names.{names_cmp}
+use Rattle.field_merge.proofs.Kept.{noted_there, put_back}
 use Rattle.field_merge.proofs.index.note.Goals as goal
 
-pub returns-then-is_later : goal.returns-then-is_later
-returns-then-is_later c =
-    let stamp = c.args.message.now.stamp in
-    let after = (c.get_mut.follows.holds stamp).3 (sym (ap is_some c.in-Some.ensures.value)) in
-    noted_there c.args.index.now.entries (c.get_mut.follows.lender stamp).entries c.args.message.now c.in-Some.stamp.now c.lt-is_later.result c.in-Some.ensures.value c.lt-is_later.ensures
-    (λ f. after.0 f ∙ ap (λ b. cond (is_at (names_cmp c.args.message.now.field) f) (Some (cond b stamp c.in-Some.stamp.now)) (lookup (is_at (names_cmp f)) c.args.index.now.entries)) (sym c.if-is_later.true))
-
-pub returns-else-is_later : goal.returns-else-is_later
-returns-else-is_later c =
-    let stamp = c.args.message.now.stamp in
-    let after = (c.get_mut.follows.holds c.in-Some.stamp.now).3 (sym (ap is_some c.in-Some.ensures.value)) in
-    noted_there c.args.index.now.entries (c.get_mut.follows.lender c.in-Some.stamp.now).entries c.args.message.now c.in-Some.stamp.now c.lt-is_later.result c.in-Some.ensures.value c.lt-is_later.ensures
-    (λ f. after.0 f ∙ ap (λ b. cond (is_at (names_cmp c.args.message.now.field) f) (Some (cond b stamp c.in-Some.stamp.now)) (lookup (is_at (names_cmp f)) c.args.index.now.entries)) (sym c.if-is_later.false))
-
-pub returns : goal.returns
-returns c =
-    let stamp = c.args.message.now.stamp in
-    noted_first c.args.index.now.entries c.insert.new.self.entries c.args.message.now c.in_default.ensures.value
-    (λ f. c.in_ok-insert.ensures.updates.0 f ∙ (λ i. cond (is_at (names_cmp (c.in_ok-copy.ensures i)) f) (Some stamp) (lookup (is_at (names_cmp f)) (c.get_mut.follows.holds-at-none i).entries)))
+pub returns-in_ok-give : goal.returns-in_ok-give
+returns-in_ok-give c =
+    let index = c.args.index.now.entries in
+    let between = c.give.new.index.entries in
+    let after = c.give-then-not-is_later.new.index.entries in
+    let message = c.args.message.now in
+    noted_there index after message c.in-Some.before c.lt-is_later.result
+    (sym c.in-Some.is ∙ c.in_ok-before.ensures.before) c.lt-is_later.ensures
+    (λ f. put_back (is_at (names_cmp message.field) f) c.lt-is_later.result message.stamp c.in-Some.before
+    (lookup (is_at (names_cmp f)) index) (lookup (is_at (names_cmp f)) between) (lookup (is_at (names_cmp f)) after)
+    c.if-not-is_later.true (c.in_ok-before.ensures.now f) (c.in_ok-give.ensures.now f))
