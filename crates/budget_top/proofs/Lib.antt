@@ -1,0 +1,9 @@
+pub mod Cutting
+pub mod Counting
+pub mod Writing
+pub mod Standing
+pub mod SoFar
+pub mod Feeding
+pub mod Ending
+pub mod Running
+pub mod Judging

@@ -1,0 +1,86 @@
+-- The run as a whole.
+use Rattle.std.proofs.Common.{◌≡◌, ℕ, ◌+◌, ◌<◌, ◌≤◌, ◌⊎◌, inl, inr, List, [], ◌++◌, refl, ap, sym, ◌∙◌, subst, Bool, true, false, Option, length, take, drop, arith}
+use Rattle.std.proofs.lemmas.List.{take-append-drop}
+use Rattle.std.proofs.KnownBytes.{Consumes-nil}
+use Rattle.std.specs.Io.KnownBytes.{Appends, Consumes, IsAtEnd}
+use Rattle.budget_top.specs.declared.stop.Stop.{Stop}
+use Rattle.budget_top.specs.declared.stop.Stop.TheVariants.{Memory, Sink}
+use Rattle.budget_top.specs.Lines.{whole_lines, all_lines}
+use Rattle.budget_top.specs.Verdicts.{bad_lines, some_bad, merge_text}
+use Rattle.budget_top.specs.Fronts.{IsFront, AppendsFront}
+use Rattle.budget_top.specs.MergeRun.{MergeRun, MergesAll, MergesTaken, MergesLimit, BreaksOff, most_input}
+use Rattle.budget_top.specs.Stops.{status_of}
+use Rattle.budget_top.specs.Steps.{HasRead}
+use Rattle.budget_top.proofs.Standing.{part_of_more, part_of_merge, front_none}
+
+-- the bytes before the limit, and those after it
+limit_parts : (read : List ℕ) → take most_input read ++ drop most_input read ≡ read
+limit_parts read = take-append-drop most_input read
+
+pub run_too_much : (left new_left taken new_taken : Option (List ℕ)) (read : List ℕ) → HasRead left new_left read → most_input + 1 ≤ length read → Appends taken new_taken (bad_lines (whole_lines (take most_input read))) → MergeRun 9 left new_left taken new_taken
+run_too_much left new_left taken new_taken read h past writes = record {
+  read = read;
+  written = bad_lines (whole_lines (take most_input read));
+  reads = h.reads;
+  writes = writes;
+  asked = h.asked;
+  known = refl;
+  all_good = λ e. absurd (omega arith);
+  some_refused = λ e. absurd (omega arith);
+  source_failed = λ e. absurd (omega arith);
+  sink_failed = λ e. absurd (omega arith);
+  no_memory = λ e. absurd (omega arith);
+  too_much = λ e. record { past = omega arith; text = refl };
+}
+
+run_broken : (left new_left taken new_taken : Option (List ℕ)) (read : List ℕ) (stop : Stop) (written : List ℕ) → HasRead left new_left read → Appends taken new_taken written → BreaksOff read written → MergeRun (status_of stop) left new_left taken new_taken
+run_broken left new_left taken new_taken read Memory written h writes breaks = record {
+  read = read;
+  written = written;
+  reads = h.reads;
+  writes = writes;
+  asked = h.asked;
+  known = refl;
+  all_good = λ e. absurd (omega arith);
+  some_refused = λ e. absurd (omega arith);
+  source_failed = λ e. absurd (omega arith);
+  sink_failed = λ e. absurd (omega arith);
+  no_memory = λ e. breaks;
+  too_much = λ e. absurd (omega arith);
+}
+run_broken left new_left taken new_taken read Sink written h writes breaks = record {
+  read = read;
+  written = written;
+  reads = h.reads;
+  writes = writes;
+  asked = h.asked;
+  known = refl;
+  all_good = λ e. absurd (omega arith);
+  some_refused = λ e. absurd (omega arith);
+  source_failed = λ e. absurd (omega arith);
+  sink_failed = λ e. breaks;
+  no_memory = λ e. absurd (omega arith);
+  too_much = λ e. absurd (omega arith);
+}
+
+as_status : (status : ℕ) (stop : Stop) (left new_left taken new_taken : Option (List ℕ)) → status ≡ status_of stop → MergeRun (status_of stop) left new_left taken new_taken → MergeRun status left new_left taken new_taken
+as_status status stop left new_left taken new_taken is h = let P : ℕ → Type 0 = λ s. MergeRun s left new_left taken new_taken in subst P (sym is) h
+
+-- it broke off among the lines before the limit
+pub run_stopped : (left new_left taken new_taken : Option (List ℕ)) (read : List ℕ) (stop : Stop) (status : ℕ) → status ≡ status_of stop → HasRead left new_left read → AppendsFront taken new_taken (bad_lines (whole_lines (take most_input read))) → MergeRun status left new_left taken new_taken
+run_stopped left new_left taken new_taken read stop status is h f =
+    let P : List ℕ → Type 0 = λ xs. IsFront f.front (bad_lines (whole_lines xs)) in
+    let whole : IsFront f.front (bad_lines (whole_lines read)) = subst P (limit_parts read) (part_of_more f.front (take most_input read) (drop most_input read) f.of) in
+    as_status status stop left new_left taken new_taken is
+    (run_broken left new_left taken new_taken read stop f.front h f.written (record { front = part_of_merge f.front read whole; limited = λ past. f.of }))
+
+-- it broke off at the end of the input
+pub run_unfinished : (left new_left taken new_taken : Option (List ℕ)) (read : List ℕ) (stop : Stop) (status : ℕ) → status ≡ status_of stop → HasRead left new_left read → length read ≤ most_input → AppendsFront taken new_taken (merge_text read) → MergeRun status left new_left taken new_taken
+run_unfinished left new_left taken new_taken read stop status is h within f =
+    as_status status stop left new_left taken new_taken is
+    (run_broken left new_left taken new_taken read stop f.front h f.written (record { front = f.of; limited = λ past. absurd (omega arith) }))
+
+-- it broke off before anything was read
+pub run_untouched : (left taken : Option (List ℕ)) → MergeRun 7 left left taken taken
+run_untouched left taken =
+    run_unfinished left left taken taken [] Memory 7 refl (record { reads = Consumes-nil left; asked = omega arith }) (omega arith) (front_none taken (merge_text []))

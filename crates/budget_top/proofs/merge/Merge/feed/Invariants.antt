@@ -1,0 +1,15 @@
+use Rattle.std.proofs.Common.{◌≡◌, ◌≤◌, ◌+◌, ◌-◌, ◌++◌, List, ℕ, Option, false, take, length}
+use Rattle.budget_top.specs.Steps.{Stands}
+use Rattle.budget_top.proofs.merge.Merge.feed.Given as goal
+
+abbrev pub invariant-lines : goal.invariant-lines
+invariant-lines g l = record {
+  within : l.at ≤ length l.bytes;
+  stands : (entry : Option (List ℕ)) (read : List ℕ) → Stands entry (g.W.Sink.taken l.initial.sink) read l.initial.self → Stands entry (g.W.Sink.taken l.sink) (read ++ take l.at l.bytes) l.self;
+  live : l.self.log.spent ≡ false;
+  few : l.self.number ≤ l.initial.self.number + l.at;
+  later : g.W.Sink.faults l.initial.sink ≤ g.W.Sink.faults l.sink;
+}
+
+abbrev pub decreases-lines : goal.decreases-lines
+decreases-lines g l = length l.initial.bytes - l.at

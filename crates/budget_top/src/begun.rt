@@ -1,0 +1,85 @@
+//! The line that has begun.
+ghost use Rattle.std.specs.Prelude.{◌≡◌, ◌↔◌, IfOk, OnOk, IsTrue, Some, []};
+ghost use Rattle.field_merge.specs.Messages.{IsMessage};
+ghost use Rattle.budget_top.specs.Kept.{judged_kept, kept_with};
+
+use crate::verdict::{Word, judge};
+use field_merge::Message;
+use field_values::NoMemory;
+use std::alloc::Global;
+use std::marker::Model;
+
+/// The most bytes that a line may have.
+const LONGEST: usize = 1_048_576;
+
+/// What was read of a line. A contract sees its bytes, or none where it is too long: then they are
+/// not kept.
+#[derive(Drop)]
+pub struct Begun {
+    bytes: Vec<u8>,
+    is_long: bool,
+}
+
+impl Model for Begun {
+    ghost use Rattle.std.specs.Prelude.{ℕ, ◌≤◌, List, Option, None, Some, if◌then◌else◌, vec_len};
+
+    ghost Value = { Option (List ℕ) };
+
+    ghost view = { λ b. if b.is_long then None else Some b.bytes.items };
+
+    ghost invariant = { λ b. vec_len b.bytes ≤ 1_048_576 };
+}
+
+impl Begun {
+    /// A line of no bytes yet.
+    pub fn new(alloc: Global) -> Begun
+        ensures { result ≡ Some [] }
+    {
+        Begun {
+            bytes: Vec::new(alloc),
+            is_long: false,
+        }
+    }
+
+    /// Goes on with the line.
+    pub fn push(&mut self, bytes: &[u8]) -> Result<(), NoMemory>
+        ensures { OnOk result (self.new ≡ kept_with self.old bytes.now) }
+    {
+        if self.is_long {
+            return Ok(());
+        }
+        if bytes.len() > LONGEST - self.bytes.len() {
+            self.bytes.clear();
+            self.is_long = true;
+            return Ok(());
+        }
+        self.bytes.extend_from_slice(bytes)?;
+        Ok(())
+    }
+
+    /// Whether the line has no byte.
+    pub fn is_empty(&self) -> bool
+        ensures { IsTrue result ↔ (self.now ≡ Some []) }
+    {
+        !self.is_long && self.bytes.is_empty()
+    }
+
+    /// The message of the line, or the word for what is wrong with it.
+    pub fn judge(&self, alloc: Global) -> Result<Result<Message, Word>, NoMemory>
+        ensures verdict { IfOk result (λ verdict. verdict ≡ judged_kept self.now) }
+        ensures valid { IfOk result (λ verdict. IfOk verdict IsMessage) }
+    {
+        if self.is_long {
+            return Ok(Err(Word::Long));
+        }
+        judge(alloc, self.bytes.as_slice())
+    }
+
+    /// Begins the next line.
+    pub fn clear(&mut self)
+        ensures { self.new ≡ Some [] }
+    {
+        self.bytes.clear();
+        self.is_long = false;
+    }
+}

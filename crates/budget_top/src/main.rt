@@ -1,0 +1,75 @@
+//! Merges the message lines of standard input, and writes the latest message of each field.
+#![tactic(auto)]
+
+mod adapters;
+mod begun;
+mod dispatch;
+mod merge;
+mod planning;
+mod stop;
+#[cfg(test)]
+mod tests;
+mod verdict;
+mod words;
+mod write;
+
+use adapters::{StdinSource, StdoutSink};
+use budget_ports::Sink;
+use field_values::{Items, Txt};
+use std::env;
+use std::io::{BufWriter, ErrorKind};
+use std::process::ExitCode;
+use words::WordFault;
+
+/// The words of the command line, without the program's name. Words that are not UTF-8 are none
+/// that a run knows.
+fn words_of(rt: &HostRuntime) -> Result<Items<Txt>, WordFault> {
+    let arguments = match env::args(rt) {
+        Ok(arguments) => arguments,
+        Err(error) => {
+            return Err(match error.kind() {
+                ErrorKind::InvalidData => WordFault::Words,
+                _ => WordFault::NoMemory,
+            });
+        }
+    };
+    let mut words = Vec::new(rt.alloc());
+    for word in arguments.skip(1) {
+        if words.push(Txt::new(word)).is_err() {
+            return Err(WordFault::NoMemory);
+        }
+    }
+    Ok(Items::new(words))
+}
+
+/// Tells what is wrong with the words.
+fn tell(rt: &HostRuntime, fault: WordFault) {
+    let name = fault.name();
+    let _ = eprintln!(rt; "{name}");
+}
+
+/// Tells why there is no run, and gives the status.
+fn without_run(rt: &HostRuntime, fault: WordFault) -> ExitCode {
+    tell(rt, fault);
+    ExitCode::from(dispatch::status_of(fault))
+}
+
+fn main(rt: HostRuntime) -> ExitCode {
+    let alloc = rt.alloc();
+    let words = match words_of(&rt) {
+        Ok(words) => words,
+        Err(fault) => return without_run(&rt, fault),
+    };
+    let Ok(writer) = BufWriter::new(alloc, rt.stdout()) else {
+        return without_run(&rt, WordFault::NoMemory);
+    };
+    if let Err(fault) = planning::plan(alloc, &words) {
+        tell(&rt, fault);
+    }
+    let mut source = StdinSource::new(rt.stdin());
+    let mut sink = StdoutSink::new(writer);
+    let status = dispatch::run(alloc, &words, &mut source, &mut sink);
+    // what a run that broke off has written is to be seen too
+    let _ = sink.flush();
+    ExitCode::from(status)
+}

@@ -1,0 +1,244 @@
+//! The mode `merge`: joins the messages of the source's lines, and writes the latest message of
+//! each field.
+ghost use Rattle.std.specs.Prelude.{◌≡◌, ◌<◌, ◌≤◌, ◌^◌, List, ℕ, [], position, false};
+ghost use Rattle.std.specs.Io.KnownBytes.{IsAtEnd};
+ghost use Rattle.budget_ports.specs.Faults.{Rose};
+ghost use Rattle.budget_top.specs.Lines.{is_end};
+ghost use Rattle.budget_top.specs.MergeRun.{MergeRun};
+ghost use Rattle.budget_top.specs.Steps.{Stands, HasRead, EndsReading};
+
+use crate::begun::Begun;
+use crate::dispatch::{DONE, NO_MEMORY, SOME_BAD, SOURCE_FAILED, TOO_MUCH};
+use crate::stop::Stop;
+use crate::verdict::{Word, bad_line_text};
+use crate::write::write_all;
+use budget_ports::{Sink, Source};
+use field_merge::{Log, Message};
+use field_values::NoMemory;
+use std::alloc::Global;
+
+/// The most bytes of input that a run takes.
+const MOST_INPUT: usize = 1_073_741_824;
+
+/// How many bytes are asked for at once.
+const PIECE: usize = 4096;
+
+/// Where merging stands: what the lines so far gave, and the line that has begun.
+#[derive(Drop)]
+pub struct Merge {
+    log: Log,
+    line: Begun,
+    /// How many lines have ended.
+    number: u64,
+    /// Whether one of them was no message.
+    has_bad: bool,
+}
+
+/// How reading ended.
+#[derive(Clone, Copy, Debug, PartialEq, Eq)]
+pub enum End {
+    /// The source has no more bytes.
+    AtEnd,
+    SourceFailed,
+    /// A byte past the limit came.
+    TooMuch,
+    Stopped(Stop),
+}
+
+/// How many bytes stand before the first line feed.
+fn line_length(bytes: &[u8]) -> Option<usize>
+    ensures { result ≡ position is_end bytes.now }
+{
+    bytes.iter().position(|byte| *byte == b'\n')
+}
+
+impl Merge {
+    ghost use Rattle.std.specs.Prelude.{◌≡◌, ◌+◌, ◌<◌, ◌≤◌, ◌^◌, ◌∷◌, [], ◌++◌, List, ℕ, Option, length, false, IfOk, OnOk, OnErr, IsErrOf};
+    ghost use Rattle.std.specs.Io.KnownBytes.{Appends};
+    ghost use Rattle.field_merge.specs.Messages.{IsMessage};
+    ghost use Rattle.budget_ports.specs.Faults.{Rose};
+    ghost use Rattle.budget_top.specs.Lines.{IsWithinLine, whole_lines, all_lines};
+    ghost use Rattle.budget_top.specs.Verdicts.{bad_line, bad_lines, merge_text, some_bad};
+    ghost use Rattle.budget_top.specs.Fronts.{AppendsFront};
+    ghost use Rattle.budget_top.specs.Steps.{Settles, Stands, Ended};
+
+    /// Nothing was read yet.
+    pub fn new(alloc: Global) -> Result<Merge, NoMemory>
+        ensures { IfOk result (λ merge. (entry : Option (List ℕ)) → Stands entry entry [] merge) }
+    {
+        Ok(Merge {
+            log: Log::new(alloc)?,
+            line: Begun::new(alloc),
+            number: 0,
+            has_bad: false,
+        })
+    }
+
+    /// Joins the message of a line, or writes that the line is bad.
+    fn settle<W: Sink>(
+        &mut self,
+        alloc: Global,
+        sink: &mut W,
+        verdict: Result<Message, Word>,
+    ) -> Result<(), Stop>
+        requires live { self.old.log.spent ≡ false }
+        requires few { self.old.number < 2 ^ 60 }
+        requires valid { IfOk verdict IsMessage }
+        ensures ok { OnOk result (Settles self.old self.new (W.taken sink.old) (W.taken sink.new) verdict) }
+        ensures err { OnErr result (AppendsFront (W.taken sink.old) (W.taken sink.new) (bad_line (self.old.number + 1) verdict)) }
+        ensures later { W.faults sink.old ≤ W.faults sink.new }
+        ensures cause { IsErrOf result Stop.Sink → Rose (W.faults sink.old) (W.faults sink.new) }
+    {
+        match verdict {
+            Ok(message) => {
+                self.log.add(message)?;
+                Ok(())
+            }
+            Err(word) => {
+                let text = bad_line_text(alloc, self.number + 1, word)?;
+                self.has_bad = true;
+                write_all(sink, text.as_str().as_bytes())?;
+                Ok(())
+            }
+        }
+    }
+
+    /// Ends the line that has begun.
+    fn end_line<W: Sink>(&mut self, alloc: Global, sink: &mut W) -> Result<(), Stop>
+        requires live { self.old.log.spent ≡ false }
+        requires few { self.old.number < 2 ^ 60 }
+        ensures ok { OnOk result ((entry : Option (List ℕ)) (read : List ℕ) → Stands entry (W.taken sink.old) read self.old → Stands entry (W.taken sink.new) (read ++ 10 ∷ []) self.new) }
+        ensures err { OnErr result ((entry : Option (List ℕ)) (read : List ℕ) → Stands entry (W.taken sink.old) read self.old → AppendsFront entry (W.taken sink.new) (bad_lines (whole_lines (read ++ 10 ∷ [])))) }
+        ensures live { OnOk result (self.new.log.spent ≡ false) }
+        ensures few { OnOk result (self.new.number ≡ self.old.number + 1) }
+        ensures later { W.faults sink.old ≤ W.faults sink.new }
+        ensures cause { IsErrOf result Stop.Sink → Rose (W.faults sink.old) (W.faults sink.new) }
+    {
+        let verdict = self.line.judge(alloc)?;
+        self.settle(alloc, sink, verdict)?;
+        self.number += 1;
+        self.line.clear();
+        Ok(())
+    }
+
+    /// Goes on with the line that has begun.
+    fn keep(&mut self, bytes: &[u8]) -> Result<(), NoMemory>
+        requires { IsWithinLine bytes.now }
+        ensures ok { OnOk result ((entry now : Option (List ℕ)) (read : List ℕ) → Stands entry now read self.old → Stands entry now (read ++ bytes.now) self.new) }
+        ensures same { OnOk result ((self.new.log ≡ self.old.log) × (self.new.number ≡ self.old.number)) }
+    {
+        self.line.push(bytes)?;
+        Ok(())
+    }
+
+    /// Deals with the bytes that come next.
+    fn feed<W: Sink>(&mut self, alloc: Global, sink: &mut W, bytes: &[u8]) -> Result<(), Stop>
+        requires live { self.old.log.spent ≡ false }
+        requires few { self.old.number + length bytes.now < 2 ^ 60 }
+        ensures ok { OnOk result ((entry : Option (List ℕ)) (read : List ℕ) → Stands entry (W.taken sink.old) read self.old → Stands entry (W.taken sink.new) (read ++ bytes.now) self.new) }
+        ensures err { OnErr result ((entry : Option (List ℕ)) (read : List ℕ) → Stands entry (W.taken sink.old) read self.old → AppendsFront entry (W.taken sink.new) (bad_lines (whole_lines (read ++ bytes.now)))) }
+        ensures live { OnOk result (self.new.log.spent ≡ false) }
+        ensures few { OnOk result (self.new.number ≤ self.old.number + length bytes.now) }
+        ensures later { W.faults sink.old ≤ W.faults sink.new }
+        ensures cause { IsErrOf result Stop.Sink → Rose (W.faults sink.old) (W.faults sink.new) }
+    {
+        let mut at = 0;
+        'lines: while let Some(length) = line_length(&bytes[at..]) {
+            self.keep(&bytes[at..at + length])?;
+            self.end_line(alloc, sink)?;
+            at += length + 1;
+        }
+        self.keep(&bytes[at..])?;
+        Ok(())
+    }
+
+    /// Deals with a last line that lacks its line feed, where there is one.
+    fn end_last<W: Sink>(&mut self, alloc: Global, sink: &mut W) -> Result<(), Stop>
+        requires live { self.old.log.spent ≡ false }
+        requires few { self.old.number < 2 ^ 60 }
+        ensures ok { OnOk result ((entry : Option (List ℕ)) (read : List ℕ) → Stands entry (W.taken sink.old) read self.old → Ended entry (W.taken sink.new) read self.new) }
+        ensures err { OnErr result ((entry : Option (List ℕ)) (read : List ℕ) → Stands entry (W.taken sink.old) read self.old → AppendsFront entry (W.taken sink.new) (bad_lines (all_lines read))) }
+        ensures live { OnOk result (self.new.log.spent ≡ false) }
+        ensures later { W.faults sink.old ≤ W.faults sink.new }
+        ensures cause { IsErrOf result Stop.Sink → Rose (W.faults sink.old) (W.faults sink.new) }
+    {
+        if self.line.is_empty() {
+            return Ok(());
+        }
+        self.end_line(alloc, sink)
+    }
+
+    /// Deals with the end of the input: writes the fields, and hands all on.
+    fn finish<W: Sink>(&mut self, alloc: Global, sink: &mut W) -> Result<bool, Stop>
+        requires live { self.old.log.spent ≡ false }
+        requires few { self.old.number < 2 ^ 60 }
+        ensures ok { IfOk result (λ has_bad. (entry : Option (List ℕ)) (read : List ℕ) → Stands entry (W.taken sink.old) read self.old → (has_bad ≡ some_bad (all_lines read)) × Appends entry (W.taken sink.new) (merge_text read)) }
+        ensures err { OnErr result ((entry : Option (List ℕ)) (read : List ℕ) → Stands entry (W.taken sink.old) read self.old → AppendsFront entry (W.taken sink.new) (merge_text read)) }
+        ensures later { W.faults sink.old ≤ W.faults sink.new }
+        ensures cause { IsErrOf result Stop.Sink → Rose (W.faults sink.old) (W.faults sink.new) }
+    {
+        self.end_last(alloc, sink)?;
+        let text = self.log.field_lines()?;
+        write_all(sink, text.bytes())?;
+        sink.flush()?;
+        Ok(self.has_bad)
+    }
+}
+
+/// Takes the bytes of the source up to its end, at most one past the limit.
+fn read_all<S: Source, W: Sink>(
+    alloc: Global,
+    merge: &mut Merge,
+    source: &mut S,
+    sink: &mut W,
+) -> End
+    requires fresh { Stands (W.taken sink.old) (W.taken sink.old) [] merge.old }
+    ensures ends { (read : List ℕ) × HasRead (S.left source.old) (S.left source.new) read × EndsReading result (W.taken sink.old) (W.taken sink.new) read merge.new }
+    ensures at_end { result ≡ End.AtEnd → IsAtEnd (S.left source.new) }
+    ensures live { result ≡ End.AtEnd → merge.new.log.spent ≡ false }
+    ensures few { result ≡ End.AtEnd → merge.new.number < 2 ^ 60 }
+    ensures source { result ≡ End.SourceFailed → Rose (S.faults source.old) (S.faults source.new) }
+    ensures sink { result ≡ End.Stopped Stop.Sink → Rose (W.faults sink.old) (W.faults sink.new) }
+    ensures later { W.faults sink.old ≤ W.faults sink.new }
+{
+    let mut buffer = [0u8; PIECE];
+    let mut taken = 0;
+    'reads: loop {
+        let room = MOST_INPUT - taken;
+        let most = PIECE.min(room + 1);
+        let count = match source.read(&mut buffer[..most]) {
+            Ok(0) => return End::AtEnd,
+            Ok(count) => count,
+            Err(_) => return End::SourceFailed,
+        };
+        if let Err(stop) = merge.feed(alloc, sink, &buffer[..count.min(room)]) {
+            return End::Stopped(stop);
+        }
+        if count > room {
+            return End::TooMuch;
+        }
+        taken += count;
+    }
+}
+
+/// Merges the lines of the source, and answers the status.
+pub fn run_merge<S: Source, W: Sink>(alloc: Global, source: &mut S, sink: &mut W) -> u8
+    ensures run { MergeRun result (S.left source.old) (S.left source.new) (W.taken sink.old) (W.taken sink.new) }
+    ensures source { result ≡ 4 → Rose (S.faults source.old) (S.faults source.new) }
+    ensures sink { result ≡ 5 → Rose (W.faults sink.old) (W.faults sink.new) }
+{
+    let mut merge = match Merge::new(alloc) {
+        Ok(merge) => merge,
+        Err(NoMemory) => return NO_MEMORY,
+    };
+    match read_all(alloc, &mut merge, source, sink) {
+        End::AtEnd => match merge.finish(alloc, sink) {
+            Ok(true) => SOME_BAD,
+            Ok(false) => DONE,
+            Err(stop) => stop.status(),
+        },
+        End::SourceFailed => SOURCE_FAILED,
+        End::TooMuch => TOO_MUCH,
+        End::Stopped(stop) => stop.status(),
+    }
+}

@@ -1,0 +1,71 @@
+//! What merging makes of a line.
+ghost use Rattle.std.specs.Prelude.{◌≡◌, IfOk, Err, string_bytes};
+ghost use Rattle.field_merge.specs.Messages.{IsMessage};
+ghost use Rattle.budget_top.specs.Verdicts.{bad_line, judged_short, word_text};
+
+use field_merge::{LineFault, Message, read_line};
+use field_values::{NoMemory, Txt, TxtFault};
+use std::alloc::Global;
+
+/// Why a line is no message. The first that holds is told.
+#[derive(Clone, Copy, Debug, PartialEq, Eq)]
+pub enum Word {
+    /// It has more than 1,048,576 bytes.
+    Long,
+    /// It is no UTF-8.
+    Utf8,
+    /// It has not five parts.
+    Columns,
+    /// A backslash in it begins no escape.
+    Escape,
+    /// Its first part is no timestamp.
+    Stamp,
+    /// A name in it is not allowed.
+    Name,
+}
+
+impl Word {
+    /// The word as it is written.
+    pub fn text(self) -> &'static str
+        ensures { result.now ≡ word_text self }
+    {
+        match self {
+            Word::Long => "long",
+            Word::Utf8 => "utf8",
+            Word::Columns => "columns",
+            Word::Escape => "escape",
+            Word::Stamp => "stamp",
+            Word::Name => "name",
+        }
+    }
+}
+
+/// The message of a line that is short enough, or the word for what is wrong with it.
+#[tactic(auto, unfolding(crate::specs::Verdicts::judged_short))]
+pub fn judge(alloc: Global, line: &[u8]) -> Result<Result<Message, Word>, NoMemory>
+    ensures verdict { IfOk result (λ verdict. verdict ≡ judged_short line.now) }
+    ensures valid { IfOk result (λ verdict. IfOk verdict IsMessage) }
+{
+    let text = match Txt::make(alloc, line) {
+        Ok(text) => text,
+        Err(TxtFault::NoMemory) => return Err(NoMemory),
+        Err(TxtFault::NotUtf8 { .. }) => return Ok(Err(Word::Utf8)),
+    };
+    match read_line(alloc, &text) {
+        Ok(message) => Ok(Ok(message)),
+        Err(LineFault::Columns { .. }) => Ok(Err(Word::Columns)),
+        Err(LineFault::Escape { .. }) => Ok(Err(Word::Escape)),
+        Err(LineFault::Stamp(_)) => Ok(Err(Word::Stamp)),
+        Err(LineFault::Name(_)) => Ok(Err(Word::Name)),
+        Err(LineFault::NoMemory) => Err(NoMemory),
+    }
+}
+
+/// The line that tells of a bad line, which has this number.
+pub fn bad_line_text(alloc: Global, number: u64, word: Word) -> Result<String, NoMemory>
+    ensures { IfOk result (λ text. string_bytes text ≡ bad_line number (Err word)) }
+{
+    let word = word.text();
+    let text = format!(in alloc; "bad-line {number} {word}\n")?;
+    Ok(text)
+}

@@ -1,0 +1,21 @@
+//! Writes whole texts.
+ghost use Rattle.std.specs.Prelude.{OnOk, OnErr};
+ghost use Rattle.std.specs.Io.KnownBytes.{Appends};
+ghost use Rattle.budget_ports.specs.Faults.{HasCause};
+ghost use Rattle.budget_top.specs.Fronts.{AppendsFront};
+
+use budget_ports::{Failed, Sink};
+
+/// Writes all of the bytes, in as many pieces as the sink takes. Where it fails, a front of them
+/// was written.
+pub fn write_all<W: Sink>(sink: &mut W, bytes: &[u8]) -> Result<(), Failed>
+    ensures all { OnOk result (Appends (W.taken sink.old) (W.taken sink.new) bytes.now) }
+    ensures front { OnErr result (AppendsFront (W.taken sink.old) (W.taken sink.new) bytes.now) }
+    ensures cause { HasCause (W.faults sink.old) (W.faults sink.new) result }
+{
+    let mut at = 0;
+    while at < bytes.len() {
+        at += sink.write(&bytes[at..])?;
+    }
+    Ok(())
+}
