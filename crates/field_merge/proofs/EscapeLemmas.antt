@@ -1,12 +1,12 @@
 -- Escapes: what stands before, at and behind a backslash.
-use Rattle.std.proofs.Common.{◌≡◌, ◌≢◌, ℕ, zero, suc, ◌+◌, ◌<◌, Bool, true, false, cond, ◌&&◌, ◌||◌, ◌==◌, eqb, List, [], ◌∷◌, ◌++◌, length, get_or, take, drop, Option, None, Some, MatchOption, Bor, not, ◌≤◌, nat_lt, refl, ap, sym, subst, ◌∙◌, arith, append_assoc, length-append, one-add}
+use Rattle.std.proofs.Common.{◌≡◌, ◌≢◌, ℕ, zero, suc, ◌+◌, ◌<◌, Bool, true, false, cond, ◌||◌, ◌==◌, eqb, List, [], ◌∷◌, ◌++◌, length, get_or, take, drop, Option, None, Some, MatchOption, Bor, not, ◌≤◌, nat_lt, refl, ap, sym, subst, ◌∙◌, arith, append_assoc, length-append, one-add}
 use Rattle.std.specs.List.{position, position_or_len}
 use Rattle.std.proofs.lemmas.Bool.{ne_eqb, eqb-true, ltb-false, or_parts}
 use Rattle.std.proofs.lemmas.Bool.Decides.{nat_tests}
 use Rattle.std.proofs.lemmas.List.{append-nil, take_all, drop_all, drop_more}
 use Rattle.std.proofs.lemmas.List.Quantifiers.{position-Some}
 use Rattle.std.proofs.lemmas.Option.{cond_some}
-use Rattle.field_merge.specs.Escapes.{escaped, escaped_byte, is_special, is_letter, is_escape, meaning, unescaped, later, bad_escape}
+use Rattle.field_merge.specs.Escapes.{escaped, escaped_byte, is_special, is_letter, unescaped, later, bad_escape}
 
 -- each byte of the text fails the test
 abbrev pub Fails : (ℕ → Bool) → List ℕ → Type 0
@@ -123,6 +123,15 @@ later-later m n (Some k) = ap Some (omega arith)
 pub bad_escape-plain : (x : ℕ) (xs : List ℕ) → eqb x 92 ≡ false → bad_escape (x ∷ xs) ≡ later 1 (bad_escape xs)
 bad_escape-plain x [] h = rw h refl
 bad_escape-plain x (c ∷ rest) h = rw h refl
+
+bad_escape-whole : (xs : List ℕ) → Lacks 92 xs → bad_escape xs ≡ None
+bad_escape-whole [] h = refl
+bad_escape-whole (x ∷ xs) h = bad_escape-plain x xs h.0 ∙ ap (later 1) (bad_escape-whole xs h.1)
+
+-- a text without a backslash has no bad escape
+pub bad_escape-cut : (bs : List ℕ) (r : Option (Bor (List ℕ) × Bor (List ℕ))) → CutsAt 92 bs r → MatchOption r (bad_escape bs ≡ None) (λ p. Unit {0})
+bad_escape-cut bs None h = bad_escape-whole bs (Lacks-from_reads 92 bs h)
+bad_escape-cut bs (Some x) h = tt
 
 pub bad_escape-pair : (c : ℕ) (rest : List ℕ) → is_letter c ≡ true → bad_escape (92 ∷ c ∷ rest) ≡ later 2 (bad_escape rest)
 bad_escape-pair c rest h = rw h refl

@@ -1,12 +1,11 @@
 -- The parts of a line.
-use Rattle.std.proofs.Common.{◌≡◌, ◌≢◌, ℕ, suc, ◌+◌, ◌<◌, Bool, true, false, eqb, List, [], ◌∷◌, ◌++◌, length, Option, None, Some, MatchOption, Bor, refl, ap, sym, subst, ◌∙◌, arith, zero, IfOk, append_assoc, Result, Ok, Err}
+use Rattle.std.proofs.Common.{◌≡◌, ◌≢◌, ℕ, suc, ◌+◌, List, [], ◌∷◌, ◌++◌, length, Option, None, Some, MatchOption, Bor, refl, ap, sym, subst, ◌∙◌, arith, zero, IfOk, append_assoc, Result, Ok, Err}
 use Rattle.std.specs.Prelude.{count_by, ◌==◌, All}
-use Rattle.std.specs.List.{slice_split, onto_first}
 use Rattle.std.proofs.lemmas.Bool.{eqb-false}
 use Rattle.std.proofs.lemmas.List.{append-nil}
 use Rattle.std.proofs.lemmas.List.Splits.{length-slice_split}
 use Rattle.field_values.specs.Names.{FieldNames, field_of, names_fault}
-use Rattle.field_values.specs.Value.{value_text, value_of}
+use Rattle.field_values.specs.Value.{value_text}
 use Rattle.field_values.proofs.NameLemmas.{names_fault-none, names_without_fault}
 use Rattle.field_values.proofs.Values.{value_of_text, texts_write_back_lem}
 use Rattle.hybrid_clock.specs.declared.stamp.Stamp.{Stamp}
@@ -18,10 +17,10 @@ use Rattle.hybrid_clock.proofs.Texts.{read_valid}
 use Rattle.hybrid_clock.proofs.Writing.{text_reads}
 use Rattle.field_merge.specs.declared.message.Message.{Message}
 use Rattle.field_merge.specs.declared.line.LineFault.{LineFault}
-use Rattle.field_merge.specs.declared.line.LineFault.TheVariants.{Columns, Escape, Stamp as BadStamp, Name as BadName}
+use Rattle.field_merge.specs.declared.line.LineFault.TheVariants.{Columns}
 use Rattle.field_merge.specs.Escapes.{escaped, unescaped, bad_escape}
 use Rattle.field_merge.specs.Messages.{IsMessage, message_line}
-use Rattle.field_merge.specs.Lines.{parts, with_names, with_stamp, message_of, of_parts, reading}
+use Rattle.field_merge.specs.Lines.{parts, with_names, with_stamp, of_parts, reading}
 use Rattle.field_merge.proofs.EscapeLemmas.{Lacks, Lacks-from_reads, CutsAt, Fails-append, unescaped-escaped, escaped-no_tab, escaped-no_feed, bad_escape-escaped, bad_escape-tab}
 
 pub parts-none : (xs : List ℕ) → Lacks 9 xs → parts xs ≡ xs ∷ []

@@ -1,5 +1,5 @@
 //! The escapes of a line's parts: `\0`, `\t`, `\n` and `\\` for the bytes 0, 9, 10 and 92.
-ghost use Rattle.std.specs.Prelude.{◌≡◌, ◌<◌, ◌≤◌, ◌++◌, ◌∷◌, length, IfOk, IsTrue, OnOk, MatchOption, position, string_bytes};
+ghost use Rattle.std.specs.Prelude.{None, ◌≡◌, ◌<◌, ◌≤◌, ◌++◌, ◌∷◌, length, IfOk, IsTrue, OnOk, MatchOption, position, string_bytes};
 ghost use Rattle.std.specs.Bool.{OnTrue};
 ghost use Rattle.field_merge.specs.Escapes as spec;
 ghost use Rattle.field_merge.specs.Escapes.{escaped, escaped_byte, unescaped};
@@ -41,17 +41,30 @@ struct Cut<'a> {
 
 /// Cuts at the first backslash.
 fn cut_backslash(part: &str) -> Option<(&str, &str)>
-    ensures { MatchOption result (unescaped part.now ≡ part.now)
+    ensures cut { MatchOption result (unescaped part.now ≡ part.now)
         (λ p. (unescaped part.now ≡ p.0.now ++ unescaped (92 ∷ p.1.now)) × (length p.1.now < length part.now)) }
+    ensures plain { MatchOption result (spec.bad_escape part.now ≡ None) (λ p. Unit {0}) }
 {
     part.split_once('\\')
 }
 
 /// Whether a part stands for itself, since it has no backslash.
 pub(crate) fn is_plain(part: &str) -> bool
-    ensures { OnTrue result (unescaped part.now ≡ part.now) }
+    ensures whole { OnTrue result (unescaped part.now ≡ part.now) }
+    ensures good { OnTrue result (spec.bad_escape part.now ≡ None) }
 {
     cut_backslash(part).is_none()
+}
+
+/// The place of the first backslash that begins no escape. Most lines have no backslash at all.
+pub(crate) fn bad_escape_in(line: &str) -> Option<usize>
+    ensures { result ≡ spec.bad_escape line.now }
+{
+    if is_plain(line) {
+        None
+    } else {
+        bad_escape(line.as_bytes())
+    }
 }
 
 /// What stands behind a backslash: the byte that the two stand for, and the text after them.

@@ -11,12 +11,15 @@ ghost use Rattle.field_merge.specs.Lines.{reading, parts, of_parts, IsFaultIn};
 ghost use Rattle.field_merge.specs.Messages.{IsMessage, message_line};
 ghost use Rattle.field_merge.specs.declared.line.LineFault.TheVariants.{NoMemory as OutOfMemory};
 
-use crate::escape::{bad_escape, is_plain, push_escaped, unescape};
+use crate::escape::{bad_escape_in, is_plain, push_escaped, unescape};
 use crate::message::Message;
 use field_values::{Field, NameFault, NoMemory, Txt, Value};
 use hybrid_clock::{Stamp, StampFault};
 use std::alloc::Global;
 use std::str;
+
+/// Room for most lines.
+const ROOM: usize = 160;
 
 /// Why a line is refused. The causes are tested in this order, over the whole line each.
 #[derive(Clone, Copy, Debug, PartialEq, Eq)]
@@ -172,7 +175,7 @@ pub fn read_line(alloc: Global, line: &Txt) -> Result<Message, LineFault>
             found: count_parts(line.bytes()),
         });
     };
-    if let Some(at) = bad_escape(line.bytes()) {
+    if let Some(at) = bad_escape_in(line.as_str()) {
         return Err(LineFault::Escape { at });
     }
     message_in(alloc, &parts)
@@ -226,7 +229,7 @@ pub fn write_line(alloc: Global, message: &Message) -> Result<Txt, NoMemory>
     ensures line { IfOk result (λ t. t ≡ message_line message.now) }
     ensures reads_back { IfOk result (λ t. reading t ≡ Ok message.now) }
 {
-    let mut line = String::new(alloc);
+    let mut line = String::with_capacity(alloc, ROOM)?;
     push_line(alloc, &mut line, message)?;
     Ok(Txt::new(line))
 }

@@ -1,5 +1,5 @@
 -- The place in the rest, moved on over one byte or over an escape.
-use Rattle.std.proofs.Common.{◌≢◌, ◌≤◌, length, get_or, sym, arith}
+use Rattle.std.proofs.Common.{sym, arith}
 use Rattle.field_merge.specs.Escapes as spec
 use Rattle.field_merge.proofs.EscapeLemmas.{later-zero, bad_escape-on, bad_escape-over}
 use Rattle.field_merge.proofs.escape.bad_escape.Goals as goal

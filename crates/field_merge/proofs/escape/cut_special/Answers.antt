@@ -1,5 +1,5 @@
 -- A special byte is ASCII, so the text may be cut before and behind it.
-use Rattle.std.proofs.Common.{◌≡◌, ◌<◌, None, Some, length, drop, arith, sym}
+use Rattle.std.proofs.Common.{◌≡◌, ◌<◌, None, Some, length, arith, sym}
 use Rattle.std.specs.List.{position}
 use Rattle.std.proofs.lemmas.Str.{IsCharBoundary-before_ascii, IsCharBoundary-after_ascii}
 use Rattle.field_merge.specs.Escapes as spec
