@@ -1,0 +1,63 @@
+-- Where two tries differ: a walk over the strings of digits.
+use Rattle.std.specs.Prelude.{ℕ, zero, suc, ◌+◌, ◌*◌, ◌^◌, List, [], ◌∷◌, Option, Some, None, Bool, true, false, eqb, if◌then◌else◌}
+use Rattle.minute_trie.specs.declared.key.Digit.{Digit}
+use Rattle.minute_trie.specs.declared.key.Digit.TheVariants.{Zero, One, Two}
+use Rattle.minute_trie.specs.declared.walk.Turn.{Turn}
+use Rattle.minute_trie.specs.declared.walk.Turn.TheVariants.{On, Down, Stop}
+use Rattle.minute_trie.specs.Held.{Held, after}
+
+-- what the walk does at a child: it goes on to the next where neither side has it or both have one hash there,
+-- it goes down where the hashes are two, and it stops where one side alone has it
+abbrev pub turn_of : Option ℕ → Option ℕ → Turn
+turn_of None None = On
+turn_of None (Some b) = Stop
+turn_of (Some a) None = Stop
+turn_of (Some a) (Some b) = if eqb a b then On else Down
+
+abbrev pub turn_at : Digit → Held → Held → Turn
+turn_at d f g = turn_of (f (d ∷ [])) (g (d ∷ []))
+
+abbrev pub taking : Turn → Digit → Option Digit → Option Digit
+taking On d next = next
+taking Down d next = Some d
+taking Stop d next = None
+
+-- the digit by which the walk goes down, if it does
+abbrev pub way_down : Held → Held → Option Digit
+way_down f g = taking (turn_at Zero f g) Zero (taking (turn_at One f g) One (taking (turn_at Two f g) Two None))
+
+abbrev pub led : (Digit → List Digit) → Option Digit → List Digit
+led below None = []
+led below (Some d) = d ∷ below d
+
+-- the string where the walk ends, after so many steps at most
+abbrev pub walk : ℕ → Held → Held → List Digit
+walk zero f g = []
+walk (suc n) f g = led (λ d. walk n (after d f) (after d g)) (way_down f g)
+
+abbrev pub worth : Digit → ℕ
+worth Zero = 0
+worth One = 1
+worth Two = 2
+
+-- the number of a string that is padded on the right with zeros to n digits
+abbrev pub padded : ℕ → List Digit → ℕ
+padded n [] = 0
+padded zero (d ∷ p) = 0
+padded (suc n) (d ∷ p) = worth d * 3 ^ n + padded n p
+
+abbrev pub same_hash : Option ℕ → Option ℕ → Bool
+same_hash None None = true
+same_hash (Some a) (Some b) = eqb a b
+same_hash a b = false
+
+-- the string where the walk ends, and its minute
+unfoldable pub stop : Held → Held → List Digit
+stop f g = walk 16 f g
+
+abbrev pub minute_of : List Digit → ℕ
+minute_of s = padded 16 s
+
+-- the moment of the difference in milliseconds since 1970, or none where the two have one hash at the root
+abbrev pub difference : Held → Held → Option ℕ
+difference f g = if same_hash (f []) (g []) then None else Some (minute_of (stop f g) * 60_000)

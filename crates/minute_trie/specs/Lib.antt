@@ -1,0 +1,11 @@
+pub mod Key
+pub mod Pruned
+pub mod Murmur
+pub mod Held
+pub mod Trie
+pub mod Adding
+pub mod Diff
+pub mod Json
+pub mod Faults
+pub mod Rounds
+pub mod Steps

@@ -1,0 +1,95 @@
+//! A node of the trie, with the nodes below it.
+ghost use Rattle.std.specs.Prelude.{◌≡◌, OnOk, List, ◌∷◌, [], Some};
+ghost use Rattle.minute_trie.specs.Held.{at_node, at_below};
+ghost use Rattle.minute_trie.specs.Adding.{added, thin};
+ghost use Rattle.minute_trie.specs.Pruned.{pruned};
+
+use crate::key::Digit;
+use field_values::NoMemory;
+use std::alloc::Global;
+
+/// The XOR of the hashes below, as a pattern of 32 bits, and the children that are there.
+#[derive(Drop)]
+pub struct Node {
+    pub hash: u32,
+    pub zero: Option<Box<Node>>,
+    pub one: Option<Box<Node>>,
+    pub two: Option<Box<Node>>,
+}
+
+impl Node {
+    /// The root of the empty trie.
+    pub fn new() -> Node
+        ensures { (p : List Digit) → at_node result p ≡ pruned [] p }
+    {
+        Node {
+            hash: 0,
+            zero: None,
+            one: None,
+            two: None,
+        }
+    }
+
+    pub fn hash(&self) -> u32
+        ensures { at_node self.now [] ≡ Some result }
+    {
+        self.hash
+    }
+
+    pub fn child(&self, digit: Digit) -> &Option<Box<Node>>
+        ensures { (p : List Digit) → at_below result.now p ≡ at_node self.now (digit ∷ p) }
+    {
+        match digit {
+            Digit::Zero => &self.zero,
+            Digit::One => &self.one,
+            Digit::Two => &self.two,
+        }
+    }
+
+    /// Adds the hash on the way that the key names.
+    #[cycle(insert)]
+    pub fn insert(&mut self, alloc: Global, key: &[Digit], hash: u32) -> Result<(), NoMemory>
+        ensures { OnOk result ((p : List Digit) → at_node self.new p ≡ added key.now hash (at_node self.old) p) }
+    {
+        self.hash ^= hash;
+        if let Some((digit, rest)) = key.split_first() {
+            match digit {
+                Digit::Zero => insert_below(&mut self.zero, alloc, rest, hash)?,
+                Digit::One => insert_below(&mut self.one, alloc, rest, hash)?,
+                Digit::Two => insert_below(&mut self.two, alloc, rest, hash)?,
+            }
+            self.prune();
+        }
+        Ok(())
+    }
+
+    /// Keeps the two greatest children.
+    fn prune(&mut self)
+        ensures { (p : List Digit) → at_node self.new p ≡ thin (at_node self.old) p }
+    {
+        if self.one.is_some() && self.two.is_some() {
+            self.zero = None;
+        }
+    }
+}
+
+/// Adds the hash below a child, which is made if it is not there.
+#[cycle(insert)]
+fn insert_below(
+    child: &mut Option<Box<Node>>,
+    alloc: Global,
+    key: &[Digit],
+    hash: u32,
+) -> Result<(), NoMemory>
+    ensures { OnOk result ((p : List Digit) → at_below child.new p ≡ added key.now hash (at_below child.old) p) }
+{
+    match child {
+        Some(node) => node.insert(alloc, key, hash),
+        None => {
+            let mut node = Node::new();
+            node.insert(alloc, key, hash)?;
+            *child = Some(Box::new(alloc, node)?);
+            Ok(())
+        }
+    }
+}
