@@ -14,34 +14,94 @@ fn kept(alloc: Global, key: &str, body: &str) -> Result<Kept, NoMemory>
     })
 }
 
+/// Appends `b`, `a` and `b` again to a group.
+fn append_three(alloc: Global, keeper: &mut MemoryKeeper, group: &str) -> Result<(), PortFault> {
+    let group = Txt::from_text(alloc, group)?;
+    let b = kept(alloc, "b", "2")?;
+    let a = kept(alloc, "a", "1")?;
+    let again = kept(alloc, "b", "3")?;
+    keeper.append(&group, &[b, a, again])
+}
+
+/// Appends `c` to a group.
+fn append_one(alloc: Global, keeper: &mut MemoryKeeper, group: &str) -> Result<(), PortFault> {
+    let group = Txt::from_text(alloc, group)?;
+    let c = kept(alloc, "c", "4")?;
+    keeper.append(&group, &[c])
+}
+
+/// The records of a group after a key, each as its key and its body.
+fn shown(
+    alloc: Global,
+    keeper: &mut MemoryKeeper,
+    group: &str,
+    after: &str,
+) -> Result<String, PortFault> {
+    let group = Txt::from_text(alloc, group)?;
+    let after = Txt::from_text(alloc, after)?;
+    let found = keeper.since(&group, &after)?;
+    let mut text = String::new(alloc);
+    for record in found.as_slice() {
+        push(&mut text, record.key.as_str())?;
+        push(&mut text, record.body.as_str())?;
+    }
+    Ok(text)
+}
+
+fn push(text: &mut String, more: &str) -> Result<(), NoMemory> {
+    text.push_str(more)?;
+    Ok(())
+}
+
 /// A keeper whose third call fails, so that its batch is not there afterwards.
 #[test]
-fn keeper_keeps_what_it_answers(rt: HostRuntime) -> Result<(), Fail> {
+fn keeper_keeps_records(rt: HostRuntime) -> Result<(), Fail> {
     let alloc = rt.alloc();
     let mut keeper = MemoryKeeper::with_faults(alloc, [2].to_vec(alloc)?);
-    let group = Txt::from_text(alloc, "book")?;
-    let other = Txt::from_text(alloc, "bookshelf")?;
-    let (b, a, again) = (
-        kept(alloc, "b", "2")?,
-        kept(alloc, "a", "1")?,
-        kept(alloc, "b", "3")?,
+    assert!(rt; append_three(alloc, &mut keeper, "book").is_ok());
+    assert!(rt; append_one(alloc, &mut keeper, "bookshelf").is_ok());
+    assert_eq!(rt;
+        append_one(alloc, &mut keeper, "book"),
+        Err(PortFault::Failed)
     );
-    let batch = [b, a, again];
-    keeper.append(&group, &batch)?;
-    let late = [kept(alloc, "c", "4")?];
-    keeper.append(&other, &late)?;
-    assert_eq!(rt; keeper.append(&group, &late), Err(PortFault::Failed));
-    let start = Txt::from_text(alloc, "")?;
-    let all = keeper.since(&group, &start)?;
-    assert!(rt; all.as_slice() == [kept(alloc, "a", "1")?, kept(alloc, "b", "2")?].as_slice());
-    let first = Txt::from_text(alloc, "a")?;
-    let later = keeper.since(&group, &first)?;
-    assert!(rt; later.as_slice() == [kept(alloc, "b", "2")?].as_slice());
-    keeper.put(&other, &group)?;
-    keeper.put(&group, &other)?;
-    assert_eq!(rt; keeper.get(&other)?, Some(Txt::from_text(alloc, "book")?));
-    assert_eq!(rt; keeper.get(&start)?, None);
-    assert!(rt; keeper.names()?.as_slice() == [group, other].as_slice());
+    for (group, after, expected) in [
+        ("book", "", "a1b2"),
+        ("book", "a", "b2"),
+        ("bookshelf", "b", "c4"),
+        ("boo", "", ""),
+    ] {
+        assert_eq!(rt; shown(alloc, &mut keeper, group, after)?.as_str(), expected);
+    }
+    Ok(())
+}
+
+fn put(alloc: Global, keeper: &mut MemoryKeeper, name: &str, text: &str) -> Result<(), PortFault> {
+    let name = Txt::from_text(alloc, name)?;
+    let text = Txt::from_text(alloc, text)?;
+    keeper.put(&name, &text)
+}
+
+/// The text of a name, or `none`.
+fn text_of(alloc: Global, keeper: &mut MemoryKeeper, name: &str) -> Result<Txt, PortFault> {
+    let name = Txt::from_text(alloc, name)?;
+    match keeper.get(&name)? {
+        Some(text) => Ok(text),
+        None => Ok(Txt::from_text(alloc, "none")?),
+    }
+}
+
+/// Texts under names, of which the second `put` of one replaces the first.
+#[test]
+fn keeper_keeps_texts(rt: HostRuntime) -> Result<(), Fail> {
+    let alloc = rt.alloc();
+    let mut keeper = MemoryKeeper::new(alloc);
+    for (name, text) in [("b", "1"), ("a", "2"), ("b", "3")] {
+        assert!(rt; put(alloc, &mut keeper, name, text).is_ok());
+    }
+    for (name, text) in [("a", "2"), ("b", "3"), ("c", "none")] {
+        assert_eq!(rt; text_of(alloc, &mut keeper, name)?.as_str(), text);
+    }
+    assert_eq!(rt; keeper.names()?.len(), 2);
     Ok(())
 }
 
