@@ -7,3 +7,4 @@ pub mod Feeding
 pub mod Ending
 pub mod Running
 pub mod Judging
+pub mod Finding

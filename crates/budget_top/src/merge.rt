@@ -15,7 +15,9 @@ use crate::write::write_all;
 use budget_ports::{Sink, Source};
 use field_merge::{Log, Message};
 use field_values::NoMemory;
+use memchr::memchr;
 use std::alloc::Global;
+use std::mem;
 
 /// The most bytes of input that a run takes.
 const MOST_INPUT: usize = 1_073_741_824;
@@ -49,7 +51,7 @@ pub enum End {
 fn line_length(bytes: &[u8]) -> Option<usize>
     ensures { result ≡ position is_end bytes.now }
 {
-    bytes.iter().position(|byte| *byte == b'\n')
+    memchr(b'\n', bytes)
 }
 
 impl Merge {
@@ -221,17 +223,19 @@ fn read_all<S: Source, W: Sink>(
     }
 }
 
-/// Merges the lines of the source, and answers the status.
-pub fn run_merge<S: Source, W: Sink>(alloc: Global, source: &mut S, sink: &mut W) -> u8
+/// Merges the lines of the source into a merge that has read nothing.
+fn merge_lines<S: Source, W: Sink>(
+    alloc: Global,
+    merge: &mut Merge,
+    source: &mut S,
+    sink: &mut W,
+) -> u8
+    requires fresh { Stands (W.taken sink.old) (W.taken sink.old) [] merge.old }
     ensures run { MergeRun result (S.left source.old) (S.left source.new) (W.taken sink.old) (W.taken sink.new) }
     ensures source { result ≡ 4 → Rose (S.faults source.old) (S.faults source.new) }
     ensures sink { result ≡ 5 → Rose (W.faults sink.old) (W.faults sink.new) }
 {
-    let mut merge = match Merge::new(alloc) {
-        Ok(merge) => merge,
-        Err(NoMemory) => return NO_MEMORY,
-    };
-    match read_all(alloc, &mut merge, source, sink) {
+    match read_all(alloc, merge, source, sink) {
         End::AtEnd => match merge.finish(alloc, sink) {
             Ok(true) => SOME_BAD,
             Ok(false) => DONE,
@@ -241,4 +245,21 @@ pub fn run_merge<S: Source, W: Sink>(alloc: Global, source: &mut S, sink: &mut W
         End::TooMuch => TOO_MUCH,
         End::Stopped(stop) => stop.status(),
     }
+}
+
+/// Merges the lines of the source, and answers the status.
+///
+/// The program ends after a run, so the log isn't taken apart: that would cost a fifth of the time.
+pub fn run_merge<S: Source, W: Sink>(alloc: Global, source: &mut S, sink: &mut W) -> u8
+    ensures run { MergeRun result (S.left source.old) (S.left source.new) (W.taken sink.old) (W.taken sink.new) }
+    ensures source { result ≡ 4 → Rose (S.faults source.old) (S.faults source.new) }
+    ensures sink { result ≡ 5 → Rose (W.faults sink.old) (W.faults sink.new) }
+{
+    let mut merge = match Merge::new(alloc) {
+        Ok(merge) => merge,
+        Err(NoMemory) => return NO_MEMORY,
+    };
+    let status = merge_lines(alloc, &mut merge, source, sink);
+    mem::forget(merge);
+    status
 }

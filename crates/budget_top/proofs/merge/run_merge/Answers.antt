@@ -1,15 +1,5 @@
-use Rattle.budget_top.proofs.Running.{run_too_much, run_stopped, run_untouched}
+use Rattle.budget_top.proofs.Running.{run_untouched}
 use Rattle.budget_top.proofs.merge.run_merge.Goals as goal
 
 pub returns-in-Err-clause-run : goal.returns-in-Err-clause-run
 returns-in-Err-clause-run g c = run_untouched (g.S.Source.left c.args.source.now) (g.W.Sink.taken c.args.sink.now)
-
-pub returns-in-TooMuch-clause-run : goal.returns-in-TooMuch-clause-run
-returns-in-TooMuch-clause-run g c =
-    let e = c.in-TooMuch.ensures.ends in
-    run_too_much (g.S.Source.left c.args.source.now) (g.S.Source.left c.read_all.new.source) (g.W.Sink.taken c.args.sink.now) (g.W.Sink.taken c.read_all.new.sink) e.0 e.1 e.2.0 e.2.1
-
-pub returns-clause-run : goal.returns-clause-run
-returns-clause-run g c =
-    let e = c.in-Stopped.ensures.ends in
-    run_stopped (g.S.Source.left c.args.source.now) (g.S.Source.left c.read_all.new.source) (g.W.Sink.taken c.args.sink.now) (g.W.Sink.taken c.read_all.new.sink) e.0 c.in-Stopped.stop c.status-in-Stopped.result c.status-in-Stopped.ensures e.1 e.2
