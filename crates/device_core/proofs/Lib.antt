@@ -1,0 +1,6 @@
+pub mod Members
+pub mod Stamping
+pub mod Greatest
+pub mod Starting
+pub mod Keeping
+pub mod Writing

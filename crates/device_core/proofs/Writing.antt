@@ -1,0 +1,43 @@
+-- What writes and edits come to, by the number of writes.
+use Rattle.std.proofs.Common.{◌≡◌, ℕ, suc, ◌+◌, ◌-◌, ◌<◌, ◌≤◌, Bool, true, false, cond, List, [], ◌∷◌, length, Result, Ok, Err, refl, sym, ap, ◌∙◌, subst, arith}
+use Rattle.std.specs.Prelude.{nat_lt}
+use Rattle.std.proofs.lemmas.Bool.{cases_Bool}
+use Rattle.std.proofs.lemmas.Bool.Decides.{nat_tests}
+use Rattle.hybrid_clock.specs.declared.stamp.Stamp.{Stamp}
+use Rattle.hybrid_clock.specs.Clock.{draw}
+use Rattle.device_core.specs.declared.edit.Edit.{Edit}
+use Rattle.device_core.specs.declared.edit.Write.{Write}
+use Rattle.device_core.specs.declared.edit.EditFault.{EditFault}
+use Rattle.device_core.specs.declared.edit.EditFault.TheVariants.{BadId, TooManyWrites, NoMemory as OutOfMemory}
+use Rattle.device_core.specs.declared.edit.LineRefusal.{LineRefusal}
+use Rattle.device_core.specs.declared.edit.LineRefusal.TheVariants.{Edit as OfEdit}
+use Rattle.device_core.specs.Edits.{writes_of, IsFaultOf}
+use Rattle.device_core.specs.Device.{State, Accepted, at_rest, written, writing, edited, first_of}
+
+pub writing_none : (s : State) (reading : ℕ) (ws : List Write) → length ws ≡ 0 → writing s reading (Ok ws) ≡ Ok (record { device = at_rest s; count = 0 })
+writing_none s reading [] none = refl
+writing_none s reading (w ∷ ws) none = absurd (omega arith)
+
+pub writing_many : (s : State) (reading : ℕ) (ws : List Write) → 65_536 < length ws → writing s reading (Ok ws) ≡ Err (OfEdit (TooManyWrites (length ws)))
+writing_many s reading [] many = absurd (omega arith)
+writing_many s reading (w ∷ ws) many =
+    let test : nat_lt 65_536 (length (w ∷ ws)) ≡ true = grind (arith, nat_tests) in rw test refl
+
+pub writing_some : (s : State) (reading : ℕ) (ws : List Write) → 0 < length ws → length ws ≤ 65_536 → writing s reading (Ok ws) ≡ written s ws (draw s.clock reading (length ws))
+writing_some s reading [] some few = absurd (omega arith)
+writing_some s reading (w ∷ ws) some few =
+    let test : nat_lt 65_536 (length (w ∷ ws)) ≡ false = grind (arith, nat_tests) in rw test refl
+
+pub ruleset writings = (writing_none, writing_many, writing_some)
+
+-- the first of timestamps in a row, by the last
+pub first_is : (clock first : Stamp) (n : ℕ) → clock ≡ record first { counter = first.counter + (n - 1) } → first_of clock n ≡ first
+first_is clock first n row =
+    let back : (first.counter + (n - 1)) - (n - 1) ≡ first.counter = omega arith in
+    ap (λ (c : Stamp). record c { counter = c.counter - (n - 1) }) row ∙ ap (λ (k : ℕ). record first { counter = k }) back
+
+-- an edit is refused for its own fault
+pub edit_refused : (s : State) (edit : Edit) (reading : ℕ) (fault : EditFault) → (fault ≡ OutOfMemory → ⊥) → IsFaultOf (writes_of edit) fault → edited s edit reading ≡ Err (OfEdit fault)
+edit_refused s edit reading (BadId id) other is = ap (writing s reading) is
+edit_refused s edit reading (TooManyWrites n) other is = ap (writing s reading) is
+edit_refused s edit reading OutOfMemory other is = absurd (other refl)

@@ -1,0 +1,17 @@
+use Rattle.std.proofs.Common.{◌≡◌, ◌∙◌, ap, sym, subst}
+use Rattle.hybrid_clock.specs.declared.stamp.Stamp.{Stamp}
+use Rattle.hybrid_clock.specs.Clock.{clock_after}
+use Rattle.budget_ports.specs.Keeper.{HaveKeys}
+use Rattle.device_core.specs.Device.{IsAhead}
+use Rattle.device_core.proofs.Greatest.{after_ahead}
+use Rattle.device_core.proofs.Starting.{rising_set}
+use Rattle.device_core.proofs.device.Device.start.Goals as goal
+
+pub invariant_of-result : goal.invariant_of-result
+invariant_of-result c = λ _.
+    let ms = c.in_ok-log.log.messages in record {
+      live = c.in_ok-log.ensures.live;
+      valid = c.in_ok-log.ensures.valid;
+      ahead = subst (λ (s : Stamp). IsAhead s ms) (sym (c.new-clock.ensures ∙ ap (clock_after c.args.node) c.last.ensures)) (after_ahead c.args.node ms (rising_set c.args.items.now ms c.in_ok-log.ensures.messages));
+      keys = subst HaveKeys (sym c.new.ensures.items) tt;
+    }

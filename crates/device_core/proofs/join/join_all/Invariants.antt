@@ -1,0 +1,14 @@
+use Rattle.std.proofs.Common.{◌≡◌, ◌++◌, drop, map, false}
+use Rattle.field_merge.specs.Log.{join}
+use Rattle.field_merge.specs.Messages.{AreMessages}
+use Rattle.device_core.specs.Records.{record_of}
+use Rattle.device_core.specs.Device.{new_in}
+use Rattle.device_core.proofs.join.join_all.Given as goal
+
+abbrev pub invariant-loop-message : goal.invariant-loop-message
+invariant-loop-message l = record {
+  live : l.log.spent ≡ false;
+  rest : join l.log.messages (drop l.message-index l.messages) ≡ join l.fn.log.messages l.messages;
+  batch : l.batch.items ++ map record_of (new_in l.log.messages (drop l.message-index l.messages)) ≡ l.fn.batch.items ++ map record_of (new_in l.fn.log.messages l.messages);
+  valid : AreMessages (drop l.message-index l.messages);
+}

@@ -1,0 +1,12 @@
+use Rattle.std.proofs.Common.{◌≡◌, ◌∙◌, ap, sym, subst}
+use Rattle.field_merge.specs.Log.{LogState}
+use Rattle.field_merge.specs.Messages.{AreMessages}
+use Rattle.device_core.proofs.Starting.{kept_after, kept_is}
+use Rattle.device_core.proofs.join.read_log.Goals as goal
+
+pub loop-index-init : goal.loop-index-init
+loop-index-init c = record {
+  rest = ap (λ (l : LogState). kept_after l.messages 0 c.args.items.now) c.in_ok-log.ensures ∙ kept_is c.args.items.now;
+  live = ap (λ (l : LogState). l.spent) c.in_ok-log.ensures;
+  valid = subst (λ (l : LogState). AreMessages l.messages) (sym c.in_ok-log.ensures) tt;
+}

@@ -1,0 +1,12 @@
+use Rattle.std.proofs.Common.{◌≡◌, drop, false}
+use Rattle.field_merge.specs.Messages.{AreMessages}
+use Rattle.device_core.specs.Records.{kept_set}
+use Rattle.device_core.proofs.Starting.{kept_after}
+use Rattle.device_core.proofs.join.read_log.Given as goal
+
+abbrev pub invariant-loop-index : goal.invariant-loop-index
+invariant-loop-index l = record {
+  rest : kept_after l.log.messages l.index (drop l.index l.items) ≡ kept_set l.items;
+  live : l.log.spent ≡ false;
+  valid : AreMessages l.log.messages;
+}

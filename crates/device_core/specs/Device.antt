@@ -1,0 +1,137 @@
+-- A device: its state, and what an edit and received messages make of it.
+use Rattle.std.specs.Prelude.{◌≡◌, ◌⊎◌, ℕ, ◌+◌, ◌-◌, ◌<◌, ◌≤◌, List, [], ◌∷◌, length, map, Bool, true, false, nat_lt, if◌then◌else◌, Option, None, Some, Result, Ok, Err}
+use Rattle.std.specs.List.{list_any, AllByRecursion}
+use Rattle.std.specs.Ordering.{is_lt}
+use Rattle.hybrid_clock.specs.declared.stamp.Stamp.{Stamp}
+use Rattle.hybrid_clock.specs.declared.clock.ClockFault.{ClockFault}
+use Rattle.hybrid_clock.specs.Order.{stamp_cmp}
+use Rattle.hybrid_clock.specs.Clock.{clock_after, draw, receive}
+use Rattle.budget_ports.specs.declared.keeper.Kept.{Kept}
+use Rattle.field_merge.specs.declared.message.Message.{Message}
+use Rattle.budget_ports.specs.Keeper.{HaveKeys}
+use Rattle.field_merge.specs.Messages.{AreMessages}
+use Rattle.field_merge.specs.Log.{LogState, has_stamp, join_one, join, last_stamp}
+use Rattle.device_core.specs.declared.edit.Edit.{Edit}
+use Rattle.device_core.specs.declared.edit.Write.{Write}
+use Rattle.device_core.specs.declared.edit.EditFault.{EditFault}
+use Rattle.device_core.specs.declared.edit.EditFault.TheVariants.{TooManyWrites}
+use Rattle.device_core.specs.declared.edit.LineRefusal.{LineRefusal}
+use Rattle.device_core.specs.declared.edit.LineRefusal.TheVariants.{Edit as OfEdit, Clock as OfClock, NoMemory}
+use Rattle.device_core.specs.declared.device.StartFault.{StartFault}
+use Rattle.device_core.specs.declared.device.StartFault.TheVariants.{BadRecord, NoMemory as OutOfMemory}
+use Rattle.device_core.specs.Edits.{writes_of}
+use Rattle.device_core.specs.Records.{record_of}
+
+-- the message set, and the timestamp at which the clock stands, with the device's own node
+pub record State : Type 0 where
+  pub messages : List Message
+  pub clock : Stamp
+
+-- the state, the records that are not kept yet, the ids that the last edit made for rows, and whether a want of memory has spoilt the device
+pub record DeviceState : Type 0 where
+  pub state : State
+  pub batch : List Kept
+  pub made : List (List ℕ)
+  pub spent : Bool
+
+-- a state of which all is kept
+abbrev pub at_rest : State → DeviceState
+at_rest s = record { state = s; batch = []; made = []; spent = false }
+
+-- a device that begins with a message set: its clock goes on after the last message
+abbrev pub begun : List ℕ → List Message → State
+begun node ms = record { messages = ms; clock = clock_after node (last_stamp ms) }
+
+-- those of the messages whose timestamp is new: no message of ms has it, and no earlier one of them
+abbrev pub new_in : List Message → List Message → List Message
+new_in ms [] = []
+new_in ms (n ∷ ns) = if list_any (has_stamp n.stamp) ms then new_in ms ns else n ∷ new_in (join_one ms n) ns
+
+-- the messages joined, with the clock where it now stands, and the new ones pending
+abbrev pub with_messages : List Message → List Message → Stamp → DeviceState
+with_messages ms ns clock = record
+    { state = record { messages = join ms ns; clock = clock }; batch = map record_of (new_in ms ns); made = []; spent = false }
+
+-- what an accepted line leaves, and how many writes or new messages it was
+pub record Accepted : Type 0 where
+  pub device : DeviceState
+  pub count : ℕ
+
+-- the messages of writes, under timestamps with counters in a row
+abbrev pub stamped : Stamp → List Write → List Message
+stamped s [] = []
+stamped s (w ∷ ws) = record { stamp = s; field = w.field; value = w.value } ∷ stamped (record s { counter = s.counter + 1 }) ws
+
+-- the clock stands at the last of n timestamps in a row, and this is the first
+abbrev pub first_of : Stamp → ℕ → Stamp
+first_of clock n = record clock { counter = clock.counter - (n - 1) }
+
+abbrev pub written : State → List Write → Result Stamp ClockFault → Result Accepted LineRefusal
+written s ws (Err fault) = Err (OfClock fault)
+written s ws (Ok clock) = Ok (record { device = with_messages s.messages (stamped (first_of clock (length ws)) ws) clock; count = length ws })
+
+-- writes are made at a reading of the wall clock: none need no timestamp, and 65,536 are the most
+abbrev pub writing : State → ℕ → Result (List Write) EditFault → Result Accepted LineRefusal
+writing s reading (Err fault) = Err (OfEdit fault)
+writing s reading (Ok []) = Ok (record { device = at_rest s; count = 0 })
+writing s reading (Ok (w ∷ ws)) =
+    if nat_lt 65_536 (length (w ∷ ws)) then Err (OfEdit (TooManyWrites (length (w ∷ ws))))
+    else written s (w ∷ ws) (draw s.clock reading (length (w ∷ ws)))
+
+-- an edit is made: first its own checks, then the number of its writes, then the clock
+abbrev pub edited : State → Edit → ℕ → Result Accepted LineRefusal
+edited s edit reading = writing s reading (writes_of edit)
+
+-- the later of two timestamps
+abbrev pub later_of : Stamp → Stamp → Stamp
+later_of s t = if is_lt (stamp_cmp s t) then t else s
+
+-- the greatest timestamp of messages, beside one timestamp and by themselves
+abbrev pub greatest : Stamp → List Message → Stamp
+greatest s [] = s
+greatest s (m ∷ ms) = greatest (later_of s m.stamp) ms
+
+abbrev pub greatest_of : List Message → Option Stamp
+greatest_of [] = None
+greatest_of (m ∷ ms) = Some (greatest m.stamp ms)
+
+abbrev pub joined : State → List Message → Result Stamp ClockFault → Result Accepted LineRefusal
+joined s ns (Err fault) = Err (OfClock fault)
+joined s ns (Ok clock) = Ok (record { device = with_messages s.messages ns clock; count = length (new_in s.messages ns) })
+
+abbrev pub receiving : State → List Message → ℕ → Option Stamp → Result Accepted LineRefusal
+receiving s ns reading None = Ok (record { device = at_rest s; count = 0 })
+receiving s ns reading (Some stamp) = joined s ns (receive s.clock reading stamp)
+
+-- messages are received at a reading of the wall clock, once for all of them, by their greatest timestamp
+abbrev pub received : State → List Message → ℕ → Result Accepted LineRefusal
+received s ns reading = receiving s ns reading (greatest_of ns)
+
+-- the clock's time and counter are at least the timestamp's
+abbrev pub IsUpTo : Stamp → Stamp → Type 0
+IsUpTo clock s = (s.millis < clock.millis) ⊎ ((s.millis ≡ clock.millis) × (s.counter ≤ clock.counter))
+
+-- at least those of each message
+abbrev pub IsAhead : Stamp → List Message → Type 0
+IsAhead clock = AllByRecursion (λ m. IsUpTo clock m.stamp)
+
+-- a line was accepted as it should be, with this count
+abbrev pub IsAccepted : Result Accepted LineRefusal → DeviceState → ℕ → Type 0
+IsAccepted meant device count = meant ≡ Ok (record { device = device; count = count })
+
+-- a line was refused as it should be, and left all as it was; or memory ran out, and the device is spent
+abbrev pub IsRefused : Result Accepted LineRefusal → DeviceState → DeviceState → LineRefusal → Type 0
+IsRefused meant old new NoMemory = new.spent ≡ true
+IsRefused meant old new refusal = (meant ≡ Err refusal) × (new ≡ old)
+
+-- the first record that keeps no message was told, or memory ran out
+abbrev pub IsStartFault : Result (List Message) ℕ → StartFault → Type 0
+IsStartFault meant (BadRecord index) = meant ≡ Err index
+IsStartFault meant OutOfMemory = Unit {0}
+
+-- what holds of a device that is not spent
+pub record Stands (log : LogState) (clock : Stamp) (batch : List Kept) : Type 0 where
+  pub live : log.spent ≡ false
+  pub valid : AreMessages log.messages
+  pub ahead : IsAhead clock log.messages
+  pub keys : HaveKeys batch

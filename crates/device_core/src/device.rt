@@ -1,0 +1,338 @@
+//! A device.
+ghost use Rattle.std.specs.Prelude.{◌≡◌, ◌+◌, ◌-◌, ◌≤◌, ◌<◌, [], ◌∷◌, length, true, false, IfOk, IfErr, OnOk, OnErr};
+ghost use Rattle.hybrid_clock.specs.Node.{IsNode};
+ghost use Rattle.hybrid_clock.specs.Stamp.{IsStamp};
+ghost use Rattle.budget_ports.specs.Keeper.{HaveKeys};
+ghost use Rattle.field_merge.specs.Log.{later};
+ghost use Rattle.field_merge.specs.Messages.{AreMessages};
+ghost use Rattle.device_core.specs.declared.device.StartFault.TheVariants.{NoMemory as OutOfMemory};
+ghost use Rattle.device_core.specs.Records.{kept_set};
+ghost use Rattle.device_core.specs.Edits.{IsEdit, AreWrites};
+ghost use Rattle.device_core.specs.Device.{at_rest, begun, with_messages, stamped, writing, edited, later_of, greatest_of, received, IsUpTo, IsAhead, IsAccepted, IsRefused, IsStartFault};
+
+use crate::edit::{Edit, EditFault, LineRefusal, Write, edit_writes};
+use crate::join::{join_all, read_log};
+use budget_ports::Kept;
+use field_merge::{Log, Message};
+use field_values::{Items, NoMemory, Steps, Txt};
+use hybrid_clock::{HybridClock, Node, Stamp};
+use std::alloc::Global;
+use std::marker::Model;
+use std::sync::ledger::Ledger;
+
+/// Why a device does not start.
+#[derive(Clone, Copy, Debug, PartialEq, Eq)]
+pub enum StartFault {
+    /// The record with this index, counted from 0, is the first that keeps no message.
+    BadRecord { index: usize },
+    /// Memory ran out.
+    NoMemory,
+}
+
+impl From<NoMemory> for StartFault {
+    ghost from_gives = { λ _ fault. fault ≡ OutOfMemory };
+
+    fn from(_error: NoMemory) -> StartFault {
+        StartFault::NoMemory
+    }
+}
+
+/// The most writes of one edit, which is how many counters a time has.
+const MOST_WRITES: usize = 65_536;
+
+/// A device of a household.
+///
+/// A contract sees its messages, the timestamp at which its clock stands, the records that are not
+/// kept yet, the ids that the last edit made for rows, and whether it is spent. A call that answers
+/// `NoMemory` and may change the device leaves it spent; then nothing but `is_spent` may be asked of
+/// it.
+#[derive(Drop)]
+pub struct Device {
+    alloc: Global,
+    log: Log,
+    clock: HybridClock,
+    batch: Vec<Kept>,
+    made: Items<Txt>,
+    spent: bool,
+}
+
+impl Model for Device {
+    ghost use Rattle.std.specs.Prelude.{◌≡◌, false};
+    ghost use Rattle.device_core.specs.Device.{DeviceState, Stands};
+
+    ghost Value = { DeviceState };
+
+    ghost view = { λ d. record { state = record { messages = d.log.messages; clock = d.clock }; batch = d.batch.items; made = d.made; spent = d.spent } };
+
+    ghost invariant = { λ d. d.spent ≡ false → Stands d.log d.clock d.batch.items };
+}
+
+impl Device {
+    /// A device with this node that begins with the messages that records keep, in any order.
+    ///
+    /// Its clock goes on after the last of them, and nothing is pending.
+    pub fn start(alloc: Global, node: Node, items: &[Kept]) -> Result<Device, StartFault>
+        requires { IsNode node }
+        ensures messages { IfOk result (λ d. kept_set items.now ≡ Ok d.state.messages) }
+        ensures state { IfOk result (λ d. d ≡ at_rest (begun node d.state.messages)) }
+        ensures err { IfErr result (IsStartFault (kept_set items.now)) }
+    {
+        let log = read_log(alloc, items)?;
+        let clock = HybridClock::new(node, log.last());
+        Ok(Device {
+            alloc,
+            log,
+            clock,
+            batch: Vec::new(alloc),
+            made: Items::new(Vec::new(alloc)),
+            spent: false,
+        })
+    }
+
+    /// Makes an edit at a reading of the wall clock, and answers how many writes it was.
+    ///
+    /// The writes become messages under timestamps in a row, whose records are then pending. An edit
+    /// without writes draws no timestamp. The counter of steps counts nothing yet.
+    ///
+    /// # Errors
+    ///
+    /// Tested in this order: the edit's own checks, `TooManyWrites`, the clock. After a refusal the
+    /// device is as it was, and after `NoMemory` it is spent.
+    pub fn prepare<G: Ledger>(
+        &mut self,
+        edit: &Edit,
+        reading: u64,
+        steps: &mut Steps<G>,
+    ) -> Result<u32, LineRefusal>
+        requires live { self.old.spent ≡ false }
+        requires idle { self.old.batch ≡ [] }
+        requires valid { IsEdit edit.now }
+        ensures ok { IfOk result (IsAccepted (edited self.old.state edit.now reading) self.new) }
+        ensures refused { IfErr result (IsRefused (edited self.old.state edit.now reading) self.old self.new) }
+        ensures live { OnOk result (self.new.spent ≡ false) }
+        ensures steps { steps.new ≡ steps.old }
+    {
+        match edit_writes(self.alloc, edit) {
+            Ok(writes) => self.write(writes.as_slice(), reading),
+            Err(EditFault::NoMemory) => {
+                self.spent = true;
+                Err(LineRefusal::NoMemory)
+            }
+            Err(fault) => Err(LineRefusal::Edit(fault)),
+        }
+    }
+
+    /// Makes writes at a reading of the wall clock.
+    #[tactic(auto, using(crate::proofs::Writing::writings))]
+    fn write(&mut self, writes: &[Write], reading: u64) -> Result<u32, LineRefusal>
+        requires live { self.old.spent ≡ false }
+        requires idle { self.old.batch ≡ [] }
+        requires valid { AreWrites writes.now }
+        ensures ok { IfOk result (IsAccepted (writing self.old.state reading (Ok writes.now)) self.new) }
+        ensures refused { IfErr result (IsRefused (writing self.old.state reading (Ok writes.now)) self.old self.new) }
+        ensures live { OnOk result (self.new.spent ≡ false) }
+    {
+        let count = writes.len();
+        if count == 0 {
+            self.rest();
+            return Ok(0);
+        }
+        if count > MOST_WRITES {
+            return Err(LineRefusal::Edit(EditFault::TooManyWrites { n: count as u64 }));
+        }
+        let first = match self.clock.draw(reading, count as u32) {
+            Ok(first) => first,
+            Err(fault) => return Err(LineRefusal::Clock(fault)),
+        };
+        match self.join_writes(first, writes) {
+            Ok(()) => Ok(count as u32),
+            Err(NoMemory) => Err(LineRefusal::NoMemory),
+        }
+    }
+
+    /// Forgets the ids that an edit made.
+    fn rest(&mut self)
+        ensures { self.new ≡ record self.old { made = [] } }
+    {
+        self.made = Items::new(Vec::new(self.alloc));
+    }
+
+    /// Joins writes under timestamps in a row, up to that of the clock.
+    fn join_writes(&mut self, first: Stamp, writes: &[Write]) -> Result<(), NoMemory>
+        requires live { self.old.spent ≡ false }
+        requires idle { self.old.batch ≡ [] }
+        requires valid { AreWrites writes.now }
+        requires stamp { IsStamp first }
+        requires row { self.old.state.clock ≡ record first { counter = first.counter + (length writes.now - 1) } }
+        requires room { first.counter + length writes.now ≤ 65_536 }
+        ensures ok { OnOk result (self.new ≡ with_messages self.old.state.messages (stamped first writes.now) self.old.state.clock) }
+        ensures err { OnErr result (self.new.spent ≡ true) }
+    {
+        match stamp_writes(self.alloc, first, writes) {
+            Ok(messages) => self.join(messages.as_slice()),
+            Err(fault) => {
+                self.spent = true;
+                Err(fault)
+            }
+        }
+    }
+
+    /// Joins messages, the records of the new ones of which are then pending.
+    fn join(&mut self, messages: &[Message]) -> Result<(), NoMemory>
+        requires live { self.old.spent ≡ false }
+        requires idle { self.old.batch ≡ [] }
+        requires valid { AreMessages messages.now }
+        requires ahead { IsAhead self.old.state.clock messages.now }
+        ensures ok { OnOk result (self.new ≡ with_messages self.old.state.messages messages.now self.old.state.clock) }
+        ensures err { OnErr result (self.new.spent ≡ true) }
+    {
+        self.rest();
+        self.spent = true;
+        join_all(self.alloc, &mut self.log, messages, &mut self.batch)?;
+        self.spent = false;
+        Ok(())
+    }
+
+    /// Receives messages at a reading of the wall clock, and answers how many were new.
+    ///
+    /// The clock receives once, by the greatest timestamp. The records of the new messages are then
+    /// pending. The counter of steps counts nothing yet.
+    ///
+    /// # Errors
+    ///
+    /// The clock's. After a refusal the device is as it was, and after `NoMemory` it is spent.
+    pub fn incoming<G: Ledger>(
+        &mut self,
+        batch: &[Message],
+        reading: u64,
+        steps: &mut Steps<G>,
+    ) -> Result<u64, LineRefusal>
+        requires live { self.old.spent ≡ false }
+        requires idle { self.old.batch ≡ [] }
+        requires valid { AreMessages batch.now }
+        ensures ok { IfOk result (IsAccepted (received self.old.state batch.now reading) self.new) }
+        ensures refused { IfErr result (IsRefused (received self.old.state batch.now reading) self.old self.new) }
+        ensures live { OnOk result (self.new.spent ≡ false) }
+        ensures steps { steps.new ≡ steps.old }
+    {
+        let Some(stamp) = greatest_stamp(batch) else {
+            self.rest();
+            return Ok(0);
+        };
+        if let Err(fault) = self.clock.receive(reading, &stamp) {
+            return Err(LineRefusal::Clock(fault));
+        }
+        match self.join(batch) {
+            Ok(()) => Ok(self.batch.len() as u64),
+            Err(NoMemory) => Err(LineRefusal::NoMemory),
+        }
+    }
+
+    /// The records of the new messages of the last accepted line that is not kept yet, each new
+    /// timestamp once, in the order in which they came.
+    pub fn batch(&self) -> &[Kept]
+        requires { self.now.spent ≡ false }
+        ensures batch { result.now ≡ self.now.batch }
+        ensures keys { HaveKeys result.now }
+    {
+        self.batch.as_slice()
+    }
+
+    /// The ids that the last accepted line made for rows.
+    pub fn made(&self) -> &Items<Txt>
+        requires { self.now.spent ≡ false }
+        ensures { result.now ≡ self.now.made }
+    {
+        &self.made
+    }
+
+    /// The batch is kept: nothing is pending any more.
+    pub fn commit(&mut self)
+        requires { self.old.spent ≡ false }
+        ensures { self.new ≡ record self.old { batch = [] } }
+    {
+        self.batch.clear();
+    }
+
+    /// The messages whose timestamp's text is greater than a text, byte by byte.
+    pub fn outgoing(&self, since: &[u8]) -> Result<Items<Message>, NoMemory>
+        requires { self.now.spent ≡ false }
+        ensures messages { IfOk result (λ ms. ms ≡ later since.now self.now.state.messages) }
+        ensures valid { IfOk result AreMessages }
+    {
+        self.log.since(since)
+    }
+
+    /// The messages.
+    pub fn log(&self) -> &Log
+        requires { self.now.spent ≡ false }
+        ensures log { result.now ≡ record { messages = self.now.state.messages; spent = false } }
+        ensures valid { AreMessages self.now.state.messages }
+    {
+        &self.log
+    }
+
+    /// The timestamp at which the clock stands. No message has a greater time and counter.
+    pub fn clock_last(&self) -> Stamp
+        requires { self.now.spent ≡ false }
+        ensures value { result ≡ self.now.state.clock }
+        ensures stamp { IsStamp result }
+        ensures ahead { IsAhead result self.now.state.messages }
+    {
+        self.clock.last()
+    }
+
+    /// Whether a want of memory has spoilt the device.
+    pub fn is_spent(&self) -> bool
+        ensures { result ≡ self.now.spent }
+    {
+        self.spent
+    }
+}
+
+/// The message of a write under a timestamp that has another counter.
+fn stamp_write(first: Stamp, counter: u16, write: &Write) -> Result<Message, NoMemory>
+    ensures { IfOk result (λ m. m ≡ record { stamp = record first { counter = counter }; field = write.now.field; value = write.now.value }) }
+{
+    Ok(Message {
+        stamp: Stamp {
+            millis: first.millis,
+            counter,
+            node: first.node,
+        },
+        field: write.field.copy()?,
+        value: write.value.copy()?,
+    })
+}
+
+/// The messages of writes under timestamps in a row.
+fn stamp_writes(alloc: Global, first: Stamp, writes: &[Write]) -> Result<Vec<Message>, NoMemory>
+    requires room { first.counter + length writes.now ≤ 65_536 }
+    ensures { IfOk result (λ ms. ms.items ≡ stamped first writes.now) }
+{
+    let mut messages = Vec::new(alloc);
+    for (index, write) in writes.iter().enumerate() {
+        let counter = first.counter as usize + index;
+        messages.push(stamp_write(first, counter as u16, write)?)?;
+    }
+    Ok(messages)
+}
+
+/// The greatest timestamp of messages.
+fn greatest_stamp(messages: &[Message]) -> Option<Stamp>
+    ensures { result ≡ greatest_of messages.now }
+{
+    let (first, rest) = messages.split_first()?;
+    let mut greatest = first.stamp;
+    for message in rest {
+        greatest = later_of(greatest, message.stamp);
+    }
+    Some(greatest)
+}
+
+/// The later of two timestamps.
+fn later_of(one: Stamp, other: Stamp) -> Stamp
+    ensures { result ≡ later_of one other }
+{
+    if one < other { other } else { one }
+}

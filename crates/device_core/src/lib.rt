@@ -1,0 +1,12 @@
+//! A device: the messages that it knows, its clock, and the records of new messages that are not kept
+//! yet.
+#![tactic(auto)]
+
+mod device;
+mod edit;
+mod join;
+mod record;
+
+pub use device::{Device, StartFault};
+pub use edit::{BookEdit, Edit, EditFault, LineRefusal, Write};
+pub use record::records_read_back;
