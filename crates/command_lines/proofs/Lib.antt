@@ -1,0 +1,4 @@
+pub mod Cutting
+pub mod WordLemmas
+pub mod LineLemmas
+pub mod ReadingLemmas

@@ -1,0 +1,38 @@
+-- The words of a line, and the command of words.
+use Rattle.std.proofs.Common.{◌≡◌, ℕ, ◌+◌, ◌<◌, ◌≤◌, Bool, true, false, cond, eqb, List, [], ◌∷◌, length, Result, Ok, Err, refl, ap, sym, subst, arith}
+use Rattle.std.specs.Result.{IsErrAnd}
+use Rattle.std.specs.Prelude.{◌==◌, ◌^◌}
+use Rattle.std.specs.List.{onto_first}
+use Rattle.std.proofs.lemmas.List.Splits.{length-slice_split}
+use Rattle.std.proofs.lemmas.List.Sums.{count_by-le-length}
+use Rattle.field_merge.specs.Lines.{parts}
+use Rattle.command_lines.specs.declared.command.Command.{Command}
+use Rattle.command_lines.specs.declared.command.CommandFault.{CommandFault}
+use Rattle.command_lines.specs.Commands.{no_more, command_of, IsFault, IsRead}
+
+surplus_front : (c : Command) (last x : ℕ) (ps : List (List ℕ)) → command_of (no_more c) last (onto_first x ps) ≡ Err (last + 1)
+surplus_front c last x [] = refl
+surplus_front c last x (p ∷ ps) = refl
+
+surplus_at : (c : Command) (last x : ℕ) (b : Bool) (ps : List (List ℕ)) → command_of (no_more c) last (cond b ([] ∷ ps) (onto_first x ps)) ≡ Err (last + 1)
+surplus_at c last x true ps = refl
+surplus_at c last x false ps = surplus_front c last x ps
+
+-- what is left of a line has a word, which is one too many behind the last
+pub surplus : (c : Command) (last : ℕ) (text : List ℕ) → command_of (no_more c) last (parts text) ≡ Err (last + 1)
+surplus c last [] = refl
+surplus c last (x ∷ xs) = surplus_at c last x (eqb x 9) (parts xs)
+
+-- the fault with which a `?` leaves a function is what the call gave
+pub at_exit : (meant : Result Command ℕ) (r : Result Command CommandFault) (fault : CommandFault) → IsErrAnd r (λ given. given ≡ fault) → IsFault meant fault → IsRead meant r
+at_exit meant (Ok c) fault h f = absurd h
+at_exit meant (Err given) fault h f = subst (IsFault meant) (sym h) f
+
+-- the same where the words before the fault were read
+pub at_later_exit : (meant left : Result Command ℕ) (r : Result Command CommandFault) (fault : CommandFault) → meant ≡ left → IsErrAnd r (λ given. given ≡ fault) → IsFault left fault → IsRead meant r
+at_later_exit meant left r fault e h f = at_exit meant r fault h (subst (λ m. IsFault m fault) (sym e) f)
+
+-- a line has at most one word more than bytes
+pub few_words : (line name : List ℕ) (ws : List (List ℕ)) → parts line ≡ name ∷ ws → length line ≤ 1_048_576 → length ws < 2 ^ 31
+few_words line name ws e short =
+    omega (arith, ap length e, length-slice_split (λ b. b == 9) line, count_by-le-length (λ b. b == 9) line)

@@ -1,0 +1,4 @@
+pub mod Commands
+pub mod Unread
+pub mod Replies
+pub mod Readings

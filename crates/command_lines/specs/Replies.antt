@@ -1,0 +1,56 @@
+-- The replies to lines, and their texts.
+use Rattle.std.specs.Prelude.{ℕ, List, [], ◌∷◌, ◌++◌, length, map, codes, Option, None, Some}
+use Rattle.std.specs.List.{flat_map}
+use Rattle.std.specs.Fmt.{decimal}
+use Rattle.hybrid_clock.specs.declared.clock.ClockFault.{ClockFault}
+use Rattle.hybrid_clock.specs.declared.clock.ClockFault.TheVariants.{Drift, Overflow, Beyond}
+use Rattle.field_merge.specs.Escapes.{escaped}
+use Rattle.device_core.specs.declared.edit.EditFault.{EditFault}
+use Rattle.device_core.specs.declared.edit.EditFault.TheVariants.{BadId, TooManyWrites, NoMemory as EditNoMemory}
+use Rattle.device_core.specs.declared.edit.LineRefusal.{LineRefusal}
+use Rattle.device_core.specs.declared.edit.LineRefusal.TheVariants.{Edit, Clock, NoMemory}
+use Rattle.command_lines.specs.declared.reply.Reply.{Reply}
+use Rattle.command_lines.specs.declared.reply.Reply.TheVariants.{Done, Refused}
+
+-- an edit that made writes and rows with these ids
+abbrev pub wrote : ℕ → List (List ℕ) → Reply
+wrote writes made = Done ((codes "writes " ++ decimal writes) ∷ map (λ id. codes "made " ++ id) made)
+
+-- messages that were added
+abbrev pub added : ℕ → Reply
+added count = Done ((codes "added " ++ decimal count) ∷ [])
+
+-- a line whose word at this index is the first that is not of its form
+abbrev pub faulty : ℕ → Reply
+faulty part = Refused 30 (codes "bad-command") (decimal part)
+
+-- an edit that was refused; a want of memory has no reply
+abbrev pub refused_edit : EditFault → Option Reply
+refused_edit (BadId id) = Some (Refused 1 (codes "bad-id") id)
+refused_edit (TooManyWrites count) = Some (Refused 18 (codes "too-many-writes") (decimal count))
+refused_edit EditNoMemory = None
+
+-- a timestamp that the clock refused
+abbrev pub refused_clock : ClockFault → Reply
+refused_clock (Drift logical reading) = Refused 26 (codes "clock-drift") (decimal logical ++ 32 ∷ decimal reading)
+refused_clock (Overflow counter) = Refused 27 (codes "clock-overflow") (decimal counter)
+refused_clock (Beyond reading) = Refused 28 (codes "clock-beyond") (decimal reading)
+
+abbrev pub refused : LineRefusal → Option Reply
+refused (Edit fault) = refused_edit fault
+refused (Clock fault) = Some (refused_clock fault)
+refused NoMemory = None
+
+-- a line of a reply, with its end
+abbrev pub ended : List ℕ → List ℕ
+ended line = line ++ 10 ∷ []
+
+-- the detail of a refusal, behind its code: nothing where it is empty
+abbrev pub detail_text : List ℕ → List ℕ
+detail_text [] = []
+detail_text (b ∷ bs) = 32 ∷ escaped (b ∷ bs)
+
+-- the text of a reply: `ok N` and N lines, or one line `refused En CODE DETAIL`
+abbrev pub reply_text_of : Reply → List ℕ
+reply_text_of (Done lines) = flat_map ended ((codes "ok " ++ decimal (length lines)) ∷ lines)
+reply_text_of (Refused number code detail) = ended (codes "refused E" ++ decimal number ++ 32 ∷ code ++ detail_text detail)

@@ -1,0 +1,154 @@
+//! The answers of the lines that only read.
+ghost use Rattle.std.specs.Prelude.{◌≡◌, ◌≢◌, ◌<◌, ◌==◌, ◌++◌, ◌∷◌, [], List, ℕ, length, MatchOption, OnOk, IfOk, IfSome, map, false};
+ghost use Rattle.std.specs.List.{slice_split};
+ghost use Rattle.std.specs.Option.{option_copied};
+ghost use Rattle.field_values.specs.Names.{field_of};
+ghost use Rattle.field_values.specs.Value.{value_text, IsValue};
+ghost use Rattle.field_merge.specs.Escapes.{escaped};
+ghost use Rattle.field_merge.specs.Messages.{message_line, AreMessages};
+ghost use Rattle.field_merge.specs.Log.{fields};
+ghost use Rattle.command_lines.specs.Readings.{answer, shown, value_in, IsReading};
+
+use crate::command::Command;
+use crate::reply::Reply;
+use device_core::Device;
+use field_merge::{Log, Message, message_lines, push_escaped, write_line};
+use field_values::{Field, Items, NameFault, NoMemory, Txt, Value};
+use std::alloc::Global;
+
+/// The lines of messages.
+fn lines_of(alloc: Global, messages: &[Message]) -> Result<Items<Txt>, NoMemory>
+    requires { AreMessages messages.now }
+    ensures { IfOk result (λ lines. lines ≡ map message_line messages.now) }
+{
+    let mut lines = Vec::new(alloc);
+    for message in messages {
+        lines.push(write_line(alloc, message)?)?;
+    }
+    Ok(Items::new(lines))
+}
+
+/// Cuts a text at its first LF.
+fn cut_line(text: &str) -> Option<(&str, &str)>
+    ensures pieces { MatchOption result (slice_split (λ b. b == 10) text.now ≡ text.now ∷ [])
+        (λ p. slice_split (λ b. b == 10) text.now ≡ p.0.now ∷ slice_split (λ b. b == 10) p.1.now) }
+    ensures shorter { IfSome result (λ p. length p.1.now < length text.now) }
+{
+    text.split_once('\n')
+}
+
+/// The lines of a text, of which each has its end.
+fn lines_in(alloc: Global, text: &str) -> Result<Items<Txt>, NoMemory>
+    ensures { IfOk result (λ lines. (last : List ℕ) × (slice_split (λ b. b == 10) text.now ≡ lines ++ last ∷ [])) }
+{
+    let mut lines = Vec::new(alloc);
+    let mut rest = text;
+    'lines: while let Some((line, after)) = cut_line(rest) {
+        lines.push(Txt::from_text(alloc, line)?)?;
+        rest = after;
+    }
+    Ok(Items::new(lines))
+}
+
+/// The lines of the latest message of each field.
+fn field_lines(alloc: Global, log: &Log) -> Result<Items<Txt>, NoMemory>
+    requires { log.now.spent ≡ false }
+    ensures { IfOk result (λ lines. lines ≡ map message_line (fields log.now.messages)) }
+{
+    // No message's line has a LF.
+    message_lines();
+    let text = log.field_lines()?;
+    let lines = lines_in(alloc, text.as_str())?;
+    Ok(lines)
+}
+
+/// The text of a value, escaped as the parts of a message's line are.
+fn escaped_text(alloc: Global, value: &Value) -> Result<Txt, NoMemory>
+    requires { IsValue value.now }
+    ensures { IfOk result (λ t. t ≡ escaped (value_text value.now)) }
+{
+    let plain = value.text(alloc)?;
+    let mut text = String::new(alloc);
+    push_escaped(&mut text, plain.as_str())?;
+    Ok(Txt::new(text))
+}
+
+/// Hands a want of memory on, and no other fault.
+fn memory_aside(fault: NameFault) -> Result<(), NoMemory>
+    ensures { OnOk result (fault ≢ NameFault.NoMemory) }
+{
+    match fault {
+        NameFault::NoMemory => Err(NoMemory),
+        _ => Ok(()),
+    }
+}
+
+/// The value of the field with these names. Names that no field may have are no field's.
+fn value_at<'a>(
+    alloc: Global,
+    log: &'a Log,
+    dataset: &Txt,
+    row: &Txt,
+    column: &Txt,
+) -> Result<Option<&'a Value>, NoMemory>
+    requires live { log.now.spent ≡ false }
+    requires valid { AreMessages log.now.messages }
+    ensures { IfOk result (λ v. option_copied v ≡ value_in log.now.messages (field_of dataset.now row.now column.now)) }
+{
+    match Field::make(alloc, dataset, row, column) {
+        Ok(field) => Ok(log.value(&field)),
+        Err(fault) => {
+            memory_aside(fault)?;
+            Ok(None)
+        }
+    }
+}
+
+/// The text of the value of the field with these names, or `none`.
+fn shown_value(
+    alloc: Global,
+    log: &Log,
+    dataset: &Txt,
+    row: &Txt,
+    column: &Txt,
+) -> Result<Txt, NoMemory>
+    requires live { log.now.spent ≡ false }
+    requires valid { AreMessages log.now.messages }
+    ensures { IfOk result (λ t. t ≡ shown (value_in log.now.messages (field_of dataset.now row.now column.now))) }
+{
+    match value_at(alloc, log, dataset, row, column) {
+        Ok(Some(value)) => escaped_text(alloc, value),
+        Ok(None) => Txt::from_text(alloc, "none"),
+        Err(fault) => Err(fault),
+    }
+}
+
+/// One line.
+fn one_line(alloc: Global, line: Txt) -> Result<Items<Txt>, NoMemory>
+    ensures { IfOk result (λ lines. lines ≡ line ∷ []) }
+{
+    let mut lines = Vec::new(alloc);
+    lines.push(line)?;
+    Ok(Items::new(lines))
+}
+
+/// The reply to a line that only reads: `fields`, `messages` or `value`. It is told by the device's
+/// messages alone, so devices that have the same messages reply the same.
+pub fn read_reply(alloc: Global, device: &Device, command: &Command) -> Result<Reply, NoMemory>
+    requires live { device.now.spent ≡ false }
+    requires reading { IsReading command.now }
+    ensures { IfOk result (λ r. r ≡ answer device.now.state.messages command.now) }
+{
+    let log = device.log();
+    let lines = match command {
+        Command::Fields => field_lines(alloc, log)?,
+        Command::Messages { since } => lines_of(alloc, log.since(since.bytes())?.as_slice())?,
+        Command::Value {
+            dataset,
+            row,
+            column,
+        } => one_line(alloc, shown_value(alloc, log, dataset, row, column)?)?,
+        Command::Edit(_) | Command::Receive { .. } => unreachable!(),
+    };
+    Ok(Reply::Done { lines })
+}

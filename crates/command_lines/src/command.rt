@@ -1,0 +1,157 @@
+//! The commands of lines.
+ghost use Rattle.std.specs.Prelude.{◌≡◌, ◌<◌, IfOk};
+ghost use Rattle.command_lines.specs.declared.command.CommandFault.TheVariants.{NoMemory as OutOfMemory};
+ghost use Rattle.command_lines.specs.Commands.{set_words, receive_words, fields_words, messages_words, value_words, line_words, command, command_of, IsRead, IsCommand};
+ghost use Rattle.command_lines.specs.Unread.{given};
+
+use crate::words::{Words, cut};
+use device_core::{BookEdit, Edit};
+use field_merge::Message;
+use field_values::{Field, NamePart, NoMemory, Txt, Value};
+use std::alloc::Global;
+
+/// What a line commands.
+#[derive(Debug, Drop)]
+pub enum Command {
+    /// `set DATASET ROW COLUMN VALUE`: an edit of the device's own.
+    Edit(Edit),
+    /// `receive STAMP DATASET ROW COLUMN VALUE`: a message of another device.
+    Receive { message: Message },
+    /// `fields`: the latest message of each field.
+    Fields,
+    /// `messages SINCE`: the messages whose timestamp's text is greater than this text, by bytes.
+    Messages { since: Txt },
+    /// `value DATASET ROW COLUMN`: the value of the field with these names, if there is one.
+    Value { dataset: Txt, row: Txt, column: Txt },
+}
+
+/// Why a line is no command.
+#[derive(Clone, Copy, Debug, PartialEq, Eq)]
+pub enum CommandFault {
+    /// The word at the index `part`, counted from 0, is the first that is not of its form. A missing
+    /// word stands behind the others, so its index is their number, and the first word too many is
+    /// at fault at its own. Word 0 is the line's name, which is at fault too where the line is above
+    /// 1,048,576 bytes.
+    BadCommand { part: u32 },
+    /// Memory ran out.
+    NoMemory,
+}
+
+impl From<NoMemory> for CommandFault {
+    ghost from_gives = { λ _ fault. fault ≡ OutOfMemory };
+
+    fn from(_error: NoMemory) -> CommandFault {
+        CommandFault::NoMemory
+    }
+}
+
+/// The most bytes that a line has.
+pub const LONGEST_LINE: usize = 1_048_576;
+
+/// The words behind `set`. Its names are judged by the edit.
+fn set(alloc: Global, words: &mut Words<'_>) -> Result<Command, CommandFault>
+    ensures read { IsRead (given set_words words.old) result }
+    ensures valid { IfOk result IsCommand }
+{
+    let dataset = words.text(alloc)?;
+    let row = words.text(alloc)?;
+    let column = words.text(alloc)?;
+    let value = words.text(alloc)?;
+    words.end()?;
+    let value = Value::read(alloc, value.as_str())?;
+    Ok(Command::Edit(Edit::Book(BookEdit::Set {
+        dataset,
+        row,
+        column,
+        value,
+    })))
+}
+
+/// The words behind `receive`.
+fn receive(alloc: Global, words: &mut Words<'_>) -> Result<Command, CommandFault>
+    ensures read { IsRead (given receive_words words.old) result }
+    ensures valid { IfOk result IsCommand }
+{
+    let stamp = words.stamp(alloc)?;
+    let dataset = words.name(alloc, NamePart::Dataset)?;
+    let row = words.name(alloc, NamePart::Row)?;
+    let column = words.name(alloc, NamePart::Column)?;
+    let value = words.text(alloc)?;
+    words.end()?;
+    let value = Value::read(alloc, value.as_str())?;
+    // The names are those of a field, so only memory can be missing.
+    match Field::of(alloc, dataset, row, column) {
+        Ok(field) => Ok(Command::Receive {
+            message: Message {
+                stamp,
+                field,
+                value,
+            },
+        }),
+        Err(_) => Err(CommandFault::NoMemory),
+    }
+}
+
+/// The words behind `fields`.
+fn fields(words: &Words<'_>) -> Result<Command, CommandFault>
+    ensures read { IsRead (given fields_words words.now) result }
+    ensures valid { IfOk result IsCommand }
+{
+    words.end()?;
+    Ok(Command::Fields)
+}
+
+/// The words behind `messages`.
+fn messages(alloc: Global, words: &mut Words<'_>) -> Result<Command, CommandFault>
+    ensures read { IsRead (given messages_words words.old) result }
+    ensures valid { IfOk result IsCommand }
+{
+    let since = words.text(alloc)?;
+    words.end()?;
+    Ok(Command::Messages { since })
+}
+
+/// The words behind `value`. Names that no field has are fine.
+fn value(alloc: Global, words: &mut Words<'_>) -> Result<Command, CommandFault>
+    ensures read { IsRead (given value_words words.old) result }
+    ensures valid { IfOk result IsCommand }
+{
+    let dataset = words.text(alloc)?;
+    let row = words.text(alloc)?;
+    let column = words.text(alloc)?;
+    words.end()?;
+    Ok(Command::Value {
+        dataset,
+        row,
+        column,
+    })
+}
+
+/// The words behind a line's name.
+fn command_of(alloc: Global, name: &str, words: &mut Words<'_>) -> Result<Command, CommandFault>
+    requires { words.old.last ≡ 0 }
+    ensures read { IsRead (given (line_words name.now) words.old) result }
+    ensures valid { IfOk result IsCommand }
+{
+    match name {
+        "set" => set(alloc, words),
+        "receive" => receive(alloc, words),
+        "fields" => fields(words),
+        "messages" => messages(alloc, words),
+        "value" => value(alloc, words),
+        _ => Err(CommandFault::BadCommand { part: 0 }),
+    }
+}
+
+/// The command of a line, which stands without its end. The words are judged from left to right.
+pub fn read_command(alloc: Global, line: &Txt) -> Result<Command, CommandFault>
+    ensures read { IsRead (command line.now) result }
+    ensures valid { IfOk result IsCommand }
+{
+    if line.bytes().len() > LONGEST_LINE {
+        return Err(CommandFault::BadCommand { part: 0 });
+    }
+    let (name, rest) = cut(line.as_str());
+    let mut words = Words::new(rest);
+    command_of(alloc, name, &mut words)
+}

@@ -1,0 +1,16 @@
+//! The lines of a device: how a line is read as a command, and how it is replied to.
+//!
+//! A line is words with a TAB between them, escaped as the parts of a message's line.
+#![tactic(auto)]
+
+mod answer;
+mod command;
+mod reply;
+mod words;
+
+pub use answer::read_reply;
+pub use command::{Command, CommandFault, LONGEST_LINE, read_command};
+pub use reply::{Reply, added_reply, faulty_reply, refusal_reply, reply_text, wrote_reply};
+
+#[cfg(test)]
+mod tests;

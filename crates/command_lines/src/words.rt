@@ -1,0 +1,141 @@
+//! The words of a line, read one after the other.
+ghost use Rattle.std.specs.Prelude.{◌≡◌, ◌+◌, ◌<◌, ◌^◌, ◌∷◌, [], IfOk, IfErr, OnOk, IfNone, IfSome, List, ℕ, length};
+ghost use Rattle.std.specs.Option.{option_copied};
+ghost use Rattle.field_values.specs.Names.{name_fault};
+ghost use Rattle.field_merge.specs.Lines.{parts};
+ghost use Rattle.hybrid_clock.specs.Stamp.{IsStamp};
+ghost use Rattle.hybrid_clock.specs.declared.stamp.Stamp.{Stamp};
+ghost use Rattle.command_lines.specs.declared.command.Command.{Command};
+ghost use Rattle.command_lines.specs.Commands.{Wanted, word, no_more, stamp_word, name_word, IsFault};
+ghost use Rattle.command_lines.specs.Unread.{words_of, given};
+
+use crate::command::CommandFault;
+use field_merge::{bad_escape, unescape};
+use field_values::{NamePart, Txt, check_name};
+use hybrid_clock::Stamp;
+use std::alloc::Global;
+use std::marker::Model;
+
+/// The words of a line that are still to be read.
+#[derive(Drop)]
+pub(crate) struct Words<'a> {
+    /// What stands behind the last TAB that was passed; nothing behind the last word.
+    rest: Option<&'a str>,
+    /// The index of the word that was read last.
+    last: u32,
+}
+
+impl<'a> Model for Words<'a> {
+    ghost use Rattle.std.specs.Prelude.{◌+◌, ◌<◌, ◌^◌, length};
+    ghost use Rattle.std.specs.Option.{option_copied};
+    ghost use Rattle.command_lines.specs.Unread.{UnreadWords, words_of};
+
+    ghost Value = { UnreadWords };
+
+    ghost view = { λ w. record { last = w.last; words = words_of (option_copied w.rest) } };
+
+    ghost invariant = { λ w. w.last + 1 + length (words_of (option_copied w.rest)) < 2 ^ 32 };
+}
+
+/// Cuts the first word off a line, and what stands behind its TAB where it has one.
+pub(crate) fn cut(line: &str) -> (&str, Option<&str>)
+    ensures { parts line.now ≡ result.0.now ∷ words_of (option_copied result.1) }
+{
+    match line.split_once('\t') {
+        Some((word, rest)) => (word, Some(rest)),
+        None => (line, None),
+    }
+}
+
+impl<'a> Words<'a> {
+    /// The words of what stands behind the first one.
+    pub(crate) fn new(rest: Option<&'a str>) -> Words<'a>
+        requires { length (words_of (option_copied rest)) < 2 ^ 31 }
+        ensures last { result.last ≡ 0 }
+        ensures words { result.words ≡ words_of (option_copied rest.entry) }
+    {
+        Words { rest, last: 0 }
+    }
+
+    /// The next word as it is written.
+    fn next(&mut self) -> Option<&'a str>
+        ensures none { IfNone result (self.old.words ≡ []) }
+        ensures word { IfSome result (λ w. self.old.words ≡ w.now ∷ self.new.words) }
+        ensures same { IfNone result (self.new.last ≡ self.old.last) }
+        ensures last { IfSome result (λ _. self.new.last ≡ self.old.last + 1) }
+    {
+        let rest = self.rest?;
+        let (word, rest) = cut(rest);
+        self.rest = rest;
+        self.last += 1;
+        Some(word)
+    }
+
+    /// The fault of a word behind the one that was read last: it is missing, or one too many.
+    fn behind_last(&self) -> CommandFault
+        ensures { result ≡ CommandFault.BadCommand (self.now.last + 1) }
+    {
+        CommandFault::BadCommand {
+            part: self.last + 1,
+        }
+    }
+
+    /// The fault of the word that was read last.
+    fn at_last(&self) -> CommandFault
+        ensures { result ≡ CommandFault.BadCommand self.now.last }
+    {
+        CommandFault::BadCommand { part: self.last }
+    }
+
+    /// The text of the next word.
+    pub(crate) fn text(&mut self, alloc: Global) -> Result<Txt, CommandFault>
+        ensures ok { IfOk result (λ text. (next : List ℕ → Wanted) → given (word next) self.old ≡ given (next text) self.new) }
+        ensures err { IfErr result (λ fault. (next : List ℕ → Wanted) → IsFault (given (word next) self.old) fault) }
+    {
+        let Some(written) = self.next() else {
+            return Err(self.behind_last());
+        };
+        if bad_escape(written.as_bytes()).is_some() {
+            return Err(self.at_last());
+        }
+        let text = unescape(alloc, written)?;
+        Ok(Txt::new(text))
+    }
+
+    /// The timestamp whose text the next word is.
+    pub(crate) fn stamp(&mut self, alloc: Global) -> Result<Stamp, CommandFault>
+        ensures ok { IfOk result (λ stamp. (next : Stamp → Wanted) → given (stamp_word next) self.old ≡ given (next stamp) self.new) }
+        ensures valid { IfOk result IsStamp }
+        ensures err { IfErr result (λ fault. (next : Stamp → Wanted) → IsFault (given (stamp_word next) self.old) fault) }
+    {
+        let text = self.text(alloc)?;
+        match Stamp::parse(text.bytes()) {
+            Ok(stamp) => Ok(stamp),
+            Err(_) => Err(self.at_last()),
+        }
+    }
+
+    /// The name that the next word is.
+    pub(crate) fn name(&mut self, alloc: Global, part: NamePart) -> Result<Txt, CommandFault>
+        ensures ok { IfOk result (λ name. (next : List ℕ → Wanted) → given (name_word part next) self.old ≡ given (next name) self.new) }
+        ensures good { IfOk result (λ name. name_fault part name ≡ None) }
+        ensures err { IfErr result (λ fault. (next : List ℕ → Wanted) → IsFault (given (name_word part next) self.old) fault) }
+    {
+        let name = self.text(alloc)?;
+        match check_name(part, name.bytes()) {
+            Ok(()) => Ok(name),
+            Err(_) => Err(self.at_last()),
+        }
+    }
+
+    /// Whether no word is left.
+    pub(crate) fn end(&self) -> Result<(), CommandFault>
+        ensures ok { OnOk result ((command : Command) → given (no_more command) self.now ≡ Ok command) }
+        ensures err { IfErr result (λ fault. (command : Command) → IsFault (given (no_more command) self.now) fault) }
+    {
+        match self.rest {
+            Some(_) => Err(self.behind_last()),
+            None => Ok(()),
+        }
+    }
+}
