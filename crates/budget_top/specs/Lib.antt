@@ -6,3 +6,6 @@ pub mod Fronts
 pub mod MergeRun
 pub mod Stops
 pub mod Steps
+pub mod Session
+pub mod Seen
+pub mod Acting

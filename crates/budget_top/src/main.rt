@@ -2,9 +2,11 @@
 #![tactic(auto)]
 
 mod adapters;
+mod answer;
 mod begun;
 mod dispatch;
 mod merge;
+mod opening;
 mod planning;
 mod stop;
 #[cfg(test)]
