@@ -4,3 +4,5 @@ pub mod Greatest
 pub mod Starting
 pub mod Keeping
 pub mod Writing
+pub mod OneRecord
+pub mod KeptSets
