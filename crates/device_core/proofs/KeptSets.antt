@@ -1,5 +1,5 @@
 -- A group that keeps a message set, with the records of more messages.
-use Rattle.std.proofs.Common.{◌≡◌, ◌≢◌, ℕ, ◌+◌, Bool, true, false, ◌||◌, cond, List, [], ◌∷◌, ◌++◌, map, Option, None, Some, is_none, Result, Ok, Err, refl, sym, ap, ap₂, subst, ◌∙◌, true≢false, Ordering, Less, Equal, Greater}
+use Rattle.std.proofs.Common.{◌≡◌, ℕ, ◌+◌, Bool, true, false, ◌||◌, cond, List, [], ◌∷◌, ◌++◌, map, Option, None, Some, is_none, Result, Ok, Err, refl, sym, ap, ap₂, subst, ◌∙◌, true≢false, Ordering, Less, Equal, Greater}
 use Rattle.std.specs.Prelude.{is_ok, if◌then◌else◌}
 use Rattle.std.specs.Result.{result_ok}
 use Rattle.std.specs.List.{AllByRecursion, list_any, filter_map, position_from, cons_option}
@@ -22,8 +22,8 @@ use Rattle.field_merge.specs.declared.message.Message.{Message}
 use Rattle.field_merge.specs.declared.line.LineFault.{LineFault}
 use Rattle.field_merge.specs.Escapes.{escaped, unescaped, bad_escape}
 use Rattle.field_merge.specs.Lines.{parts, with_names, with_stamp, of_parts, reading}
-use Rattle.field_merge.specs.Messages.{IsMessage, AreMessages}
-use Rattle.field_merge.specs.Log.{IsRising, has_stamp, by_stamp, placed, join_one, join}
+use Rattle.field_merge.specs.Messages.{IsMessage}
+use Rattle.field_merge.specs.Log.{IsRising, has_stamp, by_stamp, placed, join}
 use Rattle.field_merge.proofs.EscapeLemmas.{Lacks, escaped-no_tab, unescaped-escaped}
 use Rattle.field_merge.proofs.LineLemmas.{parts-at}
 use Rattle.field_merge.proofs.StampLemmas.{stamp_text_escaped}
@@ -32,7 +32,7 @@ use Rattle.field_merge.proofs.Ordered.{IsBelow, cons, in_order_nil, same}
 use Rattle.field_merge.proofs.Joining.{stamp_of, rising, found}
 use Rattle.device_core.specs.Records.{record_of, message_in, unless_bad, set_of, kept_set}
 use Rattle.device_core.specs.Device.{new_in}
-use Rattle.device_core.specs.Holding.{Others, Holds, BatchesAreKept}
+use Rattle.device_core.specs.Holding.{Holds, BatchesAreKept}
 use Rattle.device_core.proofs.Keeping.{reads_back, have_keys}
 use Rattle.device_core.proofs.OneRecord.{add_record, group_with, others_with}
 

@@ -1,8 +1,8 @@
+pub mod OneRecord
+pub mod KeptSets
 pub mod Members
 pub mod Stamping
 pub mod Greatest
 pub mod Starting
 pub mod Keeping
 pub mod Writing
-pub mod OneRecord
-pub mod KeptSets

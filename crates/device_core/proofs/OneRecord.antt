@@ -1,9 +1,8 @@
 -- What a keeper's records are with one more: those of its group, and all other places.
-use Rattle.std.proofs.Common.{◌≡◌, ◌≢◌, ℕ, ◌<◌, Bool, true, false, ◌&&◌, cond, List, [], ◌∷◌, map, filter, length, Option, None, Some, is_some, refl, sym, ap, ap₂, ◌∙◌, inl, inr, arith, true≢false, Ordering, Less, Equal, Greater}
+use Rattle.std.proofs.Common.{◌≡◌, ◌≢◌, ◌<◌, Bool, true, false, ◌&&◌, cond, List, [], ◌∷◌, map, filter, length, None, Some, is_some, refl, sym, ap, ap₂, ◌∙◌, inl, inr, arith, true≢false, Ordering, Less, Equal, Greater}
 use Rattle.std.specs.Prelude.{T}
-use Rattle.std.specs.List.{AllByRecursion}
 use Rattle.std.specs.Ordering.{is_eq, is_lt, ordering_then, ordering_reverse}
-use Rattle.std.specs.Cmp.{IsTotalOrder, tied_itself}
+use Rattle.std.specs.Cmp.{tied_itself}
 use Rattle.std.proofs.lemmas.Bool.{and_parts, cases_Bool}
 use Rattle.std.specs.FinMap.{FinMap, find, put, is_sorted, entries, entries_sorted, entries-insert, get, get-entries, get-insert, contains_key, insert}
 use Rattle.std.specs.FinMap.Entries.{by_order}
