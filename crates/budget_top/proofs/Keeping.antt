@@ -1,5 +1,7 @@
 -- What a keeper holds after a device's new messages.
-use Rattle.std.proofs.Common.{◌≡◌, ◌⊎◌, inl, inr, List, [], ◌∷◌, Bool, true, false, cond, map, refl, sym, ap, ◌∙◌, subst}
+use Rattle.std.proofs.Common.{◌≡◌, ◌⊎◌, inl, inr, List, [], ◌∷◌, Bool, true, false, cond, length, map, refl, sym, ap, ◌∙◌, subst, arith}
+use Rattle.std.specs.Prelude.{◌==◌}
+use Rattle.std.proofs.lemmas.Bool.{eqb-true}
 use Rattle.std.specs.List.{list_any, AllByRecursion}
 use Rattle.std.specs.Ordering.{is_lt}
 use Rattle.std.specs.declared.cmp.Ordering.{Ordering}
@@ -87,6 +89,13 @@ carries law old device group batch before now valid named all is b =
     let appends : appended before device_group device.batch ≡ now = ap (λ (g : Text). appended before g device.batch) (sym named) ∙ ap (λ (rs : List Kept). appended before group rs) (sym all) ∙ sym is in
     subst (λ (k : Contents). Carries old device.state.messages before k) appends (kept_all law old device before valid b)
 
+pub none_of : (batch rs : List Kept) (is_empty : Bool) → rs ≡ batch → is_empty ≡ (length rs == 0) → is_empty ≡ true → batch ≡ []
+none_of batch rs is_empty same tells is = sym same ∙ by rs (sym tells ∙ is)
+  where
+    by : (rs : List Kept) → (length rs == 0) ≡ true → rs ≡ []
+    by [] h = refl
+    by (r ∷ rs) h = let none : length (r ∷ rs) ≡ 0 = eqb-true _ _ h in absurd (omega arith)
+
 -- nothing was to be kept
 pub carries_none : BatchesAreKept → (old : List Message) (device : DeviceState) (before : Contents) → AreMessages device.state.messages → device.batch ≡ [] → Brings old device → Carries old device.state.messages before before
 carries_none law old device before valid none b = carries law old device device_group [] before before valid refl (sym none) refl b
@@ -108,9 +117,6 @@ stops_kept law old device group batch before c left new_left valid named all onl
   | inr done ↦ either_new old device.state.messages before c (carries law old device group batch before c valid named all done b)
 ]
 
--- what a stop may leave, by the messages that are meant
-pub either_along : (old new meant : List Message) (before now : Contents) → new ≡ meant → CarriesEither old new before now → CarriesEither old meant before now
-either_along old new meant before now same h = subst (λ (ms : List Message). CarriesEither old ms before now) same h
-
+-- by the messages that are meant
 pub carries_along : (old new meant : List Message) (before now : Contents) → new ≡ meant → Carries old new before now → Carries old meant before now
 carries_along old new meant before now same h = subst (λ (ms : List Message). Carries old ms before now) same h

@@ -1,6 +1,6 @@
 -- What a line makes of a device.
 use Rattle.std.proofs.Common.{◌≡◌, ℕ, List, [], ◌∷◌, Bool, true, false, cond, map, refl, sym, ap, ◌∙◌, subst, length, Option, None, Some, Result, Ok, Err}
-use Rattle.std.specs.Prelude.{IsUtf8, nat_lt}
+use Rattle.std.specs.Prelude.{IsUtf8, nat_lt, OnOk, OnErr}
 use Rattle.std.specs.Str.{is_utf8}
 use Rattle.std.proofs.lemmas.Bool.{false_from_ne_true}
 use Rattle.std.proofs.lemmas.Str.{IsUtf8-from_is_utf8, is_utf8-from_IsUtf8}
@@ -11,6 +11,7 @@ use Rattle.field_merge.specs.declared.message.Message.{Message}
 use Rattle.device_core.specs.declared.edit.Edit.{Edit}
 use Rattle.device_core.specs.declared.edit.Write.{Write}
 use Rattle.device_core.specs.declared.edit.EditFault.{EditFault}
+use Rattle.device_core.specs.declared.edit.EditFault.TheVariants.{TooManyWrites}
 use Rattle.device_core.specs.declared.edit.LineRefusal.{LineRefusal}
 use Rattle.device_core.specs.declared.edit.LineRefusal.TheVariants.{Edit as OfEdit, Clock as OfClock, NoMemory}
 use Rattle.device_core.specs.Edits.{writes_of}
@@ -78,7 +79,7 @@ brings_writing s reading (Err fault) done is = absurd (cc)
 brings_writing s reading (Ok []) done is = brings_at s.messages _ done is (brings_none s.messages (at_rest s) refl refl)
 brings_writing s reading (Ok (w ∷ ws)) done is = by (nat_lt 65_536 (length (w ∷ ws))) is
   where
-    by : (many : Bool) → cond many (Err _) (written s (w ∷ ws) (draw s.clock reading (length (w ∷ ws)))) ≡ Ok done → Brings s.messages done.device
+    by : (many : Bool) → cond many (Err (OfEdit (TooManyWrites (length (w ∷ ws))))) (written s (w ∷ ws) (draw s.clock reading (length (w ∷ ws)))) ≡ Ok done → Brings s.messages done.device
     by true is = absurd (cc)
     by false is = brings_written s (w ∷ ws) _ done is
 
@@ -95,3 +96,13 @@ brings_receiving s ns reading (Some stamp) done is = brings_joined s ns (receive
 
 pub brings_received : (s : State) (ns : List Message) (reading : ℕ) (device : DeviceState) (count : ℕ) → IsAccepted (received s ns reading) device count → Brings s.messages device
 brings_received s ns reading device count is = brings_receiving s ns reading (greatest_of ns) (record { device = device; count = count }) is
+
+-- ---- of any outcome
+
+pub whether_ok : {T E : Type 0} (P : Type 0) (r : Result T E) → P → OnOk r P
+whether_ok P (Ok x) p = p
+whether_ok P (Err e) p = tt
+
+pub whether_err : {T E : Type 0} (P : Type 0) (r : Result T E) → P → OnErr r P
+whether_err P (Ok x) p = tt
+whether_err P (Err e) p = p

@@ -17,7 +17,7 @@ use command_lines::{
     Command, CommandFault, Reply, added_reply, faulty_reply, read_command, read_reply,
     refusal_reply, reply_text, wrote_reply,
 };
-use device_core::{Device, Edit};
+use device_core::{Device, Edit, batches_are_kept};
 use field_merge::Message;
 use field_values::{NoMemory, Steps, Txt, TxtFault};
 use std::alloc::Global;
@@ -144,7 +144,8 @@ fn keep<K: Keeper>(device: &mut Device, keeper: &mut K, group: &Txt) -> Result<(
     ensures told { K.tells keeper.new → K.tells keeper.old }
     ensures cause { FailsFrom (K.faults keeper.old) (K.faults keeper.new) result }
 {
-    // The device's messages are valid, so a keeper keeps them.
+    // A device's messages are valid, so the records of the new ones keep them.
+    batches_are_kept();
     let _log = device.log();
     if !device.batch().is_empty() {
         keeper.append(group, device.batch())?;
