@@ -158,10 +158,7 @@ fn keep<K: Keeper>(device: &mut Device, keeper: &mut K, group: &Txt) -> Result<(
 fn is_refusal(reply: &Reply) -> bool
     ensures { result ≡ is_refused reply.now }
 {
-    match reply {
-        Reply::Done { .. } => false,
-        Reply::Refused { .. } => true,
-    }
+    matches!(reply, Reply::Refused { .. })
 }
 
 /// Does what a line asks at a reading of the wall clock, keeps what it made, and gives its reply.
