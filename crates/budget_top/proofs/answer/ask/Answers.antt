@@ -1,5 +1,4 @@
 use Rattle.budget_top.proofs.Obeying.{asked_text, asked_none}
-use Rattle.budget_top.proofs.Keeping.{carries}
 use Rattle.budget_top.proofs.answer.ask.Goals as goal
 
 pub returns-in-Ok-clause-read : goal.returns-in-Ok-clause-read
