@@ -44,7 +44,7 @@ batch_on before batch ms n ns all is rest =
     ∙ ap (λ l. before ++ l) (sym (map-append record_of (new_in ms (n ∷ [])) (new_in (join_one ms n) ns)) ∙ ap (map record_of) (sym (new_on ms n ns)))
     ∙ rest
 
-found_any : (p : Message → Bool) (ms : List Message) → is_none (find p ms) ≡ not (list_any p ms)
+pub found_any : (p : Message → Bool) (ms : List Message) → is_none (find p ms) ≡ not (list_any p ms)
 found_any p [] = refl
 found_any p (m ∷ ms) = go (p m) refl (found_any p ms)
   where

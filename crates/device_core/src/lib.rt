@@ -10,3 +10,6 @@ mod record;
 pub use device::{Device, StartFault};
 pub use edit::{BookEdit, Edit, EditFault, LineRefusal, Write};
 pub use record::records_read_back;
+
+#[cfg(test)]
+mod tests;
