@@ -1,5 +1,5 @@
 -- What holds of messages that join, and which of them are new.
-use Rattle.std.proofs.Common.{slice_index_or, drop, suc, ◌+◌, add-one, drop-cons, ◌≡◌, ℕ, ◌<◌, List, [], ◌∷◌, ◌++◌, Bool, true, false, not, cond, Option, None, Some, map, length, is_none, refl, sym, ap, ◌∙◌, subst, append_assoc}
+use Rattle.std.proofs.Common.{slice_index_or, drop, suc, ◌+◌, add-one, drop-cons, ◌≡◌, ℕ, ◌<◌, List, [], ◌∷◌, ◌++◌, Bool, true, false, not, cond, map, length, is_none, refl, sym, ap, ◌∙◌, append_assoc}
 use Rattle.std.specs.List.{find, list_any, AllByRecursion}
 use Rattle.std.proofs.lemmas.List.{map-append}
 use Rattle.field_merge.specs.declared.message.Message.{Message}

@@ -1,15 +1,14 @@
 -- The trie of messages, as messages join.
-use Rattle.std.proofs.Common.{◌≡◌, List, [], ◌∷◌, ◌++◌, Bool, true, false, not, cond, map, is_none, IsPermutation, refl, sym, ap, ◌∙◌, subst, true≢false}
+use Rattle.std.proofs.Common.{◌≡◌, List, [], ◌∷◌, ◌++◌, Bool, true, false, not, cond, is_none, IsPermutation, refl, sym, ap, ◌∙◌, true≢false}
 use Rattle.std.specs.List.{list_any}
 use Rattle.std.specs.Ordering.{is_lt}
-use Rattle.std.proofs.lemmas.List.{map-append}
-use Rattle.std.proofs.lemmas.List.Sorted.{IsPermutation-refl, IsPermutation-sym, IsPermutation-trans, IsPermutation-cons, IsPermutation-middle, IsPermutation-to_front, IsPermutation-map}
+use Rattle.std.proofs.lemmas.List.Sorted.{IsPermutation-refl, IsPermutation-trans, IsPermutation-cons, IsPermutation-middle, IsPermutation-to_front, IsPermutation-map}
 use Rattle.hybrid_clock.specs.declared.stamp.Stamp.{Stamp}
 use Rattle.hybrid_clock.specs.Stamp.{IsStamp}
 use Rattle.field_merge.specs.declared.message.Message.{Message}
 use Rattle.field_merge.specs.Log.{has_stamp, by_stamp, placed, join_one, at_stamp}
-use Rattle.field_merge.specs.Messages.{IsMessage, AreMessages}
-use Rattle.minute_trie.specs.Trie.{Pair, stamp_pair, IsPair, ArePairs}
+use Rattle.field_merge.specs.Messages.{AreMessages}
+use Rattle.minute_trie.specs.Trie.{stamp_pair, IsPair, ArePairs}
 use Rattle.device_core.specs.Device.{pairs_of}
 use Rattle.device_core.proofs.Members.{found_any}
 

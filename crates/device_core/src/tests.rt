@@ -98,7 +98,12 @@ fn starts_from_records(rt: HostRuntime) -> Result<(), Fail> {
     assert_eq!(rt; device.trie().root(), BOTH);
     assert_eq!(rt; device.batch().len(), 0);
     assert_eq!(rt;
-        outgoing(alloc, &device, "2024-01-05T10:00:00.000Z-0000-00000000000000a")?.as_str(),
+        outgoing(
+            alloc,
+            &device,
+            "2024-01-05T10:00:00.000Z-0000-00000000000000a"
+        )?
+        .as_str(),
         "2024-01-05T10:00:00.000Z-0000-00000000000000aa\tcategories\tfood\tname\tS:a\\\\b\n\
          2024-01-05T10:00:01.000Z-0000-00000000000000bb\tcategories\tfood\tname\tS:Meals\n"
     );

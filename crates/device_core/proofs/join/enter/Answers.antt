@@ -1,4 +1,4 @@
-use Rattle.std.proofs.Common.{◌≡◌, ◌∙◌, ◌++◌, ◌∷◌, [], List, ap, sym, subst}
+use Rattle.std.proofs.Common.{◌∙◌, ◌++◌, ◌∷◌, [], List, sym, subst}
 use Rattle.field_merge.specs.declared.message.Message.{Message}
 use Rattle.field_merge.specs.Log.{join_one}
 use Rattle.minute_trie.specs.Trie.{stamp_pair, IsTrieOf}

@@ -1,7 +1,6 @@
 use Rattle.std.proofs.Common.{◌≡◌, ◌∙◌, ◌∷◌, ◌++◌, ◌+◌, List, ap, sym, subst, drop, map}
-use Rattle.budget_ports.specs.declared.keeper.Kept.{Kept}
 use Rattle.field_merge.specs.declared.message.Message.{Message}
-use Rattle.field_merge.specs.Log.{join, join_one}
+use Rattle.field_merge.specs.Log.{join}
 use Rattle.field_merge.specs.Messages.{AreMessages}
 use Rattle.device_core.specs.Records.{record_of}
 use Rattle.device_core.specs.Device.{new_in}

@@ -1,4 +1,4 @@
-use Rattle.std.proofs.Common.{◌≡◌, ◌∙◌, ap, sym, subst}
+use Rattle.std.proofs.Common.{◌∙◌, ap, sym, subst}
 use Rattle.field_merge.specs.Log.{LogState}
 use Rattle.field_merge.specs.Messages.{AreMessages}
 use Rattle.minute_trie.specs.Trie.{IsTrieOf}

@@ -1,4 +1,4 @@
-use Rattle.std.proofs.Common.{◌≡◌, sym}
+use Rattle.std.proofs.Common.{sym}
 use Rattle.device_core.proofs.Greatest.{of_valid, of_ahead, ahead_later}
 use Rattle.device_core.proofs.device.Device.incoming.Goals as goal
 

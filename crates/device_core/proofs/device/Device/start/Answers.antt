@@ -1,4 +1,4 @@
-use Rattle.std.proofs.Common.{◌≡◌, ◌∙◌, Option, ap, sym, subst}
+use Rattle.std.proofs.Common.{◌∙◌, Option, ap, sym, subst}
 use Rattle.std.specs.Option.{ForSome}
 use Rattle.hybrid_clock.specs.declared.stamp.Stamp.{Stamp}
 use Rattle.hybrid_clock.specs.Stamp.{IsStamp}
