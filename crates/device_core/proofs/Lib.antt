@@ -6,3 +6,4 @@ pub mod Greatest
 pub mod Starting
 pub mod Keeping
 pub mod Writing
+pub mod Tracking
