@@ -8,6 +8,7 @@ mod laws;
 mod line;
 mod log;
 mod message;
+mod shared;
 
 pub use escape::{bad_escape, push_escaped, unescape};
 pub use laws::{
