@@ -1,16 +1,15 @@
 -- What the latest message of each field is once a message with a new timestamp has taken its place.
-use Rattle.std.proofs.Common.{◌≡◌, ◌≢◌, List, [], ◌∷◌, Bool, true, false, ◌&&◌, cond, Option, None, Some, map, refl, sym, ap, ◌∙◌, subst}
+use Rattle.std.proofs.Common.{◌≡◌, List, [], ◌∷◌, Bool, true, false, ◌&&◌, cond, Option, None, Some, refl, sym, ap, ◌∙◌, subst}
 use Rattle.std.specs.Ordering.{is_eq, is_lt, ordering_reverse}
-use Rattle.std.specs.Option.{is_some, option_or}
+use Rattle.std.specs.Option.{option_or}
 use Rattle.std.specs.Cmp.{tied_itself}
-use Rattle.std.specs.List.{find, AllByRecursion}
-use Rattle.std.specs.declared.cmp.Ordering.{Ordering}
+use Rattle.std.specs.List.{AllByRecursion}
 use Rattle.std.specs.declared.cmp.Ordering.TheVariants.{Less, Equal, Greater}
-use Rattle.field_values.specs.Names.{FieldNames, names_cmp}
+use Rattle.field_values.specs.Names.{FieldNames}
 use Rattle.hybrid_clock.specs.declared.stamp.Stamp.{Stamp}
 use Rattle.hybrid_clock.specs.Order.{stamp_cmp}
 use Rattle.field_merge.specs.declared.message.Message.{Message}
-use Rattle.field_merge.specs.Log.{IsRising, at_stamp, by_stamp, has_field, has_stamp, latest, placed}
+use Rattle.field_merge.specs.Log.{IsRising, at_stamp, by_stamp, has_field, latest, placed}
 use Rattle.field_merge.specs.Kept.{is_newer}
 use Rattle.field_merge.proofs.Orders.{stamps_total, names_exact, names_total}
 use Rattle.field_merge.proofs.Members.{all_of, all_keys, missed, or_none}

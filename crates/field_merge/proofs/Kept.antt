@@ -1,10 +1,10 @@
 -- The maps of a log, as lists of messages and of latest timestamps.
 use Rattle.std.proofs.Common.{◌≡◌, ◌≢◌, ◌+◌, IsTrue, arith, length, List, [], ◌∷◌, Bool, true, false, not, ◌&&◌, ◌||◌, ◌↔◌, cond, Option, None, Some, map, refl, sym, ap, ◌∙◌, subst}
 use Rattle.std.specs.Ordering.{is_eq, is_lt, ordering_reverse, match_ordering}
-use Rattle.std.specs.Option.{is_none, is_some, option_map, option_or}
+use Rattle.std.specs.Option.{is_none, is_some}
 use Rattle.std.proofs.lemmas.Bool.{both_ways}
 use Rattle.std.specs.Cmp.{tied_itself}
-use Rattle.std.specs.List.{find, list_any, AllByRecursion, Contains, IsDistinct}
+use Rattle.std.specs.List.{list_any, AllByRecursion, Contains, IsDistinct}
 use Rattle.std.specs.List.Sorted.{IsStrictlySortedBy}
 use Rattle.std.specs.Map.{keys_of, lookup, values_of}
 use Rattle.std.specs.BTreeMap.{insert_entry, is_at}
@@ -24,8 +24,8 @@ use Rattle.field_merge.specs.Kept.{AreEntries, IsIndex, MarksChanged, Notes, is_
 use Rattle.field_merge.proofs.Orders.{stamps_total, names_alike, names_exact, names_total}
 use Rattle.field_merge.proofs.Joining.{stamp_of}
 use Rattle.field_merge.proofs.Latest.{latest_there}
-use Rattle.field_merge.proofs.Members.{found_in, is_some-find, missed, some_passes}
-use Rattle.field_merge.proofs.Ordered.{equal, found_by_key}
+use Rattle.field_merge.proofs.Members.{is_some-find, missed, some_passes}
+use Rattle.field_merge.proofs.Ordered.{equal}
 use Rattle.field_merge.proofs.Placing.{all_placed, find-placed, in_order, length-placed}
 use Rattle.field_merge.proofs.Entering.{latest-placed, wins}
 

@@ -1,25 +1,21 @@
 -- The messages that an index leads to, in the order of the index.
-use Rattle.std.proofs.Common.{◌≡◌, List, [], ◌∷◌, Bool, true, false, cond, Option, None, Some, map, refl, sym, ap, ◌∙◌, subst}
+use Rattle.std.proofs.Common.{◌≡◌, List, [], ◌∷◌, Bool, true, false, cond, None, Some, map, refl, sym, ap, ◌∙◌, subst}
 use Rattle.std.specs.Ordering.{is_eq}
 use Rattle.std.specs.Option.{option_map}
-use Rattle.std.specs.List.{find, filter_map, cons_option, AllByRecursion, Contains}
+use Rattle.std.specs.List.{find}
 use Rattle.std.specs.List.Sorted.{IsStrictlySortedBy}
 use Rattle.std.specs.Map.{keys_of, lookup, values_of}
 use Rattle.std.specs.BTreeMap.{is_at}
 use Rattle.field_values.specs.Names.{FieldNames, names_cmp}
-use Rattle.hybrid_clock.specs.declared.stamp.Stamp.{Stamp}
-use Rattle.hybrid_clock.specs.Order.{stamp_cmp}
 use Rattle.field_merge.specs.declared.message.Message.{Message}
 use Rattle.field_merge.specs.Messages.{AreMessages, IsMessage}
-use Rattle.field_merge.specs.Log.{IsByField, at_stamp, fields, has_field, latest}
-use Rattle.field_merge.specs.Kept.{AreEntries, IsIndex}
-use Rattle.field_merge.proofs.Orders.{names_exact, names_total, stamps_total}
+use Rattle.field_merge.specs.Log.{fields, has_field, latest}
+use Rattle.field_merge.specs.Kept.{IsIndex}
+use Rattle.field_merge.proofs.Orders.{names_exact, names_total}
 use Rattle.field_merge.proofs.Members.{all_from, all_of}
-use Rattle.field_merge.proofs.Ordered.{equal, found_by_key, same}
-use Rattle.field_merge.proofs.Joining.{stamp_of}
+use Rattle.field_merge.proofs.Ordered.{equal, same}
 use Rattle.field_merge.proofs.Latest.{latest_there}
 use Rattle.field_merge.proofs.Fields.{fields_in_order, find-fields, lists_latest}
-use Rattle.field_merge.proofs.Kept.{lookup-own, rising_from}
 
 abbrev entry_of : Message → FieldNames × Message
 entry_of m = (m.field, m)

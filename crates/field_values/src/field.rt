@@ -24,12 +24,12 @@ pub struct Field {
     names: Rc<Names>,
 }
 
-/// The names, which the copies of a field share.
+/// The names, which the copies of a field share. Rows and columns, which are compared most, stand first, side by side.
 #[derive(Debug, Drop)]
 struct Names {
-    dataset: Txt,
     row: Txt,
     column: Txt,
+    dataset: Txt,
 }
 
 impl Model for Field {
