@@ -1,5 +1,5 @@
 use Rattle.field_values.proofs.HeadLemmas.{by_heads, in_heads}
-use Rattle.field_values.proofs.field.Field.dataset_cmp.Goals as goal
+use Rattle.field_values.proofs.key.FieldKey.dataset_cmp.Goals as goal
 
 pub returns-then-self-other : goal.returns-then-self-other
 returns-then-self-other c = rw (← c.self.view_is, ← c.other.view_is)

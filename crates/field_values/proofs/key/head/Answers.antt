@@ -1,6 +1,6 @@
 use Rattle.std.proofs.Common.{arith}
 use Rattle.field_values.proofs.HeadLemmas.{room, small_next, next}
-use Rattle.field_values.proofs.field.head.Goals as goal
+use Rattle.field_values.proofs.key.head.Goals as goal
 
 pub overflow_mul-head : goal.overflow_mul-head
 overflow_mul-head c = let few = room _ _ c.loop-at-test.true c.loop-at.invariant.small in omega arith
