@@ -9,33 +9,16 @@ use Rattle.std.specs.FinMap.Entries.{by_order}
 use Rattle.budget_ports.specs.declared.keeper.Kept.{Kept}
 use Rattle.budget_ports.specs.Contents.{Text, text_cmp, Place, place_cmp, is_in, of_entry, records_of_after, with_record}
 use Rattle.budget_ports.proofs.Maps.{IsRising}
+use Rattle.budget_ports.proofs.Rising.{less_is, is_true, in_order}
 use Rattle.budget_ports.proofs.Places.{text_total, text_same, place_total, place_same}
 use Rattle.budget_ports.proofs.Scans.{of_group, Above}
 use Rattle.field_merge.proofs.Ordered.{equal}
 
 -- ---- entries in order
 
-less_is : (o : Ordering) → is_lt o ≡ true → o ≡ Less
-less_is Less h = refl
-less_is Equal h = absurd (true≢false (sym h))
-less_is Greater h = absurd (true≢false (sym h))
-
-is_true : (b : Bool) → T b → b ≡ true
-is_true true t = refl
-is_true false t = absurd t
-
 lower : (x y : Place) (es : List (Place × Text)) → place_cmp x y ≡ Less → Above y es → Above x es
 lower x y [] low all = tt
 lower x y (e ∷ es) low all = (place_total.trans x y e.0 low all.0, lower x y es low all.1)
-
-in_order : (es : List (Place × Text)) → is_sorted place_cmp es ≡ true → IsRising place_cmp es
-in_order [] h = tt
-in_order (e ∷ []) h = (tt, tt)
-in_order (e ∷ f ∷ es) h =
-    let parts = and_parts _ _ h in
-    let low = less_is _ (and_parts _ _ parts.0).0 in
-    let later = in_order (f ∷ es) parts.1 in
-    ((low, lower e.0 f.0 es low later.0), later)
 
 rising : (m : FinMap place_cmp Text) → IsRising place_cmp (entries m)
 rising m = in_order (entries m) (is_true _ (entries_sorted m))
