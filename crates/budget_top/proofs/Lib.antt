@@ -8,3 +8,12 @@ pub mod Ending
 pub mod Running
 pub mod Judging
 pub mod Finding
+mod Parses
+pub mod ClapRules
+pub mod ClapWords
+pub mod ClapWalk
+pub mod ClapLines
+pub mod ClapWhole
+pub mod Spelled
+pub mod Hyphens
+pub mod Refusing

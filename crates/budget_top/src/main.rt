@@ -4,12 +4,16 @@
 mod adapters;
 mod begun;
 mod dispatch;
+mod line;
 mod merge;
 mod planning;
 mod stop;
 #[cfg(test)]
 mod tests;
+mod values;
 mod verdict;
+#[cfg(test)]
+mod word_tests;
 mod words;
 mod write;
 
