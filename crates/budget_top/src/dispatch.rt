@@ -1,5 +1,5 @@
 //! The top call.
-ghost use Rattle.std.specs.Prelude.{◌≡◌, ◌↔◌, Some, IsErr};
+ghost use Rattle.std.specs.Prelude.{◌≡◌, ◌⊎◌, Some, IsErr};
 ghost use Rattle.budget_ports.specs.Faults.{Rose};
 ghost use Rattle.budget_top.specs.Words.{planned, planned_mode, refusal_status};
 ghost use Rattle.budget_top.specs.MergeRun.{MergeRun};
@@ -38,7 +38,7 @@ pub fn status_of(fault: WordFault) -> u8
 {
     match fault {
         WordFault::NoMemory => NO_MEMORY,
-        WordFault::Words => BAD_WORDS,
+        _ => BAD_WORDS,
     }
 }
 
@@ -52,8 +52,9 @@ pub fn run<S: Source, W: Sink>(
     sink: &mut W,
 ) -> u8
     // words
-    ensures words { (result ≡ 2) ↔ IsErr (planned words.now) }
-    ensures untouched { result ≡ 2 → (source.new ≡ source.old) × (sink.new ≡ sink.old) }
+    ensures words { result ≡ 2 → IsErr (planned words.now) }
+    ensures refused { IsErr (planned words.now) → (result ≡ 2) ⊎ (result ≡ 7) }
+    ensures untouched { IsErr (planned words.now) → (source.new ≡ source.old) × (sink.new ≡ sink.old) }
 
     // modes
     ensures merge { planned_mode words.now ≡ Some Mode.Merge → MergeRun result (S.left source.old) (S.left source.new) (W.taken sink.old) (W.taken sink.new) }
@@ -65,8 +66,8 @@ pub fn run<S: Source, W: Sink>(
     match plan(alloc, words) {
         Ok(plan) => match plan.mode {
             Mode::Merge => run_merge(alloc, source, sink),
+            Mode::Device => NO_MEMORY,
         },
-        Err(WordFault::NoMemory) => status_of(WordFault::NoMemory),
-        Err(WordFault::Words) => status_of(WordFault::Words),
+        Err(fault) => status_of(fault),
     }
 }

@@ -5,13 +5,17 @@ mod adapters;
 mod answer;
 mod begun;
 mod dispatch;
+mod line;
 mod merge;
 mod opening;
 mod planning;
 mod stop;
 #[cfg(test)]
 mod tests;
+mod values;
 mod verdict;
+#[cfg(test)]
+mod word_tests;
 mod words;
 mod write;
 
