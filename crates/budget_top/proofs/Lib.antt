@@ -8,3 +8,5 @@ pub mod Ending
 pub mod Running
 pub mod Judging
 pub mod Finding
+pub mod Folding
+pub mod Serving

@@ -6,8 +6,8 @@ use Rattle.std.proofs.lemmas.Grind.{common_steps}
 use Rattle.std.proofs.KnownBytes.{Consumes-trans}
 use Rattle.std.specs.Io.KnownBytes.{Consumes}
 use Rattle.budget_top.specs.declared.merge.Merge.{Merge}
-use Rattle.budget_top.specs.MergeRun.{most_input}
-use Rattle.budget_top.specs.Steps.{Stands, HasRead}
+use Rattle.budget_top.specs.Limits.{most_input, HasRead}
+use Rattle.budget_top.specs.Steps.{Stands}
 
 -- so many bytes were read and dealt with
 pub record SoFar (left new_left entry now : Option (List ℕ)) (count : ℕ) (m : Merge) : Type 0 where

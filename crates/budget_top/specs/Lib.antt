@@ -1,5 +1,6 @@
 pub mod Words
 pub mod Lines
+pub mod Limits
 pub mod Verdicts
 pub mod Kept
 pub mod Fronts
@@ -9,3 +10,6 @@ pub mod Steps
 pub mod Session
 pub mod Seen
 pub mod Acting
+pub mod DeviceStops
+pub mod Standing
+pub mod DeviceRun

@@ -4,10 +4,13 @@
 mod adapters;
 mod answer;
 mod begun;
+mod device_run;
 mod dispatch;
+mod input;
 mod merge;
 mod opening;
 mod planning;
+mod session;
 mod stop;
 #[cfg(test)]
 mod tests;
