@@ -10,3 +10,4 @@ pub mod Judging
 pub mod Finding
 pub mod Folding
 pub mod Serving
+pub mod Answering

@@ -26,10 +26,10 @@ has_read left mid new entry now taken count m buffer h reads within asked = reco
 pub length_more : (read buffer : List ℕ) (taken count : ℕ) → length read ≡ taken → count ≤ length buffer → length (read ++ take count buffer) ≡ taken + count
 length_more read buffer taken count h within = simp (length-append, length-take) (omega arith)
 
-front_alone : (m : ℕ) (buffer rest : List ℕ) → m ≤ length buffer → take m (buffer ++ rest) ≡ take m buffer
+pub front_alone : (m : ℕ) (buffer rest : List ℕ) → m ≤ length buffer → take m (buffer ++ rest) ≡ take m buffer
 front_alone m buffer rest h = grind (arith, common_steps)
 
-all_of : (k : ℕ) (xs : List ℕ) → length xs ≤ k → take k xs ≡ xs
+pub all_of : (k : ℕ) (xs : List ℕ) → length xs ≤ k → take k xs ≡ xs
 all_of k xs h = grind (arith, common_steps)
 
 -- the bytes up to the limit
