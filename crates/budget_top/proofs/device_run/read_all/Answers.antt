@@ -7,7 +7,7 @@ use Rattle.budget_top.proofs.device_run.read_all.Goals as goal
 pub returns-in-Ok-eq0-clause-ends : goal.returns-in-Ok-eq0-clause-ends
 returns-in-Ok-eq0-clause-ends g c = λ e s. (
   c.reads.invariant.read.read,
-  read_none _ _ _ _ _ c.reads.taken _ c.reads.invariant.read.many c.reads.invariant.within c.reads.invariant.read.reads c.in-Ok-eq0.field-0-is c.in-Ok-eq0.ensures.bytes.0,
+  read_none _ _ _ _ _ c.reads.taken _ c.reads.invariant.read.many c.reads.invariant.within c.reads.invariant.read.reads c.in-Ok-eq0.field-0-test c.in-Ok-eq0.ensures.bytes.0,
   (omega (arith, c.reads.invariant.read.many, c.reads.invariant.within), c.reads.invariant.read.stands e s),
 )
 
