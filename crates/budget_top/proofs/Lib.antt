@@ -11,3 +11,5 @@ pub mod Finding
 pub mod Folding
 pub mod Serving
 pub mod Answering
+pub mod Obeying
+pub mod Keeping

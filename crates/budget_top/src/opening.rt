@@ -7,8 +7,8 @@ ghost use Rattle.device_core.specs.Records.{kept_set};
 ghost use Rattle.budget_top.specs.Seen.{device_group, device_records};
 ghost use Rattle.budget_top.specs.Acting.{IsOpened};
 
-use budget_ports::Keeper;
-use device_core::Device;
+use budget_ports::{Keeper, PortFault};
+use device_core::{Device, StartFault};
 use field_values::Txt;
 use hybrid_clock::Node;
 use std::alloc::Global;
@@ -41,5 +41,14 @@ pub fn open<K: Keeper>(
     ensures later { K.faults keeper.old ≤ K.faults keeper.new }
     ensures cause { result ≡ Err OpeningFault.Keeper → Rose (K.faults keeper.old) (K.faults keeper.new) }
 {
-    unreachable!()
+    let records = match keeper.since(group, &Txt::new(String::new(alloc))) {
+        Ok(records) => records,
+        Err(PortFault::Failed) => return Err(OpeningFault::Keeper),
+        Err(PortFault::NoMemory) => return Err(OpeningFault::NoMemory),
+    };
+    match Device::start(alloc, node, records.as_slice()) {
+        Ok(device) => Ok(device),
+        Err(StartFault::NoMemory) => Err(OpeningFault::NoMemory),
+        Err(StartFault::BadRecord { index }) => Err(OpeningFault::BadRecord { index }),
+    }
 }

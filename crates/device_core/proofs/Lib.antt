@@ -1,3 +1,5 @@
+pub mod OneRecord
+pub mod KeptSets
 pub mod Members
 pub mod Stamping
 pub mod Greatest
