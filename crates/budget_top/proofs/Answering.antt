@@ -98,6 +98,7 @@ answers_all has_bad status left new_left e alone session now read is bad has_rea
   where
     handles : (b : Bool) → session.bad ≡ b → HandlesAll b new_left e alone read now
     handles b same = record { within = within; at_end = at_end; handled = ended.handled; bad = sym ended.bad ∙ same; stops = stops }
+
     by : (b : Bool) → session.bad ≡ b → Answers (cond b 1 0) left new_left e alone now
     by false same = record {
       read = read;

@@ -101,13 +101,7 @@ fn answer_lines<S: Source, W: Sink, K: Keeper, C: WallClock, G: Ledger>(
 {
     match read_all(alloc, session, source, sink, keeper, clock, steps) {
         End::AtEnd => match session.end_last(alloc, sink, keeper, clock, steps) {
-            Ok(()) => {
-                if session.bad {
-                    SOME_BAD
-                } else {
-                    DONE
-                }
-            }
+            Ok(()) => { if session.bad { SOME_BAD } else { DONE } }
             Err(stop) => stop.status(),
         },
         End::SourceFailed => SOURCE_FAILED,

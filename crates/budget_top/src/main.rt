@@ -5,6 +5,8 @@ mod adapters;
 mod answer;
 mod begun;
 mod device_run;
+#[cfg(test)]
+mod device_tests;
 mod dispatch;
 mod input;
 mod merge;
