@@ -20,11 +20,17 @@ pub const SOME_BAD: u8 = 1;
 /// The words are refused. Nothing was touched.
 pub const BAD_WORDS: u8 = 2;
 
+/// A record that is kept is no message. No line was taken.
+pub const BAD_RECORD: u8 = 3;
+
 /// The source failed.
 pub const SOURCE_FAILED: u8 = 4;
 
 /// The sink failed.
 pub const SINK_FAILED: u8 = 5;
+
+/// The keeper failed.
+pub const KEEPER_FAILED: u8 = 6;
 
 /// Memory ran out.
 pub const NO_MEMORY: u8 = 7;

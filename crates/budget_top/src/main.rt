@@ -4,11 +4,16 @@
 mod adapters;
 mod answer;
 mod begun;
+mod device_run;
+#[cfg(test)]
+mod device_tests;
 mod dispatch;
+mod input;
 mod line;
 mod merge;
 mod opening;
 mod planning;
+mod session;
 mod stop;
 #[cfg(test)]
 mod tests;
