@@ -275,7 +275,11 @@ fn messages_are_answered(rt: HostRuntime) -> Result<(), Fail> {
         ("3", "ok 0\n"),
     ] {
         let command = messages(alloc, since)?;
-        assert_eq!(rt; answered(alloc, &device, &command)?.as_str(), text, "since {since}");
+        assert_eq!(rt;
+            answered(alloc, &device, &command)?.as_str(),
+            text,
+            "since {since}"
+        );
     }
     Ok(())
 }
@@ -286,7 +290,11 @@ fn values_are_answered(rt: HostRuntime) -> Result<(), Fail> {
     let device = device(alloc)?;
     for (row, text) in [("food", "ok 1\nS:c\\td\n"), ("rent", "ok 1\nnone\n")] {
         let command = name_of(alloc, row)?;
-        assert_eq!(rt; answered(alloc, &device, &command)?.as_str(), text, "of {row}");
+        assert_eq!(rt;
+            answered(alloc, &device, &command)?.as_str(),
+            text,
+            "of {row}"
+        );
     }
     Ok(())
 }
