@@ -1,10 +1,10 @@
 -- The pieces of bytes that come one after the other.
-use Rattle.std.proofs.Common.{◌≡◌, ℕ, zero, suc, ◌+◌, ◌<◌, ◌≤◌, List, [], ◌∷◌, ◌++◌, refl, ap, sym, ◌∙◌, Bool, true, false, cond, not, None, Some, length, take, drop, get_or, nat_lt, arith, append-nil, subst}
+use Rattle.std.proofs.Common.{◌≡◌, ℕ, suc, ◌+◌, ◌≤◌, List, [], ◌∷◌, ◌++◌, refl, ap, sym, ◌∙◌, Bool, true, false, cond, not, None, Some, length, take, get_or, nat_lt, arith, append-nil, subst}
 use Rattle.std.proofs.lemmas.Bool.{ltb-false, eqb-true}
 use Rattle.std.proofs.lemmas.List.Quantifiers.{position-Some}
 use Rattle.std.proofs.lemmas.Grind.{common_steps}
-use Rattle.std.specs.List.{slice_split, onto_first, position, position_or_len}
-use Rattle.budget_top.specs.Lines.{is_end, pieces, IsWithinLine, FirstEnd, all_but_last, last_of, whole_lines, last_piece, line_if_some, all_lines}
+use Rattle.std.specs.List.{onto_first, position, position_or_len}
+use Rattle.budget_top.specs.Lines.{is_end, pieces, IsWithinLine, FirstEnd, all_but_last, last_of, whole_lines, last_piece}
 
 -- bytes before the first of some pieces
 abbrev pub onto : List ℕ → List (List ℕ) → List (List ℕ)

@@ -1,11 +1,11 @@
 -- The end of the input.
-use Rattle.std.proofs.Common.{◌≡◌, ℕ, ◌+◌, List, [], ◌∷◌, ◌++◌, refl, ap, sym, ◌∙◌, Bool, true, false, cond, Option, None, Some, length, append-nil, nat_lt}
+use Rattle.std.proofs.Common.{◌≡◌, ℕ, List, [], ◌∷◌, ◌++◌, refl, ap, sym, ◌∙◌, Option, Some, append-nil}
 use Rattle.std.proofs.KnownBytes.{Appends-trans, Appends-kept}
 use Rattle.std.specs.Io.KnownBytes.{Appends, Keeps}
 use Rattle.field_merge.specs.Log.{join, field_text}
 use Rattle.budget_top.specs.declared.merge.Merge.{Merge}
 use Rattle.budget_top.specs.Lines.{whole_lines, last_piece, all_lines, line_if_some}
-use Rattle.budget_top.specs.Verdicts.{longest_line, bad_lines, messages_of, some_bad, merge_text}
+use Rattle.budget_top.specs.Verdicts.{bad_lines, messages_of, some_bad, merge_text}
 use Rattle.budget_top.specs.Kept.{kept}
 use Rattle.budget_top.specs.Fronts.{AppendsFront}
 use Rattle.budget_top.specs.Steps.{Stands, Ended}

@@ -1,5 +1,5 @@
 -- The verdict on a line that is short enough.
-use Rattle.std.proofs.Common.{◌≡◌, List, ℕ, true, false, refl, ap, sym, ◌∙◌, Result, Ok, Err}
+use Rattle.std.proofs.Common.{◌≡◌, List, ℕ, true, false, refl, ap, sym, ◌∙◌, Result, Err}
 use Rattle.std.specs.Prelude.{IsUtf8}
 use Rattle.std.specs.Str.{is_utf8}
 use Rattle.std.proofs.lemmas.Bool.{false_from_ne_true}

@@ -13,3 +13,12 @@ pub mod Serving
 pub mod Answering
 pub mod Obeying
 pub mod Keeping
+mod Parses
+pub mod ClapRules
+pub mod ClapWords
+pub mod ClapWalk
+pub mod ClapLines
+pub mod ClapWhole
+pub mod Spelled
+pub mod Hyphens
+pub mod Refusing

@@ -1,15 +1,15 @@
 -- The run as a whole.
-use Rattle.std.proofs.Common.{◌≡◌, ℕ, ◌+◌, ◌<◌, ◌≤◌, ◌⊎◌, inl, inr, List, [], ◌++◌, refl, ap, sym, ◌∙◌, subst, Bool, true, false, Option, length, take, drop, arith}
+use Rattle.std.proofs.Common.{◌≡◌, ℕ, ◌+◌, ◌≤◌, List, [], ◌++◌, refl, sym, subst, Option, length, take, drop, arith}
 use Rattle.std.proofs.lemmas.List.{take-append-drop}
 use Rattle.std.proofs.KnownBytes.{Consumes-nil}
-use Rattle.std.specs.Io.KnownBytes.{Appends, Consumes, IsAtEnd}
+use Rattle.std.specs.Io.KnownBytes.{Appends}
 use Rattle.budget_top.specs.declared.stop.Stop.{Stop}
 use Rattle.budget_top.specs.declared.stop.Stop.TheVariants.{Memory, Sink}
-use Rattle.budget_top.specs.Lines.{whole_lines, all_lines}
-use Rattle.budget_top.specs.Verdicts.{bad_lines, some_bad, merge_text}
+use Rattle.budget_top.specs.Lines.{whole_lines}
+use Rattle.budget_top.specs.Verdicts.{bad_lines, merge_text}
 use Rattle.budget_top.specs.Fronts.{IsFront, AppendsFront}
 use Rattle.budget_top.specs.Limits.{most_input, HasRead}
-use Rattle.budget_top.specs.MergeRun.{MergeRun, MergesAll, MergesTaken, MergesLimit, BreaksOff}
+use Rattle.budget_top.specs.MergeRun.{MergeRun, BreaksOff}
 use Rattle.budget_top.specs.Stops.{status_of}
 use Rattle.budget_top.proofs.Standing.{part_of_more, part_of_merge, front_none}
 

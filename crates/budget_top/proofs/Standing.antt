@@ -1,6 +1,6 @@
 -- Where merging stands after one more step.
-use Rattle.std.proofs.Common.{◌≡◌, ℕ, ◌+◌, ◌<◌, ◌≤◌, List, [], ◌∷◌, ◌++◌, refl, ap, sym, ◌∙◌, subst, Bool, true, false, ◌||◌, cond, Option, None, Some, length, length-append, arith, append_assoc, append-nil, nat_lt}
-use Rattle.std.proofs.lemmas.Bool.{ltb-true, ltb-false, lt-ltb, le-ltb, cases_Bool, cond-true, cond-false}
+use Rattle.std.proofs.Common.{◌≡◌, ℕ, ◌+◌, List, [], ◌∷◌, ◌++◌, refl, ap, sym, ◌∙◌, subst, true, false, ◌||◌, cond, Option, None, Some, length, length-append, arith, append_assoc, append-nil, nat_lt}
+use Rattle.std.proofs.lemmas.Bool.{ltb-true, lt-ltb, cond-true}
 use Rattle.std.proofs.KnownBytes.{Appends-trans, Appends-nil}
 use Rattle.std.specs.Io.KnownBytes.{Appends}
 use Rattle.std.specs.Result.{is_err}
@@ -10,7 +10,7 @@ use Rattle.budget_top.specs.Lines.{IsWithinLine, whole_lines, last_piece, all_li
 use Rattle.budget_top.specs.Verdicts.{Verdict, longest_line, judged, judged_short, bad_line, bad_lines, bad_lines_from, messages_of, message_in, some_bad, merge_text}
 use Rattle.budget_top.specs.Kept.{kept, kept_with, judged_kept}
 use Rattle.budget_top.specs.Fronts.{IsFront, AppendsFront}
-use Rattle.budget_top.specs.Steps.{Settles, Stands, Ended}
+use Rattle.budget_top.specs.Steps.{Settles, Stands}
 use Rattle.budget_top.proofs.Cutting.{whole_lines-within, last_piece-within, whole_lines-end, last_piece-end, whole_lines-append}
 use Rattle.budget_top.proofs.Counting.{bad_lines-append, bad_lines-push, joined-push, some_bad-push, length-push}
 

@@ -1,4 +1,6 @@
+pub mod Line
 pub mod Words
+pub mod Clap
 pub mod Lines
 pub mod Limits
 pub mod Verdicts

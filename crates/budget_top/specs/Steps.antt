@@ -1,14 +1,13 @@
 -- Where merging stands between two steps.
-use Rattle.std.specs.Prelude.{◌≡◌, ℕ, ◌+◌, ◌≤◌, Bool, false, ◌||◌, nat_lt, if◌then◌else◌, List, [], ◌∷◌, ◌++◌, length, take, Option, None, Some, Err}
+use Rattle.std.specs.Prelude.{◌≡◌, ℕ, ◌+◌, ◌≤◌, false, ◌||◌, List, [], length, take, Option}
 use Rattle.std.specs.Result.{is_err}
 use Rattle.std.specs.Io.KnownBytes.{Appends}
 use Rattle.field_merge.specs.Log.{join}
-use Rattle.budget_top.specs.declared.verdict.Word.TheVariants.{Long}
 use Rattle.budget_top.specs.declared.merge.Merge.{Merge}
 use Rattle.budget_top.specs.declared.merge.End.{End}
 use Rattle.budget_top.specs.declared.merge.End.TheVariants.{AtEnd, SourceFailed, TooMuch, Stopped}
 use Rattle.budget_top.specs.Lines.{whole_lines, last_piece, all_lines}
-use Rattle.budget_top.specs.Verdicts.{Verdict, judged_short, bad_line, bad_lines, message_in, messages_of, some_bad}
+use Rattle.budget_top.specs.Verdicts.{Verdict, bad_line, bad_lines, message_in, messages_of, some_bad}
 use Rattle.budget_top.specs.Kept.{kept}
 use Rattle.budget_top.specs.Fronts.{AppendsFront}
 use Rattle.budget_top.specs.Limits.{most_input}

@@ -11,7 +11,7 @@ use Rattle.field_merge.specs.Lines.{reading}
 use Rattle.field_merge.specs.Log.{join, field_text}
 use Rattle.budget_top.specs.declared.verdict.Word.{Word}
 use Rattle.budget_top.specs.declared.verdict.Word.TheVariants.{Long, Utf8, Columns, Escape, Stamp, Name}
-use Rattle.budget_top.specs.Lines.{whole_lines, all_lines}
+use Rattle.budget_top.specs.Lines.{all_lines}
 
 -- the most bytes that a line may have
 abbrev pub longest_line : ℕ

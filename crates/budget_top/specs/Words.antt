@@ -1,47 +1,141 @@
 -- What the words of the command line ask for.
-use Rattle.std.specs.Prelude.{◌≡◌, ℕ, List, [], ◌∷◌, Option, None, Some, Result, Ok, Err, IsOk, codes, bytes_eq, if◌then◌else◌}
+use Rattle.std.specs.Prelude.{◌≡◌, ℕ, ◌&&◌, ◌||◌, ◌==◌, nat_le, Bool, not, List, [], length, Option, None, Some, Result, Ok, Err, IfSome, IsSome, codes, bytes_eq, slice_index, if◌then◌else◌}
+use Rattle.std.specs.List.{list_all}
 use Rattle.std.specs.Result.{result_ok}
-use Rattle.std.specs.Option.{option_map}
+use Rattle.std.specs.Option.{option_map, unwrap_or, ok_or}
+use Rattle.std.specs.Char.{is_ascii_alphanumeric, is_ascii_digit}
+use Rattle.std.specs.Str.Parse.{digits_value}
+use Rattle.hybrid_clock.specs.declared.node.NodeFault.{NodeFault}
+use Rattle.hybrid_clock.specs.Node.{IsNode, node_of}
+use Rattle.budget_top.specs.Line.{mode, line, value_in}
 use Rattle.budget_top.specs.declared.words.Mode.{Mode}
-use Rattle.budget_top.specs.declared.words.Mode.TheVariants.{Merge}
+use Rattle.budget_top.specs.declared.words.Mode.TheVariants.{Merge, Device}
 use Rattle.budget_top.specs.declared.words.Plan.{Plan}
 use Rattle.budget_top.specs.declared.words.WordFault.{WordFault}
-use Rattle.budget_top.specs.declared.words.WordFault.TheVariants.{Words, NoMemory}
+use Rattle.budget_top.specs.declared.words.WordFault.TheVariants.{Words, Mode as BadMode, NodeMissing, Node as BadNode, Count, Token, Name, NoMemory}
 
--- a mode with what stands where no option says otherwise
-abbrev pub plain_plan : Mode → Plan
-plain_plan mode = record {
-  mode = mode;
-  store = None;
-  node = None;
-  token = codes "local";
-  file = codes "home";
-  group = codes "home";
-  count = 1000;
-  listen = codes "127.0.0.1:5006";
-  peer = codes "127.0.0.1:5006";
-}
+-- a value of the first result where it is one, and else its fault
+infixl 10 ◌>>=◌
+abbrev pub ◌>>=◌ : {A B : Type 0} → Result A WordFault → (A → Result B WordFault) → Result B WordFault
+Ok value >>= next = next value
+Err fault >>= next = Err fault
 
--- the plan that the words ask for, or the first fault in them: the one word `merge` is a plan
+-- a store is none yet
+abbrev pub no_store : Option (List ℕ) → Result (Option (List ℕ)) WordFault
+no_store None = Ok None
+no_store (Some path) = Err Words
+
+-- the mode that a word names
+abbrev pub mode_named : List ℕ → Result Mode WordFault
+mode_named word = if bytes_eq word (codes "merge") then Ok Merge else (if bytes_eq word (codes "device") then Ok Device else Err BadMode)
+
+-- a node that is given, in any mode
+abbrev pub node_given : Result (List ℕ) NodeFault → Result (Option (List ℕ)) WordFault
+node_given (Ok node) = Ok (Some node)
+node_given (Err fault) = Err (BadNode fault)
+
+-- the node: a device has one
+abbrev pub node_for : Mode → Option (List ℕ) → Result (Option (List ℕ)) WordFault
+node_for any (Some text) = node_given (node_of text)
+node_for Merge None = Ok None
+node_for Device None = Err NodeMissing
+
+-- whether a text has digits alone, and no `0` (48) in front
+abbrev pub is_plain_number : List ℕ → Bool
+is_plain_number text = list_all is_ascii_digit text && not (slice_index text 0 == 48)
+
+abbrev pub is_within : ℕ → Bool
+is_within number = nat_le 1 number && nat_le number 1_000_000
+
+-- the number from 1 to 1,000,000 that a text says by its plain digits
+abbrev pub count_of : List ℕ → Option ℕ
+count_of text = if is_plain_number text && is_within (digits_value 10 text) then Some (digits_value 10 text) else None
+
+-- the count, which is 1000 where none is given
+abbrev pub count_from : Option (List ℕ) → Result ℕ WordFault
+count_from None = Ok 1000
+count_from (Some text) = ok_or (count_of text) Count
+
+-- a letter or a digit of ASCII, `-` or `_`
+abbrev pub is_name_byte : ℕ → Bool
+is_name_byte byte = is_ascii_alphanumeric byte || (byte == 45 || byte == 95)
+
+-- one to sixty-four of these
+abbrev pub is_name : List ℕ → Bool
+is_name text = nat_le 1 (length text) && (nat_le (length text) 64 && list_all is_name_byte text)
+
+-- a text that has to be a name
+abbrev pub name_or : WordFault → List ℕ → Result (List ℕ) WordFault
+name_or fault text = if is_name text then Ok text else Err fault
+
+-- the plan of a mode with its node and its count, by what else is given
+abbrev pub plan_with : (List ℕ → Option (List ℕ)) → Mode → Option (List ℕ) → ℕ → Result Plan WordFault
+plan_with given mode node count = do
+  token ← name_or Token (unwrap_or (given (codes "token")) (codes "local"))
+  file ← name_or Name (unwrap_or (given (codes "file")) (codes "home"))
+  group ← name_or Name (unwrap_or (given (codes "group")) (codes "home"))
+  Ok (record {
+    mode = mode;
+    store = None;
+    node = node;
+    token = token;
+    file = file;
+    group = group;
+    count = count;
+    listen = unwrap_or (given (codes "listen")) (codes "127.0.0.1:5006");
+    peer = unwrap_or (given (codes "peer")) (codes "127.0.0.1:5006");
+  })
+
+-- the plan, by what is given under each name, or the first fault in it; no store can be named yet
+abbrev pub planned_by : (List ℕ → Option (List ℕ)) → Result Plan WordFault
+planned_by given = do
+  store ← no_store (given (codes "store"))
+  mode ← mode_named (unwrap_or (given mode) [])
+  node ← node_for mode (given (codes "node"))
+  count ← count_from (given (codes "count"))
+  plan_with given mode node count
+
+abbrev pub planned_line : Option (List (List ℕ × List ℕ)) → Result Plan WordFault
+planned_line None = Err Words
+planned_line (Some pairs) = planned_by (value_in pairs)
+
+-- the plan that the words ask for, or the first fault in them
 abbrev pub planned : List (List ℕ) → Result Plan WordFault
-planned (word ∷ []) = if bytes_eq word (codes "merge") then Ok (plain_plan Merge) else Err Words
-planned words = Err Words
+planned words = planned_line (line words)
 
 -- the mode of that plan
 abbrev pub planned_mode : List (List ℕ) → Option Mode
 planned_mode words = option_map (λ (plan : Plan). plan.mode) (result_ok (planned words))
 
--- memory ran out over words that are a plan, or it is the fault of the words
+-- a node that is given is one, and a device has one
+pub record IsNodeFor (mode : Mode) (node : Option (List ℕ)) : Type 0 where
+  pub valid : IfSome node IsNode
+  pub device : mode ≡ Device → IsSome node
+
+abbrev pub IsPlan : Plan → Type 0
+IsPlan plan = IsNodeFor plan.mode plan.node
+
+-- memory ran out, or it is the fault of the result
+abbrev pub HasFault : {A : Type 0} → Result A WordFault → WordFault → Type 0
+HasFault due NoMemory = Unit {0}
+HasFault due fault = due ≡ Err fault
+
+-- memory ran out, or it is the fault of the words
 abbrev pub IsFaultOf : List (List ℕ) → WordFault → Type 0
-IsFaultOf words NoMemory = IsOk (planned words)
-IsFaultOf words fault = planned words ≡ Err fault
+IsFaultOf words fault = HasFault (planned words) fault
 
 -- the name of a fault
 abbrev pub fault_name : WordFault → List ℕ
 fault_name Words = codes "Words"
+fault_name BadMode = codes "Mode"
+fault_name NodeMissing = codes "NodeMissing"
+fault_name (BadNode fault) = codes "Node"
+fault_name Count = codes "Count"
+fault_name Token = codes "Token"
+fault_name Name = codes "Name"
 fault_name NoMemory = codes "NoMemory"
 
 -- the status of a run whose words are refused
 abbrev pub refusal_status : WordFault → ℕ
-refusal_status Words = 2
 refusal_status NoMemory = 7
+refusal_status fault = 2

@@ -1,10 +1,11 @@
-//! The source and the sink of the program. They are the edge of what is proved: what the system
-//! gives and takes is not told, but each failure raises a count.
+//! The source, the sink and the clock of the program. They are the edge of what is proved: what the
+//! system gives and takes is not told, but each failure of a stream raises a count.
 ghost use Rattle.std.specs.Prelude.{◌≡◌, ◌≤◌, None};
 ghost use Rattle.budget_ports.specs.Faults.{Rose};
 
-use budget_ports::{Failed, Sink, Source};
+use budget_ports::{Failed, Sink, Source, WallClock};
 use std::io::{Read, Write};
+use std::time::{SystemTime, UNIX_EPOCH};
 
 /// A reader, and how often it has failed.
 #[derive(Drop)]
@@ -85,5 +86,34 @@ impl<W: Write> Sink for StdoutSink<W> {
             Ok(()) => Ok(()),
             Err(_) => Err(self.fail()),
         }
+    }
+}
+
+/// The clock of the system.
+#[derive(Drop)]
+pub struct SystemClock<'a> {
+    rt: &'a HostRuntime,
+}
+
+impl<'a> SystemClock<'a> {
+    pub fn new(rt: &'a HostRuntime) -> SystemClock<'a> {
+        SystemClock { rt }
+    }
+
+    /// The milliseconds since the start of 1970, where the clock can be read and stands after it.
+    fn reading(&self) -> Option<u64> {
+        let time = SystemTime::now(self.rt).ok()?;
+        let since = time.duration_since(UNIX_EPOCH).ok()?;
+        u64::try_from(since.as_millis()).ok()
+    }
+}
+
+impl WallClock for SystemClock<'_> {
+    ghost readings = { λ _. None };
+
+    /// Where the clock can't be read, this is the last reading that there is: no line is accepted
+    /// that draws a timestamp at it.
+    fn now(&mut self) -> u64 {
+        self.reading().unwrap_or(u64::MAX)
     }
 }

@@ -1,5 +1,8 @@
-//! Merges the message lines of standard input, and writes the latest message of each field.
+//! Does what the words of the command line ask for: merges message lines, or answers the lines of a
+//! device.
 #![tactic(auto)]
+
+ghost use Rattle.std.specs.Prelude.{◌≡◌, ◌≤◌};
 
 mod adapters;
 mod answer;
@@ -9,6 +12,7 @@ mod device_run;
 mod device_tests;
 mod dispatch;
 mod input;
+mod line;
 mod merge;
 mod opening;
 mod planning;
@@ -16,16 +20,22 @@ mod session;
 mod stop;
 #[cfg(test)]
 mod tests;
+mod values;
 mod verdict;
+#[cfg(test)]
+mod word_tests;
 mod words;
 mod write;
 
-use adapters::{StdinSource, StdoutSink};
-use budget_ports::Sink;
-use field_values::{Items, Txt};
+use adapters::{StdinSource, StdoutSink, SystemClock};
+use budget_ports::{Keeper, MemoryKeeper, Sink, Source, WallClock};
+use field_values::{Items, Steps, Txt};
+use std::alloc::Global;
 use std::env;
 use std::io::{BufWriter, ErrorKind};
+use std::marker::Brand;
 use std::process::ExitCode;
+use std::sync::ledger::{Blank, Ledger};
 use words::WordFault;
 
 /// The words of the command line, without the program's name. Words that are not UTF-8 are none
@@ -61,6 +71,24 @@ fn without_run(rt: &HostRuntime, fault: WordFault) -> ExitCode {
     ExitCode::from(dispatch::status_of(fault))
 }
 
+/// Runs with a counter of steps that nobody reads, over a ledger that is still blank.
+fn uncounted<G: Ledger, S: Source, W: Sink, K: Keeper, C: WallClock>(
+    blank: Blank,
+    alloc: Global,
+    words: &Items<Txt>,
+    source: &mut S,
+    sink: &mut W,
+    keeper: &mut K,
+    clock: &mut C,
+) -> u8
+    requires name { blank.name ≡ G.name }
+    requires parts { blank.parts ≡ G.parts }
+    requires some { 1 ≤ G.parts }
+{
+    let mut steps = Steps::<G>::new(blank);
+    dispatch::run(alloc, words, source, sink, keeper, clock, &mut steps)
+}
+
 fn main(rt: HostRuntime) -> ExitCode {
     let alloc = rt.alloc();
     let words = match words_of(&rt) {
@@ -75,7 +103,17 @@ fn main(rt: HostRuntime) -> ExitCode {
     }
     let mut source = StdinSource::new(rt.stdin());
     let mut sink = StdoutSink::new(writer);
-    let status = dispatch::run(alloc, &words, &mut source, &mut sink);
+    let mut keeper = MemoryKeeper::new(alloc);
+    let mut clock = SystemClock::new(&rt);
+    let status = uncounted::<Brand, _, _, _, _>(
+        Blank::new(1),
+        alloc,
+        &words,
+        &mut source,
+        &mut sink,
+        &mut keeper,
+        &mut clock,
+    );
     // what a run that broke off has written is to be seen too
     let _ = sink.flush();
     ExitCode::from(status)

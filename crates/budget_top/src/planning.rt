@@ -1,39 +1,144 @@
 //! Reads the words of the command line.
-ghost use Rattle.std.specs.Prelude.{◌≡◌, IfOk, IfErr, Ok};
-ghost use Rattle.budget_top.specs.Words.{IsFaultOf, planned, planned_mode};
+ghost use Rattle.std.specs.Prelude.{◌≡◌, ◌≢◌, IfOk, IfErr, Ok, Err, IfSome, IsUtf8, map, option_map, unwrap_or, codes};
+ghost use Rattle.std.specs.List.{All};
+ghost use Rattle.clap.specs.Words.{first_value, found_of};
+ghost use Rattle.budget_top.specs.Words.{IsFaultOf, HasFault, IsPlan, IsNodeFor, planned, planned_by, plan_with, mode_named, node_for, count_from, name_or};
 
+use crate::line::line_matches;
+use crate::values::{count_of, is_name};
 use crate::words::{Mode, Plan, WordFault};
-use field_values::{Items, Txt};
+use clap::ArgMatches;
+use field_values::{Items, NoMemory, Txt};
+use hybrid_clock::Node;
 use std::alloc::Global;
 
-/// The mode that the words name.
-fn mode_of(words: &[Txt]) -> Option<Mode>
-    ensures { result ≡ planned_mode words.now }
+/// The count where none is given.
+const COUNT: u32 = 1000;
+
+/// The address where none is given.
+const ADDRESS: &str = "127.0.0.1:5006";
+
+/// The mode that a word names.
+fn mode_named(word: &str) -> Result<Mode, WordFault>
+    ensures { result ≡ mode_named word.now }
 {
-    match words {
-        [word] if word.as_str() == "merge" => Some(Mode::Merge),
-        _ => None,
+    match word {
+        "merge" => Ok(Mode::Merge),
+        "device" => Ok(Mode::Device),
+        _ => Err(WordFault::Mode),
     }
 }
 
-/// The plan that the words ask for. To refuse words takes no memory, so `NoMemory` comes only where
-/// they are a plan.
-pub fn plan(alloc: Global, words: &Items<Txt>) -> Result<Plan, WordFault>
-    ensures ok { IfOk result (λ plan. planned words.now ≡ Ok plan) }
-    ensures err { IfErr result (IsFaultOf words.now) }
+/// The node, as a run in this mode has it.
+fn node_for(mode: Mode, text: Option<&str>) -> Result<Option<Node>, WordFault>
+    ensures is { result ≡ node_for mode (option_map (λ t. t.now) text.entry) }
+    ensures valid { IfOk result (IsNodeFor mode) }
 {
-    let Some(mode) = mode_of(words.as_slice()) else {
-        return Err(WordFault::Words);
-    };
+    match text {
+        Some(text) => match Node::make(text.as_bytes()) {
+            Ok(node) => Ok(Some(node)),
+            Err(fault) => Err(WordFault::Node(fault)),
+        },
+        None => match mode {
+            Mode::Merge => Ok(None),
+            Mode::Device => Err(WordFault::NodeMissing),
+        },
+    }
+}
+
+/// The count, from the text that is given for it.
+fn count_from(text: Option<&str>) -> Result<u32, WordFault>
+    ensures { result ≡ count_from (option_map (λ t. t.now) text.entry) }
+{
+    match text {
+        Some(text) => count_of(text).ok_or(WordFault::Count),
+        None => Ok(COUNT),
+    }
+}
+
+/// The text, which has to be a name; else the fault is told.
+fn name_or(alloc: Global, fault: WordFault, text: &str) -> Result<Txt, WordFault>
+    requires { fault ≢ WordFault.NoMemory }
+    ensures ok { IfOk result (λ name. name_or fault text.now ≡ Ok name) }
+    ensures err { IfErr result (HasFault (name_or fault text.now)) }
+{
+    if !is_name(text) {
+        return Err(fault);
+    }
+    Ok(Txt::from_text(alloc, text)?)
+}
+
+/// The plan of a mode with its node and its count, from what else was found in the words.
+fn plan_with(
+    alloc: Global,
+    given: &ArgMatches<'_>,
+    mode: Mode,
+    node: Option<Node>,
+    count: u32,
+) -> Result<Plan, WordFault>
+    ensures ok { IfOk result (λ plan. plan_with (λ name. first_value (found_of given.now) name) mode node count ≡ Ok plan) }
+    ensures err { IfErr result (HasFault (plan_with (λ name. first_value (found_of given.now) name) mode node count)) }
+    ensures node { IfOk result (λ plan. (plan.mode ≡ mode) × (plan.node ≡ node)) }
+{
+    let token = given.get_str("token").unwrap_or("local");
+    let file = given.get_str("file").unwrap_or("home");
+    let group = given.get_str("group").unwrap_or("home");
+    let listen = given.get_str("listen").unwrap_or(ADDRESS);
+    let peer = given.get_str("peer").unwrap_or(ADDRESS);
     Ok(Plan {
         mode,
         store: None,
-        node: None,
-        token: Txt::from_text(alloc, "local")?,
-        file: Txt::from_text(alloc, "home")?,
-        group: Txt::from_text(alloc, "home")?,
-        count: 1000,
-        listen: Txt::from_text(alloc, "127.0.0.1:5006")?,
-        peer: Txt::from_text(alloc, "127.0.0.1:5006")?,
+        node,
+        token: name_or(alloc, WordFault::Token, token)?,
+        file: name_or(alloc, WordFault::Name, file)?,
+        group: name_or(alloc, WordFault::Name, group)?,
+        count,
+        listen: Txt::from_text(alloc, listen)?,
+        peer: Txt::from_text(alloc, peer)?,
     })
+}
+
+/// The plan, from what was found in the words.
+fn plan_of(alloc: Global, given: &ArgMatches<'_>) -> Result<Plan, WordFault>
+    ensures ok { IfOk result (λ plan. planned_by (λ name. first_value (found_of given.now) name) ≡ Ok plan) }
+    ensures err { IfErr result (HasFault (planned_by (λ name. first_value (found_of given.now) name))) }
+    ensures whole { IfOk result IsPlan }
+{
+    if given.get_str("store").is_some() {
+        return Err(WordFault::Words);
+    }
+    let mode = mode_named(given.get_str("mode").unwrap_or(""))?;
+    let node = node_for(mode, given.get_str("node"))?;
+    let count = count_from(given.get_str("count"))?;
+    plan_with(alloc, given, mode, node, count)
+}
+
+/// The words as they are borrowed.
+fn texts_of<'a>(alloc: Global, words: &'a [Txt]) -> Result<Vec<&'a str>, NoMemory>
+    ensures same { IfOk result (λ texts. map (λ t. t.now) texts.items ≡ words.entry.now) }
+    ensures utf8 { IfOk result (λ texts. All (λ t. IsUtf8 t.now) texts.items) }
+{
+    let mut texts = Vec::with_capacity(alloc, words.len())?;
+    for word in words {
+        texts.push(word.as_str())?;
+    }
+    Ok(texts)
+}
+
+/// The plan that the words ask for.
+///
+/// # Errors
+///
+/// Tested in this order: `Words`, `Mode`, `NodeMissing`, `Node`, `Count`, `Token`, `Name`. Memory
+/// can run out before.
+pub fn plan(alloc: Global, words: &Items<Txt>) -> Result<Plan, WordFault>
+    ensures ok { IfOk result (λ plan. planned words.now ≡ Ok plan) }
+    ensures err { IfErr result (IsFaultOf words.now) }
+    ensures whole { IfOk result IsPlan }
+{
+    let texts = texts_of(alloc, words.as_slice())?;
+    match line_matches(alloc, texts.as_slice())? {
+        Some(given) => plan_of(alloc, &given),
+        None => Err(WordFault::Words),
+    }
 }

@@ -3,13 +3,15 @@ ghost use Rattle.std.specs.Prelude.{◌≡◌};
 ghost use Rattle.budget_top.specs.Words.{fault_name};
 
 use field_values::{NoMemory, Txt};
-use hybrid_clock::Node;
+use hybrid_clock::{Node, NodeFault};
 
 /// What a run is to do.
 #[derive(Clone, Copy, Debug, PartialEq, Eq)]
 pub enum Mode {
     /// Merges the message lines of the source.
     Merge,
+    /// Answers the lines of the source as a device.
+    Device,
 }
 
 /// What the words ask for.
@@ -18,12 +20,12 @@ pub struct Plan {
     pub mode: Mode,
     /// The path of the store, or none where memory serves.
     pub store: Option<Txt>,
-    /// The name of this device.
+    /// The node of this device.
     pub node: Option<Node>,
     pub token: Txt,
     pub file: Txt,
     pub group: Txt,
-    /// How many connections or messages.
+    /// How many connections or messages, from 1 to 1,000,000.
     pub count: u32,
     /// The address to listen on, and that of the server.
     pub listen: Txt,
@@ -33,8 +35,20 @@ pub struct Plan {
 /// Why words are refused.
 #[derive(Clone, Copy, Debug, PartialEq, Eq)]
 pub enum WordFault {
-    /// The words are not the one word `merge`.
+    /// The words are not one mode word and options, each at most once. No store can be named yet.
     Words,
+    /// The mode word is neither `merge` nor `device`.
+    Mode,
+    /// A device has no node.
+    NodeMissing,
+    /// The node is none.
+    Node(NodeFault),
+    /// The count is not a number from 1 to 1,000,000 in its plain digits.
+    Count,
+    /// The token is not one to sixty-four of `0-9A-Za-z_-`.
+    Token,
+    /// The file or the group is not one to sixty-four of `0-9A-Za-z_-`.
+    Name,
     /// Memory ran out.
     NoMemory,
 }
@@ -56,6 +70,12 @@ impl WordFault {
     {
         match self {
             WordFault::Words => "Words",
+            WordFault::Mode => "Mode",
+            WordFault::NodeMissing => "NodeMissing",
+            WordFault::Node(_) => "Node",
+            WordFault::Count => "Count",
+            WordFault::Token => "Token",
+            WordFault::Name => "Name",
             WordFault::NoMemory => "NoMemory",
         }
     }

@@ -1,5 +1,5 @@
-use Rattle.budget_top.proofs.Running.{run_untouched}
+use Rattle.budget_top.proofs.Refusing.{refused_merge}
 use Rattle.budget_top.proofs.dispatch.run.Goals as goal
 
-pub returns-in-Err-NoMemory-clause-merge : goal.returns-in-Err-NoMemory-clause-merge
-returns-in-Err-NoMemory-clause-merge g c = λ _. rw c.status_of.ensures (run_untouched (g.S.Source.left c.args.source.now) (g.W.Sink.taken c.args.sink.now))
+pub returns-clause-merge : goal.returns-clause-merge
+returns-clause-merge g c = λ named. rw c.status_of.ensures (refused_merge c.args.words.now c.in-Err.fault (g.S.Source.left c.args.source.now) (g.W.Sink.taken c.args.sink.now) c.in-Err.ensures.err named)

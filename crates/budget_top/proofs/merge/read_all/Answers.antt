@@ -1,4 +1,4 @@
-use Rattle.std.proofs.Common.{◌≡◌, ◌≤◌, ◌+◌, ℕ, List, ◌++◌, take, drop, length, length-take, arith, ap}
+use Rattle.std.proofs.Common.{◌≤◌, ◌+◌, ◌++◌, take, drop, length, length-take, arith, ap}
 use Rattle.budget_top.specs.Lines.{whole_lines}
 use Rattle.budget_top.specs.Verdicts.{bad_lines}
 use Rattle.budget_top.specs.Limits.{most_input}
