@@ -7,10 +7,8 @@ use Rattle.budget_top.specs.declared.words.Mode.TheVariants.{Merge}
 use Rattle.budget_top.specs.declared.words.Plan.{Plan}
 use Rattle.budget_top.specs.declared.words.WordFault.{WordFault}
 use Rattle.budget_top.specs.declared.words.WordFault.TheVariants.{Words, Mode as BadMode, NodeMissing, Node as BadNode, Count, Token, Name, NoMemory}
-use Rattle.budget_top.specs.Words.{planned, planned_mode, planned_device, device_in, HasFault, refusal_status}
+use Rattle.budget_top.specs.Words.{planned, planned_mode, HasFault, refusal_status}
 use Rattle.budget_top.specs.MergeRun.{MergeRun}
-use Rattle.budget_top.specs.Seen.{Seen}
-use Rattle.budget_top.specs.DeviceRun.{DeviceRun}
 use Rattle.budget_top.proofs.Running.{run_untouched}
 
 -- the words are at fault, or memory ran out
@@ -36,28 +34,4 @@ refused_merge words fault left taken h e =
     elim (refusal (planned words) fault h) [
       | inl p ↦ absurd (no_mode (planned words) p e)
       | inr seven ↦ subst (λ s. MergeRun s left left taken taken) (sym seven) (run_untouched left taken)
-    ]
-
-no_device : (due : Result Plan WordFault) (node : List ℕ) → IsErr due → device_in due ≡ Some node → ⊥
-no_device (Ok plan) node h e = true≢false (sym h)
-no_device (Err fault) node h e = cc
-
--- a device's run that memory kept from beginning
-not_begun : (node : List ℕ) (left : Option (List ℕ)) (rose : Type 0) (now : Seen) → DeviceRun node 7 left left rose now now
-not_begun node left rose now = record {
-  told = λ t. t;
-  opening = inl (record {
-    source = refl;
-    readings = refl;
-    contents = λ t. refl;
-    stops = λ k h. h;
-    how = inr (inr refl, refl);
-  });
-}
-
-pub refused_device : (words : List (List ℕ)) (fault : WordFault) (node : List ℕ) (left : Option (List ℕ)) (rose : Type 0) (now : Seen) → HasFault (planned words) fault → planned_device words ≡ Some node → DeviceRun node (refusal_status fault) left left rose now now
-refused_device words fault node left rose now h e =
-    elim (refusal (planned words) fault h) [
-      | inl p ↦ absurd (no_device (planned words) node p e)
-      | inr seven ↦ subst (λ s. DeviceRun node s left left rose now now) (sym seven) (not_begun node left rose now)
     ]

@@ -107,19 +107,6 @@ planned words = planned_line (line words)
 abbrev pub planned_mode : List (List ℕ) → Option Mode
 planned_mode words = option_map (λ (plan : Plan). plan.mode) (result_ok (planned words))
 
--- the node of a plan, where it is a device's
-abbrev pub device_node : Mode → Option (List ℕ) → Option (List ℕ)
-device_node Merge node = None
-device_node Device node = node
-
-abbrev pub device_in : Result Plan WordFault → Option (List ℕ)
-device_in (Ok plan) = device_node plan.mode plan.node
-device_in (Err fault) = None
-
--- the node of the device that the words ask for, where they do
-abbrev pub planned_device : List (List ℕ) → Option (List ℕ)
-planned_device words = device_in (planned words)
-
 -- a node that is given is one, and a device has one
 pub record IsNodeFor (mode : Mode) (node : Option (List ℕ)) : Type 0 where
   pub valid : IfSome node IsNode

@@ -1,13 +1,9 @@
-ghost use Rattle.std.specs.Prelude.{◌≡◌, ◌≤◌};
-ghost use Rattle.hybrid_clock.specs.Node.{IsNode};
-
-use crate::device_run::run_device;
+use crate::uncounted;
 use budget_ports::{Keeper, Kept, ListClock, MemoryKeeper, MemorySink, MemorySource, PortFault};
-use field_values::{Steps, Txt};
-use hybrid_clock::Node;
+use field_values::{Items, Txt};
 use std::alloc::Global;
 use std::marker::Brand;
-use std::sync::ledger::{Blank, Ledger};
+use std::sync::ledger::Blank;
 use std::test::Fail;
 
 const SET: &str = "set\tcategories\tfood\tname\tS:Food\n";
@@ -67,55 +63,42 @@ fn joined(rt: &HostRuntime, parts: &[&str]) -> Result<Vec<u8>, Fail> {
     Ok(all)
 }
 
-/// A run of a device, each reading of whose clock is 2024-01-05T10:00:00.000Z, over a ledger that is
-/// still blank.
-fn status_over<G: Ledger>(
-    alloc: Global,
-    blank: Blank,
-    source: &mut MemorySource,
-    sink: &mut MemorySink,
-    keeper: &mut MemoryKeeper,
-    node: Node,
-) -> Result<u8, Fail>
-    requires node { IsNode node }
-    requires name { blank.name ≡ G.name }
-    requires parts { blank.parts ≡ G.parts }
-    requires some { 1 ≤ G.parts }
-{
-    let mut steps = Steps::<G>::new(blank);
-    let mut clock = ListClock::new([1_704_448_800_000].to_vec(alloc)?);
-    let status = run_device(alloc, node, source, sink, keeper, &mut clock, &mut steps);
-    Ok(status)
+/// The words of a run of the device `aa`.
+fn words(alloc: Global) -> Result<Items<Txt>, Fail> {
+    let mode = Txt::from_text(alloc, "device")?;
+    let option = Txt::from_text(alloc, "--node")?;
+    let node = Txt::from_text(alloc, "aa")?;
+    Ok(Items::new(Vec::from_array(alloc, [mode, option, node])?))
 }
 
-/// The status and the output of a run over a keeper.
+/// The status and the output of a run over a keeper, each reading of whose clock is
+/// 2024-01-05T10:00:00.000Z.
 fn outcome(
     rt: &HostRuntime,
-    node: Node,
     keeper: &mut MemoryKeeper,
     row: &Row<'_>,
-) -> Result<(u8, Vec<u8>), Fail>
-    requires { IsNode node }
-{
+) -> Result<(u8, Vec<u8>), Fail> {
     let input = joined(rt, row.input)?;
     let source_fails = row.source_fails.to_vec(rt.alloc())?;
     let sink_fails = row.sink_fails.to_vec(rt.alloc())?;
     let mut source = MemorySource::with_faults(input, source_fails);
     let mut sink = MemorySink::with_faults(rt.alloc(), 1000, sink_fails)?;
-    let status = status_over::<Brand>(
-        rt.alloc(),
+    let words = words(rt.alloc())?;
+    let mut clock = ListClock::new([1_704_448_800_000].to_vec(rt.alloc())?);
+    let status = uncounted::<Brand, _, _, _, _>(
         Blank::new(1),
+        rt.alloc(),
+        &words,
         &mut source,
         &mut sink,
         keeper,
-        node,
-    )?;
+        &mut clock,
+    );
     Ok((status, sink.written().to_vec(rt.alloc())?))
 }
 
 #[test]
 fn device_rows(rt: HostRuntime) -> Result<(), Fail> {
-    let node = Node::make(b"aa").expect(&rt, "a node");
     let rows = [
         answered(&[], 0, &[]),
         answered(&[SET, "fields\n"], 0, &[WROTE, "ok 1\n", FOOD]),
@@ -136,7 +119,7 @@ fn device_rows(rt: HostRuntime) -> Result<(), Fail> {
     for row in &rows {
         let fails = row.keeper_fails.to_vec(rt.alloc())?;
         let mut keeper = MemoryKeeper::with_faults(rt.alloc(), fails);
-        let (status, written) = outcome(&rt, node, &mut keeper, row)?;
+        let (status, written) = outcome(&rt, &mut keeper, row)?;
         assert_eq!(rt; status, row.status);
         assert_eq!(rt; written, joined(&rt, row.output)?);
     }
@@ -146,7 +129,6 @@ fn device_rows(rt: HostRuntime) -> Result<(), Fail> {
 /// The second append fails, so a later run has the first edit alone.
 #[test]
 fn kept_lines(rt: HostRuntime) -> Result<(), Fail> {
-    let node = Node::make(b"aa").expect(&rt, "a node");
     let fails = [2].to_vec(rt.alloc())?;
     let mut keeper = MemoryKeeper::with_faults(rt.alloc(), fails);
     let rows = [
@@ -154,7 +136,7 @@ fn kept_lines(rt: HostRuntime) -> Result<(), Fail> {
         answered(&["fields\n"], 0, &["ok 1\n", FOOD]),
     ];
     for row in &rows {
-        let (status, written) = outcome(&rt, node, &mut keeper, row)?;
+        let (status, written) = outcome(&rt, &mut keeper, row)?;
         assert_eq!(rt; status, row.status);
         assert_eq!(rt; written, joined(&rt, row.output)?);
     }
@@ -174,7 +156,6 @@ fn keep_bad(alloc: Global, keeper: &mut MemoryKeeper) -> Result<(), PortFault> {
 /// A record that keeps no message is told, and decides the status where the sink fails too.
 #[test]
 fn bad_record(rt: HostRuntime) -> Result<(), Fail> {
-    let node = Node::make(b"aa").expect(&rt, "a node");
     let mut keeper = MemoryKeeper::new(rt.alloc());
     assert!(rt; keep_bad(rt.alloc(), &mut keeper).is_ok());
     let rows = [
@@ -182,7 +163,7 @@ fn bad_record(rt: HostRuntime) -> Result<(), Fail> {
         failing(&[], &[0], &[], 3, &[]),
     ];
     for row in &rows {
-        let (status, written) = outcome(&rt, node, &mut keeper, row)?;
+        let (status, written) = outcome(&rt, &mut keeper, row)?;
         assert_eq!(rt; status, row.status);
         assert_eq!(rt; written, joined(&rt, row.output)?);
     }

@@ -1,10 +1,11 @@
 //! The top call.
-ghost use Rattle.std.specs.Prelude.{◌≡◌, ◌⊎◌, Some, IfSome, IsErr};
+ghost use Rattle.std.specs.Prelude.{◌≡◌, ◌⊎◌, ℕ, List, Some, Ok, IsErr};
 ghost use Rattle.budget_ports.specs.Faults.{Rose};
-ghost use Rattle.budget_top.specs.Words.{planned, planned_mode, planned_device, refusal_status};
+ghost use Rattle.budget_top.specs.Words.{planned, planned_mode, refusal_status};
 ghost use Rattle.budget_top.specs.MergeRun.{MergeRun};
 ghost use Rattle.budget_top.specs.Seen.{seen};
 ghost use Rattle.budget_top.specs.DeviceRun.{DeviceRun};
+ghost use Rattle.budget_top.specs.declared.words.Plan.{Plan};
 
 use crate::device_run::run_device;
 use crate::merge::run_merge;
@@ -54,9 +55,7 @@ pub fn status_of(fault: WordFault) -> u8
 
 /// Does what the words ask for, and answers the status.
 ///
-/// The words leave out the program's name. The first event that ends the run decides the status. A
-/// mode uses the objects that it needs and leaves the others as they are: `merge` uses the source and
-/// the sink, `device` all of them.
+/// The words leave out the program's name. The first event that ends the run decides the status.
 pub fn run<S: Source, W: Sink, K: Keeper, C: WallClock, G: Ledger>(
     alloc: Global,
     words: &Items<Txt>,
@@ -74,7 +73,7 @@ pub fn run<S: Source, W: Sink, K: Keeper, C: WallClock, G: Ledger>(
     // modes
     ensures merge { planned_mode words.now ≡ Some Mode.Merge → MergeRun result (S.left source.old) (S.left source.new) (W.taken sink.old) (W.taken sink.new) }
     ensures merge_alone { planned_mode words.now ≡ Some Mode.Merge → (keeper.new ≡ keeper.old) × (clock.new ≡ clock.old) }
-    ensures device { IfSome (planned_device words.now) (λ node. DeviceRun node result (S.left source.old) (S.left source.new) (Rose (W.faults sink.old) (W.faults sink.new)) (seen (W.taken sink.old) (C.readings clock.old) (K.tells keeper.old) (K.contents keeper.old) (K.left keeper.old)) (seen (W.taken sink.new) (C.readings clock.new) (K.tells keeper.new) (K.contents keeper.new) (K.left keeper.new))) }
+    ensures device { (plan : Plan) (node : List ℕ) → planned words.now ≡ Ok plan → plan.mode ≡ Mode.Device → plan.node ≡ Some node → DeviceRun node result (S.left source.old) (S.left source.new) (Rose (W.faults sink.old) (W.faults sink.new)) (seen (W.taken sink.old) (C.readings clock.old) (K.tells keeper.old) (K.contents keeper.old) (K.left keeper.old)) (seen (W.taken sink.new) (C.readings clock.new) (K.tells keeper.new) (K.contents keeper.new) (K.left keeper.new)) }
 
     // causes
     ensures source { result ≡ 4 → Rose (S.faults source.old) (S.faults source.new) }
@@ -82,13 +81,13 @@ pub fn run<S: Source, W: Sink, K: Keeper, C: WallClock, G: Ledger>(
     ensures keeper { result ≡ 6 → Rose (K.faults keeper.old) (K.faults keeper.new) }
 {
     match plan(alloc, words) {
-        Ok(plan) => match plan.mode {
-            Mode::Merge => run_merge(alloc, source, sink),
-            Mode::Device => match plan.node {
-                Some(node) => run_device(alloc, node, source, sink, keeper, clock, steps),
-                // a device's plan has a node
-                None => unreachable!(),
-            },
+        Ok(plan) => match (plan.mode, plan.node) {
+            (Mode::Merge, _) => run_merge(alloc, source, sink),
+            (Mode::Device, Some(node)) => {
+                run_device(alloc, node, source, sink, keeper, clock, steps)
+            }
+            // no plan of a device lacks its node
+            (Mode::Device, None) => unreachable!(),
         },
         Err(fault) => status_of(fault),
     }
