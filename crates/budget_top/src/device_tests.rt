@@ -1,4 +1,4 @@
-use crate::uncounted;
+use crate::tests::{joined, uncounted};
 use budget_ports::{Keeper, Kept, ListClock, MemoryKeeper, MemorySink, MemorySource, PortFault};
 use field_values::{Items, Txt};
 use std::alloc::Global;
@@ -53,14 +53,6 @@ fn failing<'a>(
         status,
         output,
     }
-}
-
-fn joined(rt: &HostRuntime, parts: &[&str]) -> Result<Vec<u8>, Fail> {
-    let mut all = Vec::new(rt.alloc());
-    for part in parts {
-        all.extend_from_slice(part.as_bytes())?;
-    }
-    Ok(all)
 }
 
 /// The words of a run of the device `aa`.

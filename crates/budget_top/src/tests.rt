@@ -1,8 +1,13 @@
-use crate::uncounted;
-use budget_ports::{ListClock, MemoryKeeper, MemorySink, MemorySource};
-use field_values::{Items, Txt};
+ghost use Rattle.std.specs.Prelude.{◌≡◌, ◌≤◌};
+
+use crate::run;
+use budget_ports::{
+    Keeper, ListClock, MemoryKeeper, MemorySink, MemorySource, Sink, Source, WallClock,
+};
+use field_values::{Items, Steps, Txt};
+use std::alloc::Global;
 use std::marker::Brand;
-use std::sync::ledger::Blank;
+use std::sync::ledger::{Blank, Ledger};
 use std::test::Fail;
 
 const FOOD: &str =
@@ -56,7 +61,26 @@ fn failing<'a>(
     }
 }
 
-fn joined(rt: &HostRuntime, parts: &[&str]) -> Result<Vec<u8>, Fail> {
+/// A run with a counter of steps that nobody reads.
+pub(crate) fn uncounted<G: Ledger, S: Source, W: Sink, K: Keeper, C: WallClock>(
+    blank: Blank,
+    alloc: Global,
+    words: &Items<Txt>,
+    source: &mut S,
+    sink: &mut W,
+    keeper: &mut K,
+    clock: &mut C,
+) -> u8
+    requires name { blank.name ≡ G.name }
+    requires parts { blank.parts ≡ G.parts }
+    requires some { 1 ≤ G.parts }
+{
+    let mut steps = Steps::<G>::new(blank);
+    run(alloc, words, source, sink, keeper, clock, &mut steps)
+}
+
+/// All parts, one behind the other.
+pub(crate) fn joined(rt: &HostRuntime, parts: &[&str]) -> Result<Vec<u8>, Fail> {
     let mut all = Vec::new(rt.alloc());
     for part in parts {
         all.extend_from_slice(part.as_bytes())?;
