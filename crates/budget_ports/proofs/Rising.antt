@@ -12,7 +12,7 @@ use Rattle.budget_ports.specs.Keeper.{Rise}
 use Rattle.budget_ports.proofs.Maps.{IsRising}
 use Rattle.budget_ports.proofs.Places.{text_total, text_same, place_total}
 
-less_is : (o : Ordering) → is_lt o ≡ true → o ≡ Less
+pub less_is : (o : Ordering) → is_lt o ≡ true → o ≡ Less
 less_is Less h = refl
 less_is Equal h = absurd (true≢false (sym h))
 less_is Greater h = absurd (true≢false (sym h))
@@ -22,7 +22,7 @@ equal_is Less h = absurd (true≢false (sym h))
 equal_is Equal h = refl
 equal_is Greater h = absurd (true≢false (sym h))
 
-is_true : (b : Bool) → T b → b ≡ true
+pub is_true : (b : Bool) → T b → b ≡ true
 is_true true t = refl
 is_true false t = absurd t
 
@@ -36,7 +36,7 @@ lower_all : (x y : Place) (es : List (Place × Text)) → place_cmp x y ≡ Less
 lower_all x y [] low all = tt
 lower_all x y (e ∷ es) low all = (place_total.trans x y e.0 low all.0, lower_all x y es low all.1)
 
-in_order : (es : List (Place × Text)) → is_sorted place_cmp es ≡ true → IsRising place_cmp es
+pub in_order : (es : List (Place × Text)) → is_sorted place_cmp es ≡ true → IsRising place_cmp es
 in_order [] h = tt
 in_order (e ∷ []) h = (tt, tt)
 in_order (e ∷ f ∷ es) h =

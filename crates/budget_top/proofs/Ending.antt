@@ -16,7 +16,7 @@ one_line : (p : List ℕ) → (p ≡ [] → ⊥) → line_if_some p ≡ p ∷ []
 one_line [] no_end = absurd (no_end refl)
 one_line (b ∷ bs) no_end = refl
 
-one_begun : (read : List ℕ) (m : Option (List ℕ)) → m ≡ kept (last_piece read) → (m ≡ Some [] → ⊥) → all_lines read ≡ whole_lines (read ++ 10 ∷ [])
+pub one_begun : (read : List ℕ) (m : Option (List ℕ)) → m ≡ kept (last_piece read) → (m ≡ Some [] → ⊥) → all_lines read ≡ whole_lines (read ++ 10 ∷ [])
 one_begun read m h some =
     ap (λ ls. whole_lines read ++ ls) (one_line (last_piece read) (λ e. some (h ∙ ap kept e)))
     ∙ sym (whole_lines-end read)

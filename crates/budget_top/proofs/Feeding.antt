@@ -32,7 +32,7 @@ taken_line read bytes at n h =
     ∙ append_assoc read (take at bytes) (take (n + 1) (drop at bytes))
     ∙ ap (λ t. read ++ t) (sym (take-add at (n + 1) bytes))
 
-all_taken : (read bytes : List ℕ) (at : ℕ) → read ++ take at bytes ++ drop at bytes ≡ read ++ bytes
+pub all_taken : (read bytes : List ℕ) (at : ℕ) → read ++ take at bytes ++ drop at bytes ≡ read ++ bytes
 all_taken read bytes at = append_assoc read (take at bytes) (drop at bytes) ∙ ap (λ t. read ++ t) (take-append-drop at bytes)
 
 -- it broke off before a line

@@ -8,6 +8,11 @@ pub mod Ending
 pub mod Running
 pub mod Judging
 pub mod Finding
+pub mod Folding
+pub mod Serving
+pub mod Answering
+pub mod Obeying
+pub mod Keeping
 mod Parses
 pub mod ClapRules
 pub mod ClapWords

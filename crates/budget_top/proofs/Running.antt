@@ -8,9 +8,9 @@ use Rattle.budget_top.specs.declared.stop.Stop.TheVariants.{Memory, Sink}
 use Rattle.budget_top.specs.Lines.{whole_lines}
 use Rattle.budget_top.specs.Verdicts.{bad_lines, merge_text}
 use Rattle.budget_top.specs.Fronts.{IsFront, AppendsFront}
-use Rattle.budget_top.specs.MergeRun.{MergeRun, BreaksOff, most_input}
+use Rattle.budget_top.specs.Limits.{most_input, HasRead}
+use Rattle.budget_top.specs.MergeRun.{MergeRun, BreaksOff}
 use Rattle.budget_top.specs.Stops.{status_of}
-use Rattle.budget_top.specs.Steps.{HasRead}
 use Rattle.budget_top.proofs.Standing.{part_of_more, part_of_merge, front_none}
 
 -- the bytes before the limit, and those after it

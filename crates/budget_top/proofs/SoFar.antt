@@ -6,8 +6,8 @@ use Rattle.std.proofs.lemmas.Grind.{common_steps}
 use Rattle.std.proofs.KnownBytes.{Consumes-trans}
 use Rattle.std.specs.Io.KnownBytes.{Consumes}
 use Rattle.budget_top.specs.declared.merge.Merge.{Merge}
-use Rattle.budget_top.specs.MergeRun.{most_input}
-use Rattle.budget_top.specs.Steps.{Stands, HasRead}
+use Rattle.budget_top.specs.Limits.{most_input, HasRead}
+use Rattle.budget_top.specs.Steps.{Stands}
 
 -- so many bytes were read and dealt with
 pub record SoFar (left new_left entry now : Option (List ℕ)) (count : ℕ) (m : Merge) : Type 0 where
@@ -26,10 +26,10 @@ has_read left mid new entry now taken count m buffer h reads within asked = reco
 pub length_more : (read buffer : List ℕ) (taken count : ℕ) → length read ≡ taken → count ≤ length buffer → length (read ++ take count buffer) ≡ taken + count
 length_more read buffer taken count h within = simp (length-append, length-take) (omega arith)
 
-front_alone : (m : ℕ) (buffer rest : List ℕ) → m ≤ length buffer → take m (buffer ++ rest) ≡ take m buffer
+pub front_alone : (m : ℕ) (buffer rest : List ℕ) → m ≤ length buffer → take m (buffer ++ rest) ≡ take m buffer
 front_alone m buffer rest h = grind (arith, common_steps)
 
-all_of : (k : ℕ) (xs : List ℕ) → length xs ≤ k → take k xs ≡ xs
+pub all_of : (k : ℕ) (xs : List ℕ) → length xs ≤ k → take k xs ≡ xs
 all_of k xs h = grind (arith, common_steps)
 
 -- the bytes up to the limit

@@ -2,9 +2,16 @@ pub mod Line
 pub mod Words
 pub mod Clap
 pub mod Lines
+pub mod Limits
 pub mod Verdicts
 pub mod Kept
 pub mod Fronts
 pub mod MergeRun
 pub mod Stops
 pub mod Steps
+pub mod Session
+pub mod Seen
+pub mod Acting
+pub mod DeviceStops
+pub mod Standing
+pub mod DeviceRun

@@ -5,10 +5,7 @@ use Rattle.std.specs.Io.KnownBytes.{Appends, Consumes, IsAtEnd}
 use Rattle.budget_top.specs.Lines.{whole_lines, all_lines}
 use Rattle.budget_top.specs.Verdicts.{bad_lines, some_bad, merge_text}
 use Rattle.budget_top.specs.Fronts.{IsFront}
-
--- the most bytes of input that a run takes
-abbrev pub most_input : ℕ
-most_input = 1_073_741_824
+use Rattle.budget_top.specs.Limits.{most_input}
 
 -- the statuses of such a run
 abbrev pub statuses : List ℕ

@@ -1,7 +1,7 @@
 -- Where merging stands between two steps.
 use Rattle.std.specs.Prelude.{◌≡◌, ℕ, ◌+◌, ◌≤◌, false, ◌||◌, List, [], length, take, Option}
 use Rattle.std.specs.Result.{is_err}
-use Rattle.std.specs.Io.KnownBytes.{Appends, Consumes}
+use Rattle.std.specs.Io.KnownBytes.{Appends}
 use Rattle.field_merge.specs.Log.{join}
 use Rattle.budget_top.specs.declared.merge.Merge.{Merge}
 use Rattle.budget_top.specs.declared.merge.End.{End}
@@ -10,7 +10,7 @@ use Rattle.budget_top.specs.Lines.{whole_lines, last_piece, all_lines}
 use Rattle.budget_top.specs.Verdicts.{Verdict, bad_line, bad_lines, message_in, messages_of, some_bad}
 use Rattle.budget_top.specs.Kept.{kept}
 use Rattle.budget_top.specs.Fronts.{AppendsFront}
-use Rattle.budget_top.specs.MergeRun.{most_input}
+use Rattle.budget_top.specs.Limits.{most_input}
 
 -- the line with this verdict was dealt with
 pub record Settles (old new : Merge) (a b : Option (List ℕ)) (verdict : Verdict) : Type 0 where
@@ -36,11 +36,6 @@ pub record Ended (entry now : Option (List ℕ)) (read : List ℕ) (m : Merge) :
   pub messages : m.log.messages ≡ join [] (messages_of (all_lines read))
   pub bad : m.has_bad ≡ some_bad (all_lines read)
   pub written : Appends entry now (bad_lines (all_lines read))
-
--- the source gave these bytes
-pub record HasRead (left new_left : Option (List ℕ)) (read : List ℕ) : Type 0 where
-  pub reads : Consumes left new_left read
-  pub asked : length read ≤ most_input + 1
 
 -- how reading ended
 abbrev pub EndsReading : End → Option (List ℕ) → Option (List ℕ) → List ℕ → Merge → Type 0

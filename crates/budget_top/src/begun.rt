@@ -1,5 +1,5 @@
 //! The line that has begun.
-ghost use Rattle.std.specs.Prelude.{◌≡◌, ◌↔◌, IfOk, OnOk, IsTrue, Some, []};
+ghost use Rattle.std.specs.Prelude.{◌≡◌, ◌↔◌, IfOk, OnOk, IsTrue, MatchOption, None, Some, []};
 ghost use Rattle.field_merge.specs.Messages.{IsMessage};
 ghost use Rattle.budget_top.specs.Kept.{judged_kept, kept_with};
 
@@ -62,6 +62,16 @@ impl Begun {
         ensures { IsTrue result ↔ (self.now ≡ Some []) }
     {
         !self.is_long && self.bytes.is_empty()
+    }
+
+    /// The line's bytes, where it is not too long.
+    pub fn bytes(&self) -> Option<&[u8]>
+        ensures { MatchOption result (self.now ≡ None) (λ bytes. self.now ≡ Some bytes.now) }
+    {
+        if self.is_long {
+            return None;
+        }
+        Some(self.bytes.as_slice())
     }
 
     /// The message of the line, or the word for what is wrong with it.

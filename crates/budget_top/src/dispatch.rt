@@ -1,15 +1,20 @@
 //! The top call.
-ghost use Rattle.std.specs.Prelude.{◌≡◌, ◌⊎◌, Some, IsErr};
+ghost use Rattle.std.specs.Prelude.{◌≡◌, ◌⊎◌, ℕ, List, Some, Ok, IsErr};
 ghost use Rattle.budget_ports.specs.Faults.{Rose};
 ghost use Rattle.budget_top.specs.Words.{planned, planned_mode, refusal_status};
 ghost use Rattle.budget_top.specs.MergeRun.{MergeRun};
+ghost use Rattle.budget_top.specs.Seen.{seen};
+ghost use Rattle.budget_top.specs.DeviceRun.{DeviceRun};
+ghost use Rattle.budget_top.specs.declared.words.Plan.{Plan};
 
+use crate::device_run::run_device;
 use crate::merge::run_merge;
 use crate::planning::plan;
 use crate::words::{Mode, WordFault};
-use budget_ports::{Sink, Source};
-use field_values::{Items, Txt};
+use budget_ports::{Keeper, Sink, Source, WallClock};
+use field_values::{Items, Steps, Txt};
 use std::alloc::Global;
+use std::sync::ledger::Ledger;
 
 /// All was done, and no line was refused.
 pub const DONE: u8 = 0;
@@ -20,11 +25,17 @@ pub const SOME_BAD: u8 = 1;
 /// The words are refused. Nothing was touched.
 pub const BAD_WORDS: u8 = 2;
 
+/// A record that is kept is no message. No line was taken.
+pub const BAD_RECORD: u8 = 3;
+
 /// The source failed.
 pub const SOURCE_FAILED: u8 = 4;
 
 /// The sink failed.
 pub const SINK_FAILED: u8 = 5;
+
+/// The keeper failed.
+pub const KEEPER_FAILED: u8 = 6;
 
 /// Memory ran out.
 pub const NO_MEMORY: u8 = 7;
@@ -45,28 +56,38 @@ pub fn status_of(fault: WordFault) -> u8
 /// Does what the words ask for, and answers the status.
 ///
 /// The words leave out the program's name. The first event that ends the run decides the status.
-pub fn run<S: Source, W: Sink>(
+pub fn run<S: Source, W: Sink, K: Keeper, C: WallClock, G: Ledger>(
     alloc: Global,
     words: &Items<Txt>,
     source: &mut S,
     sink: &mut W,
+    keeper: &mut K,
+    clock: &mut C,
+    steps: &mut Steps<G>,
 ) -> u8
     // words
     ensures words { result ≡ 2 → IsErr (planned words.now) }
     ensures refused { IsErr (planned words.now) → (result ≡ 2) ⊎ (result ≡ 7) }
-    ensures untouched { IsErr (planned words.now) → (source.new ≡ source.old) × (sink.new ≡ sink.old) }
+    ensures untouched { IsErr (planned words.now) → (source.new ≡ source.old) × (sink.new ≡ sink.old) × (keeper.new ≡ keeper.old) × (clock.new ≡ clock.old) }
 
     // modes
     ensures merge { planned_mode words.now ≡ Some Mode.Merge → MergeRun result (S.left source.old) (S.left source.new) (W.taken sink.old) (W.taken sink.new) }
+    ensures merge_alone { planned_mode words.now ≡ Some Mode.Merge → (keeper.new ≡ keeper.old) × (clock.new ≡ clock.old) }
+    ensures device { (plan : Plan) (node : List ℕ) → planned words.now ≡ Ok plan → plan.mode ≡ Mode.Device → plan.node ≡ Some node → DeviceRun node result (S.left source.old) (S.left source.new) (Rose (W.faults sink.old) (W.faults sink.new)) (seen (W.taken sink.old) (C.readings clock.old) (K.tells keeper.old) (K.contents keeper.old) (K.left keeper.old)) (seen (W.taken sink.new) (C.readings clock.new) (K.tells keeper.new) (K.contents keeper.new) (K.left keeper.new)) }
 
     // causes
     ensures source { result ≡ 4 → Rose (S.faults source.old) (S.faults source.new) }
     ensures sink { result ≡ 5 → Rose (W.faults sink.old) (W.faults sink.new) }
+    ensures keeper { result ≡ 6 → Rose (K.faults keeper.old) (K.faults keeper.new) }
 {
     match plan(alloc, words) {
-        Ok(plan) => match plan.mode {
-            Mode::Merge => run_merge(alloc, source, sink),
-            Mode::Device => NO_MEMORY,
+        Ok(plan) => match (plan.mode, plan.node) {
+            (Mode::Merge, _) => run_merge(alloc, source, sink),
+            (Mode::Device, Some(node)) => {
+                run_device(alloc, node, source, sink, keeper, clock, steps)
+            }
+            // no plan of a device lacks its node
+            (Mode::Device, None) => unreachable!(),
         },
         Err(fault) => status_of(fault),
     }

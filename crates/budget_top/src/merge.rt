@@ -1,29 +1,23 @@
 //! The mode `merge`: joins the messages of the source's lines, and writes the latest message of
 //! each field.
-ghost use Rattle.std.specs.Prelude.{◌≡◌, ◌<◌, ◌≤◌, ◌^◌, List, ℕ, [], position, false};
+ghost use Rattle.std.specs.Prelude.{◌≡◌, ◌<◌, ◌≤◌, ◌^◌, List, ℕ, [], false};
 ghost use Rattle.std.specs.Io.KnownBytes.{IsAtEnd};
 ghost use Rattle.budget_ports.specs.Faults.{Rose};
-ghost use Rattle.budget_top.specs.Lines.{is_end};
 ghost use Rattle.budget_top.specs.MergeRun.{MergeRun};
-ghost use Rattle.budget_top.specs.Steps.{Stands, HasRead, EndsReading};
+ghost use Rattle.budget_top.specs.Limits.{HasRead};
+ghost use Rattle.budget_top.specs.Steps.{Stands, EndsReading};
 
 use crate::begun::Begun;
 use crate::dispatch::{DONE, NO_MEMORY, SOME_BAD, SOURCE_FAILED, TOO_MUCH};
+use crate::input::{MOST_INPUT, PIECE, line_length};
 use crate::stop::Stop;
 use crate::verdict::{Word, bad_line_text};
 use crate::write::write_all;
 use budget_ports::{Sink, Source};
 use field_merge::{Log, Message};
 use field_values::NoMemory;
-use memchr::memchr;
 use std::alloc::Global;
 use std::mem;
-
-/// The most bytes of input that a run takes.
-const MOST_INPUT: usize = 1_073_741_824;
-
-/// How many bytes are asked for at once.
-const PIECE: usize = 4096;
 
 /// Where merging stands: what the lines so far gave, and the line that has begun.
 #[derive(Drop)]
@@ -45,13 +39,6 @@ pub enum End {
     /// A byte past the limit came.
     TooMuch,
     Stopped(Stop),
-}
-
-/// How many bytes stand before the first line feed.
-fn line_length(bytes: &[u8]) -> Option<usize>
-    ensures { result ≡ position is_end bytes.now }
-{
-    memchr(b'\n', bytes)
 }
 
 impl Merge {

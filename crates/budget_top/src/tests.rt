@@ -1,6 +1,8 @@
-use crate::dispatch::run;
-use budget_ports::{MemorySink, MemorySource};
+use crate::uncounted;
+use budget_ports::{ListClock, MemoryKeeper, MemorySink, MemorySource};
 use field_values::{Items, Txt};
+use std::marker::Brand;
+use std::sync::ledger::Blank;
 use std::test::Fail;
 
 const FOOD: &str =
@@ -78,7 +80,17 @@ fn outcome(rt: &HostRuntime, row: &Row<'_>) -> Result<(u8, Vec<u8>), Fail> {
     let sink_fails = row.sink_fails.to_vec(rt.alloc())?;
     let mut source = MemorySource::with_faults(input, source_fails);
     let mut sink = MemorySink::with_faults(rt.alloc(), 1000, sink_fails)?;
-    let status = run(rt.alloc(), &words, &mut source, &mut sink);
+    let mut keeper = MemoryKeeper::new(rt.alloc());
+    let mut clock = ListClock::new([0].to_vec(rt.alloc())?);
+    let status = uncounted::<Brand, _, _, _, _>(
+        Blank::new(1),
+        rt.alloc(),
+        &words,
+        &mut source,
+        &mut sink,
+        &mut keeper,
+        &mut clock,
+    );
     Ok((status, sink.written().to_vec(rt.alloc())?))
 }
 

@@ -3,9 +3,10 @@ ghost use Rattle.std.specs.Prelude.{◌≡◌, IfOk, Err, string_bytes};
 ghost use Rattle.field_merge.specs.Messages.{IsMessage};
 ghost use Rattle.budget_top.specs.Verdicts.{bad_line, judged_short, word_text};
 
-use field_merge::{LineFault, Message, read_line};
-use field_values::{NoMemory, Txt, TxtFault};
+use field_merge::{LineFault, Message, read_text};
+use field_values::NoMemory;
 use std::alloc::Global;
+use std::str;
 
 /// Why a line is no message. The first that holds is told.
 #[derive(Clone, Copy, Debug, PartialEq, Eq)]
@@ -46,12 +47,10 @@ pub fn judge(alloc: Global, line: &[u8]) -> Result<Result<Message, Word>, NoMemo
     ensures verdict { IfOk result (λ verdict. verdict ≡ judged_short line.now) }
     ensures valid { IfOk result (λ verdict. IfOk verdict IsMessage) }
 {
-    let text = match Txt::make(alloc, line) {
-        Ok(text) => text,
-        Err(TxtFault::NoMemory) => return Err(NoMemory),
-        Err(TxtFault::NotUtf8 { .. }) => return Ok(Err(Word::Utf8)),
+    let Ok(text) = str::from_utf8(line) else {
+        return Ok(Err(Word::Utf8));
     };
-    match read_line(alloc, &text) {
+    match read_text(alloc, text) {
         Ok(message) => Ok(Ok(message)),
         Err(LineFault::Columns { .. }) => Ok(Err(Word::Columns)),
         Err(LineFault::Escape { .. }) => Ok(Err(Word::Escape)),

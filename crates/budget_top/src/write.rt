@@ -19,3 +19,14 @@ pub fn write_all<W: Sink>(sink: &mut W, bytes: &[u8]) -> Result<(), Failed>
     }
     Ok(())
 }
+
+/// Writes all of the bytes, and hands them on. Where the sink fails at that, all of them may have
+/// been written.
+pub fn write_and_flush<W: Sink>(sink: &mut W, bytes: &[u8]) -> Result<(), Failed>
+    ensures all { OnOk result (Appends (W.taken sink.old) (W.taken sink.new) bytes.now) }
+    ensures front { OnErr result (AppendsFront (W.taken sink.old) (W.taken sink.new) bytes.now) }
+    ensures cause { HasCause (W.faults sink.old) (W.faults sink.new) result }
+{
+    write_all(sink, bytes)?;
+    sink.flush()
+}

@@ -17,7 +17,7 @@ use Rattle.device_core.specs.declared.edit.Edit.TheVariants.{Book}
 use Rattle.device_core.specs.declared.edit.BookEdit.TheVariants.{Set}
 use Rattle.device_core.specs.Edits.{IsEdit}
 use Rattle.command_lines.specs.declared.command.Command.{Command}
-use Rattle.command_lines.specs.declared.command.Command.TheVariants.{Edit, Receive, Fields, Messages, Value}
+use Rattle.command_lines.specs.declared.command.Command.TheVariants.{Edit, Receive, Fields, Messages, Value, Trie}
 use Rattle.command_lines.specs.declared.command.CommandFault.{CommandFault}
 use Rattle.command_lines.specs.declared.command.CommandFault.TheVariants.{BadCommand, NoMemory}
 
@@ -65,6 +65,9 @@ messages_words = word (λ since. no_more (Messages since))
 abbrev pub value_words : Wanted
 value_words = word (λ dataset. word (λ row. word (λ column. no_more (Value dataset row column))))
 
+abbrev pub trie_words : Wanted
+trie_words = no_more Trie
+
 -- the words that a line with this name wants
 abbrev pub line_words : List ℕ → Wanted
 line_words name =
@@ -73,7 +76,8 @@ line_words name =
     else (if bytes_eq name (codes "fields") then fields_words
     else (if bytes_eq name (codes "messages") then messages_words
     else (if bytes_eq name (codes "value") then value_words
-    else misfit))))
+    else (if bytes_eq name (codes "trie") then trie_words
+    else misfit)))))
 
 -- what is wanted behind a word as it is written: one with a bad escape is of no form
 abbrev pub unescaped_for : (List ℕ → Wanted) → List ℕ → Option ℕ → Wanted

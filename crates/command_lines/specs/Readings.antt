@@ -7,8 +7,11 @@ use Rattle.field_merge.specs.declared.message.Message.{Message}
 use Rattle.field_merge.specs.Escapes.{escaped}
 use Rattle.field_merge.specs.Messages.{message_line}
 use Rattle.field_merge.specs.Log.{fields, later, latest}
+use Rattle.minute_trie.specs.Trie.{trie_of}
+use Rattle.minute_trie.specs.Json.{trie_text}
+use Rattle.device_core.specs.Device.{pairs_of}
 use Rattle.command_lines.specs.declared.command.Command.{Command}
-use Rattle.command_lines.specs.declared.command.Command.TheVariants.{Edit, Receive, Fields, Messages, Value}
+use Rattle.command_lines.specs.declared.command.Command.TheVariants.{Edit, Receive, Fields, Messages, Value, Trie}
 use Rattle.command_lines.specs.declared.reply.Reply.{Reply}
 use Rattle.command_lines.specs.declared.reply.Reply.TheVariants.{Done}
 
@@ -22,11 +25,12 @@ abbrev pub value_in : List Message → FieldNames → Option AnyValue
 value_in messages field = option_map (λ m. m.value) (latest messages field)
 
 -- what a line that only reads is answered: the latest message of each field, the messages with a greater timestamp's text,
--- or the value of a field. The other lines are answered elsewhere.
+-- the value of a field, or the text of the trie of all messages. The other lines are answered elsewhere.
 abbrev pub answer : List Message → Command → Reply
 answer messages Fields = Done (map message_line (fields messages))
 answer messages (Messages since) = Done (map message_line (later since messages))
 answer messages (Value dataset row column) = Done (shown (value_in messages (field_of dataset row column)) ∷ [])
+answer messages Trie = Done (trie_text (trie_of (pairs_of messages)) ∷ [])
 answer messages (Edit edit) = Done []
 answer messages (Receive message) = Done []
 

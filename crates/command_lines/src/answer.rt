@@ -7,6 +7,9 @@ ghost use Rattle.field_values.specs.Value.{value_text, IsValue};
 ghost use Rattle.field_merge.specs.Escapes.{escaped};
 ghost use Rattle.field_merge.specs.Messages.{message_line, AreMessages};
 ghost use Rattle.field_merge.specs.Log.{fields};
+ghost use Rattle.minute_trie.specs.Trie.{trie_of};
+ghost use Rattle.minute_trie.specs.Json.{trie_text};
+ghost use Rattle.device_core.specs.Device.{pairs_of};
 ghost use Rattle.command_lines.specs.Readings.{answer, shown, value_in, IsReading};
 
 use crate::command::Command;
@@ -123,6 +126,14 @@ fn shown_value(
     }
 }
 
+/// The JSON text of the trie of a device's messages.
+fn trie_line(device: &Device) -> Result<Txt, NoMemory>
+    requires { device.now.spent ≡ false }
+    ensures { IfOk result (λ t. t ≡ trie_text (trie_of (pairs_of device.now.state.messages))) }
+{
+    device.trie().to_json()
+}
+
 /// One line.
 fn one_line(alloc: Global, line: Txt) -> Result<Items<Txt>, NoMemory>
     ensures { IfOk result (λ lines. lines ≡ line ∷ []) }
@@ -132,8 +143,8 @@ fn one_line(alloc: Global, line: Txt) -> Result<Items<Txt>, NoMemory>
     Ok(Items::new(lines))
 }
 
-/// The reply to a line that only reads: `fields`, `messages` or `value`. It is told by the device's
-/// messages alone, so devices that have the same messages reply the same.
+/// The reply to a line that only reads: `fields`, `messages`, `value` or `trie`. It is told by the
+/// device's messages alone, so devices that have the same messages reply the same.
 pub fn read_reply(alloc: Global, device: &Device, command: &Command) -> Result<Reply, NoMemory>
     requires live { device.now.spent ≡ false }
     requires reading { IsReading command.now }
@@ -148,6 +159,7 @@ pub fn read_reply(alloc: Global, device: &Device, command: &Command) -> Result<R
             row,
             column,
         } => one_line(alloc, shown_value(alloc, log, dataset, row, column)?)?,
+        Command::Trie => one_line(alloc, trie_line(device)?)?,
         Command::Edit(_) | Command::Receive { .. } => unreachable!(),
     };
     Ok(Reply::Done { lines })

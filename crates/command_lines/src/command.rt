@@ -1,7 +1,7 @@
 //! The commands of lines.
 ghost use Rattle.std.specs.Prelude.{◌≡◌, ◌<◌, IfOk};
 ghost use Rattle.command_lines.specs.declared.command.CommandFault.TheVariants.{NoMemory as OutOfMemory};
-ghost use Rattle.command_lines.specs.Commands.{set_words, receive_words, fields_words, messages_words, value_words, line_words, command, command_of, IsRead, IsCommand};
+ghost use Rattle.command_lines.specs.Commands.{set_words, receive_words, fields_words, messages_words, value_words, trie_words, line_words, command, command_of, IsRead, IsCommand};
 ghost use Rattle.command_lines.specs.Unread.{given};
 
 use crate::words::{Words, cut};
@@ -23,6 +23,8 @@ pub enum Command {
     Messages { since: Txt },
     /// `value DATASET ROW COLUMN`: the value of the field with these names, if there is one.
     Value { dataset: Txt, row: Txt, column: Txt },
+    /// `trie`: the JSON text of the trie of all messages.
+    Trie,
 }
 
 /// Why a line is no command.
@@ -127,6 +129,15 @@ fn value(alloc: Global, words: &mut Words<'_>) -> Result<Command, CommandFault>
     })
 }
 
+/// The words behind `trie`.
+fn trie(words: &Words<'_>) -> Result<Command, CommandFault>
+    ensures read { IsRead (given trie_words words.now) result }
+    ensures valid { IfOk result IsCommand }
+{
+    words.end()?;
+    Ok(Command::Trie)
+}
+
 /// The words behind a line's name.
 fn command_of(alloc: Global, name: &str, words: &mut Words<'_>) -> Result<Command, CommandFault>
     requires { words.old.last ≡ 0 }
@@ -139,6 +150,7 @@ fn command_of(alloc: Global, name: &str, words: &mut Words<'_>) -> Result<Comman
         "fields" => fields(words),
         "messages" => messages(alloc, words),
         "value" => value(alloc, words),
+        "trie" => trie(words),
         _ => Err(CommandFault::BadCommand { part: 0 }),
     }
 }

@@ -6,6 +6,7 @@ use crate::{
     Command, CommandFault, Reply, added_reply, faulty_reply, read_command, read_reply,
     refusal_reply, reply_text, wrote_reply,
 };
+use budget_ports::Kept;
 use device_core::{Device, EditFault, LineRefusal};
 use field_values::{Items, NoMemory, Txt};
 use hybrid_clock::{ClockFault, Node};
@@ -13,12 +14,14 @@ use std::alloc::Global;
 use std::test::Fail;
 
 /// Lines, with `>` for each TAB, and the part at which each is refused, where it is no command.
-const LINES: [(&str, Option<u32>); 28] = [
+const LINES: [(&str, Option<u32>); 30] = [
     ("", Some(0)),
     ("undo>1", Some(0)),
     ("Set>a>b>c>d", Some(0)),
     ("fields>", Some(1)),
     ("fields", None),
+    ("trie>", Some(1)),
+    ("trie", None),
     ("set", Some(1)),
     ("set>a>b>c", Some(4)),
     ("set>a>b>\\x>S:x", Some(3)),
@@ -171,12 +174,41 @@ fn refused_timestamps_are_told(rt: HostRuntime) -> Result<(), Fail> {
     Ok(())
 }
 
-/// A device without messages.
-fn empty_device(alloc: Global) -> Result<Device, Fail>
+/// The message of `aa`, as it is kept and as it is told.
+const FIRST: (&str, &str) = (
+    "2024-01-05T10:00:00.000Z-0000-00000000000000aa",
+    "categories\tfood\tname\tS:a\\\\b",
+);
+
+/// That of `bb`, a second later.
+const SECOND: (&str, &str) = (
+    "2024-01-05T10:00:01.000Z-0000-00000000000000bb",
+    "categories\tfood\tname\tS:c\\td",
+);
+
+/// The reply to `trie`: both stand in one minute, and their hashes are 189847234 and 195473800.
+const TRIE: &str =
+    "ok 1\n{\"1\":{\"2\":{\"2\":{\"2\":{\"1\":{\"1\":{\"0\":{\"0\":{\"2\":{\"0\":{\"2\":{\"0\
+    \":{\"1\":{\"2\":{\"2\":{\"0\":{\"hash\":16148298},\"hash\":16148298},\"hash\":16148298}\
+    ,\"hash\":16148298},\"hash\":16148298},\"hash\":16148298},\"hash\":16148298},\"hash\":16\
+    148298},\"hash\":16148298},\"hash\":16148298},\"hash\":16148298},\"hash\":16148298},\"ha\
+    sh\":16148298},\"hash\":16148298},\"hash\":16148298},\"hash\":16148298},\"hash\":1614829\
+    8}\n";
+
+fn record(alloc: Global, text: (&str, &str)) -> Result<Kept, Fail> {
+    let (key, body) = text;
+    let key = Txt::from_text(alloc, key)?;
+    let body = Txt::from_text(alloc, body)?;
+    Ok(Kept { key, body })
+}
+
+/// A device with both messages.
+fn device(alloc: Global) -> Result<Device, Fail>
     ensures { IfOk result (λ device. device.spent ≡ false) }
 {
     let node = Node::make(b"aa")?;
-    let device = Device::start(alloc, node, &[])?;
+    let records = [record(alloc, FIRST)?, record(alloc, SECOND)?];
+    let device = Device::start(alloc, node, &records)?;
     Ok(device)
 }
 
@@ -188,12 +220,20 @@ fn answered(alloc: Global, device: &Device, command: &Command) -> Result<Txt, Fa
     text_of(alloc, read_reply(alloc, device, command))
 }
 
-/// `value categories food name`.
-fn food_name(alloc: Global) -> Result<Command, Fail>
+/// `messages SINCE`.
+fn messages(alloc: Global, since: &str) -> Result<Command, Fail>
+    ensures { IfOk result IsReading }
+{
+    let since = Txt::from_text(alloc, since)?;
+    Ok(Command::Messages { since })
+}
+
+/// `value categories ROW name`.
+fn name_of(alloc: Global, row: &str) -> Result<Command, Fail>
     ensures { IfOk result IsReading }
 {
     let dataset = Txt::from_text(alloc, "categories")?;
-    let row = Txt::from_text(alloc, "food")?;
+    let row = Txt::from_text(alloc, row)?;
     let column = Txt::from_text(alloc, "name")?;
     Ok(Command::Value {
         dataset,
@@ -203,13 +243,58 @@ fn food_name(alloc: Global) -> Result<Command, Fail>
 }
 
 #[test]
-fn lines_are_answered(rt: HostRuntime) -> Result<(), Fail> {
+fn fields_and_trie_are_answered(rt: HostRuntime) -> Result<(), Fail> {
     let alloc = rt.alloc();
-    let device = empty_device(alloc)?;
+    let device = device(alloc)?;
     let fields = answered(alloc, &device, &Command::Fields)?;
-    assert_eq!(rt; fields.as_str(), "ok 0\n");
-    let command = food_name(alloc)?;
-    let value = answered(alloc, &device, &command)?;
-    assert_eq!(rt; value.as_str(), "ok 1\nnone\n");
+    assert_eq!(rt;
+        fields.as_str(),
+        "ok 1\n2024-01-05T10:00:01.000Z-0000-00000000000000bb\tcategories\tfood\tname\tS:c\\td\n"
+    );
+    let trie = answered(alloc, &device, &Command::Trie)?;
+    assert_eq!(rt; trie.as_str(), TRIE);
+    Ok(())
+}
+
+#[test]
+fn messages_are_answered(rt: HostRuntime) -> Result<(), Fail> {
+    let alloc = rt.alloc();
+    let device = device(alloc)?;
+    for (since, text) in [
+        (
+            "",
+            "ok 2\n\
+             2024-01-05T10:00:00.000Z-0000-00000000000000aa\tcategories\tfood\tname\tS:a\\\\b\n\
+             2024-01-05T10:00:01.000Z-0000-00000000000000bb\tcategories\tfood\tname\tS:c\\td\n",
+        ),
+        (
+            "2024-01-05T10:00:00.000Z-0000-00000000000000aa",
+            "ok 1\n\
+             2024-01-05T10:00:01.000Z-0000-00000000000000bb\tcategories\tfood\tname\tS:c\\td\n",
+        ),
+        ("3", "ok 0\n"),
+    ] {
+        let command = messages(alloc, since)?;
+        assert_eq!(rt;
+            answered(alloc, &device, &command)?.as_str(),
+            text,
+            "since {since}"
+        );
+    }
+    Ok(())
+}
+
+#[test]
+fn values_are_answered(rt: HostRuntime) -> Result<(), Fail> {
+    let alloc = rt.alloc();
+    let device = device(alloc)?;
+    for (row, text) in [("food", "ok 1\nS:c\\td\n"), ("rent", "ok 1\nnone\n")] {
+        let command = name_of(alloc, row)?;
+        assert_eq!(rt;
+            answered(alloc, &device, &command)?.as_str(),
+            text,
+            "of {row}"
+        );
+    }
     Ok(())
 }

@@ -1,7 +1,5 @@
 -- Records of messages: how they are written and read.
-use Rattle.std.proofs.Common.{◌≡◌, ℕ, ◌<◌, List, [], ◌∷◌, ◌++◌, Option, None, Some, Result, Ok, Err, map, length, refl, sym, ap, ap₂, ◌∙◌, subst, append_assoc, arith}
-use Rattle.std.specs.List.{join_with_byte, AllByRecursion}
-use Rattle.field_values.specs.Value.{value_text}
+use Rattle.std.proofs.Common.{◌≡◌, ℕ, ◌<◌, List, [], ◌∷◌, ◌++◌, None, Some, Result, map, length, refl, sym, ap, ap₂, ◌∙◌, append_assoc, arith}
 use Rattle.hybrid_clock.specs.declared.stamp.Stamp.{Stamp}
 use Rattle.std.specs.Prelude.{is_ok, if◌then◌else◌}
 use Rattle.std.specs.Result.{result_ok}
@@ -9,13 +7,10 @@ use Rattle.hybrid_clock.specs.declared.stamp.StampFault.{StampFault}
 use Rattle.field_merge.specs.declared.line.LineFault.{LineFault}
 use Rattle.field_merge.specs.declared.line.LineFault.TheVariants.{Columns, Escape, Stamp as BadStamp, Name as BadName, NoMemory}
 use Rattle.field_merge.specs.Lines.{IsFaultIn}
-use Rattle.hybrid_clock.specs.Stamp.{IsStamp, stamp_text}
-use Rattle.hybrid_clock.specs.Reading.{read_stamp}
+use Rattle.hybrid_clock.specs.Stamp.{stamp_text}
 use Rattle.hybrid_clock.proofs.Writing.{text_passes, text_reads}
-use Rattle.budget_ports.specs.declared.keeper.Kept.{Kept}
 use Rattle.budget_ports.specs.Keeper.{HaveKeys}
 use Rattle.field_merge.specs.declared.message.Message.{Message}
-use Rattle.field_merge.specs.Escapes.{escaped}
 use Rattle.field_merge.specs.Lines.{reading}
 use Rattle.field_merge.specs.Messages.{IsMessage, AreMessages, message_line}
 use Rattle.field_merge.proofs.StampLemmas.{stamp_text_escaped}

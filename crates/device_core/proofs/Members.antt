@@ -1,5 +1,5 @@
 -- What holds of messages that join, and which of them are new.
-use Rattle.std.proofs.Common.{slice_index_or, drop, suc, ◌+◌, add-one, drop-cons, ◌≡◌, ℕ, ◌<◌, List, [], ◌∷◌, ◌++◌, Bool, true, false, not, cond, Option, None, Some, map, length, is_none, refl, sym, ap, ◌∙◌, subst, append_assoc}
+use Rattle.std.proofs.Common.{slice_index_or, drop, suc, ◌+◌, add-one, drop-cons, ◌≡◌, ℕ, ◌<◌, List, [], ◌∷◌, ◌++◌, Bool, true, false, not, cond, map, length, is_none, refl, sym, ap, ◌∙◌, append_assoc}
 use Rattle.std.specs.List.{find, list_any, AllByRecursion}
 use Rattle.std.proofs.lemmas.List.{map-append}
 use Rattle.field_merge.specs.declared.message.Message.{Message}
@@ -44,7 +44,7 @@ batch_on before batch ms n ns all is rest =
     ∙ ap (λ l. before ++ l) (sym (map-append record_of (new_in ms (n ∷ [])) (new_in (join_one ms n) ns)) ∙ ap (map record_of) (sym (new_on ms n ns)))
     ∙ rest
 
-found_any : (p : Message → Bool) (ms : List Message) → is_none (find p ms) ≡ not (list_any p ms)
+pub found_any : (p : Message → Bool) (ms : List Message) → is_none (find p ms) ≡ not (list_any p ms)
 found_any p [] = refl
 found_any p (m ∷ ms) = go (p m) refl (found_any p ms)
   where

@@ -1,13 +1,11 @@
 -- Writes under timestamps in a row.
-use Rattle.std.proofs.Common.{◌≡◌, ◌⊎◌, inl, inr, ℕ, suc, ◌+◌, ◌-◌, ◌<◌, ◌≤◌, List, [], ◌∷◌, length, refl, sym, ap, ◌∙◌, subst, arith}
-use Rattle.std.specs.List.{AllByRecursion}
+use Rattle.std.proofs.Common.{◌≡◌, inr, ◌+◌, ◌≤◌, List, [], ◌∷◌, length, arith}
 use Rattle.hybrid_clock.specs.declared.stamp.Stamp.{Stamp}
 use Rattle.hybrid_clock.specs.Stamp.{IsStamp}
-use Rattle.field_merge.specs.declared.message.Message.{Message}
-use Rattle.field_merge.specs.Messages.{IsMessage, AreMessages}
+use Rattle.field_merge.specs.Messages.{AreMessages}
 use Rattle.device_core.specs.declared.edit.Write.{Write}
 use Rattle.device_core.specs.Edits.{AreWrites}
-use Rattle.device_core.specs.Device.{stamped, IsUpTo, IsAhead}
+use Rattle.device_core.specs.Device.{stamped, IsAhead}
 
 -- each is valid where the last counter fits
 pub stamped_valid : (s : Stamp) (ws : List Write) → IsStamp s → s.counter + length ws ≤ 65_536 → AreWrites ws → AreMessages (stamped s ws)

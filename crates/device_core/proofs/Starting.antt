@@ -1,5 +1,5 @@
 -- The messages of records, read one after the other.
-use Rattle.std.proofs.Common.{◌≡◌, Bool, cond, ℕ, ◌+◌, List, [], ◌∷◌, Option, None, Some, Result, Ok, Err, is_none, refl, ap, subst, ◌∙◌}
+use Rattle.std.proofs.Common.{◌≡◌, Bool, cond, ℕ, ◌+◌, List, [], ◌∷◌, Option, None, Some, Result, Ok, Err, is_none, refl, subst, ◌∙◌}
 use Rattle.std.specs.List.{filter_map, position_from, cons_option}
 use Rattle.budget_ports.specs.declared.keeper.Kept.{Kept}
 use Rattle.field_merge.specs.declared.message.Message.{Message}
@@ -7,7 +7,7 @@ use Rattle.hybrid_clock.specs.Order.{stamp_cmp}
 use Rattle.field_merge.specs.Log.{IsRising, join_one, join}
 use Rattle.field_merge.proofs.Ordered.{in_order_nil}
 use Rattle.field_merge.proofs.Joining.{stamp_of, rising}
-use Rattle.device_core.specs.Records.{message_in, messages_in, unless_bad, set_of, kept_set}
+use Rattle.device_core.specs.Records.{message_in, unless_bad, set_of, kept_set}
 
 -- the message set after the records from one with this index on were read into messages
 abbrev pub kept_after : List Message → ℕ → List Kept → Result (List Message) ℕ

@@ -1,7 +1,6 @@
 -- What writes and edits come to, by the number of writes.
-use Rattle.std.proofs.Common.{◌≡◌, ℕ, suc, ◌+◌, ◌-◌, ◌<◌, ◌≤◌, Bool, true, false, cond, List, [], ◌∷◌, length, Result, Ok, Err, refl, sym, ap, ◌∙◌, subst, arith}
+use Rattle.std.proofs.Common.{◌≡◌, ℕ, ◌+◌, ◌-◌, ◌<◌, ◌≤◌, true, false, List, [], ◌∷◌, length, Ok, Err, refl, ap, ◌∙◌, arith}
 use Rattle.std.specs.Prelude.{nat_lt}
-use Rattle.std.proofs.lemmas.Bool.{cases_Bool}
 use Rattle.std.proofs.lemmas.Bool.Decides.{nat_tests}
 use Rattle.hybrid_clock.specs.declared.stamp.Stamp.{Stamp}
 use Rattle.hybrid_clock.specs.Clock.{draw}
@@ -9,10 +8,9 @@ use Rattle.device_core.specs.declared.edit.Edit.{Edit}
 use Rattle.device_core.specs.declared.edit.Write.{Write}
 use Rattle.device_core.specs.declared.edit.EditFault.{EditFault}
 use Rattle.device_core.specs.declared.edit.EditFault.TheVariants.{BadId, TooManyWrites, NoMemory as OutOfMemory}
-use Rattle.device_core.specs.declared.edit.LineRefusal.{LineRefusal}
 use Rattle.device_core.specs.declared.edit.LineRefusal.TheVariants.{Edit as OfEdit}
 use Rattle.device_core.specs.Edits.{writes_of, IsFaultOf}
-use Rattle.device_core.specs.Device.{State, Accepted, at_rest, written, writing, edited, first_of}
+use Rattle.device_core.specs.Device.{State, at_rest, written, writing, edited, first_of}
 
 pub writing_none : (s : State) (reading : ℕ) (ws : List Write) → length ws ≡ 0 → writing s reading (Ok ws) ≡ Ok (record { device = at_rest s; count = 0 })
 writing_none s reading [] none = refl

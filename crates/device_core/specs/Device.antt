@@ -11,6 +11,8 @@ use Rattle.field_merge.specs.declared.message.Message.{Message}
 use Rattle.budget_ports.specs.Keeper.{HaveKeys}
 use Rattle.field_merge.specs.Messages.{AreMessages}
 use Rattle.field_merge.specs.Log.{LogState, has_stamp, join_one, join, last_stamp}
+use Rattle.minute_trie.specs.declared.trie.Trie.{Trie}
+use Rattle.minute_trie.specs.Trie.{Pair, stamp_pair, is_spent, IsTrieOf}
 use Rattle.device_core.specs.declared.edit.Edit.{Edit}
 use Rattle.device_core.specs.declared.edit.Write.{Write}
 use Rattle.device_core.specs.declared.edit.EditFault.{EditFault}
@@ -129,9 +131,15 @@ abbrev pub IsStartFault : Result (List Message) ℕ → StartFault → Type 0
 IsStartFault meant (BadRecord index) = meant ≡ Err index
 IsStartFault meant OutOfMemory = Unit {0}
 
+-- the pairs of messages in a trie: each timestamp's minute, and the hash of its text
+abbrev pub pairs_of : List Message → List Pair
+pairs_of ms = map (λ m. stamp_pair m.stamp) ms
+
 -- what holds of a device that is not spent
-pub record Stands (log : LogState) (clock : Stamp) (batch : List Kept) : Type 0 where
+pub record Stands (log : LogState) (trie : Trie) (clock : Stamp) (batch : List Kept) : Type 0 where
   pub live : log.spent ≡ false
   pub valid : AreMessages log.messages
+  pub trie_live : is_spent trie ≡ false
+  pub trie_right : IsTrieOf (pairs_of log.messages) trie
   pub ahead : IsAhead clock log.messages
   pub keys : HaveKeys batch

@@ -1,5 +1,5 @@
 -- The records that a keeper keeps of messages.
-use Rattle.std.specs.Prelude.{◌≡◌, ℕ, List, [], ◌∷◌, ◌++◌, map, is_none, is_ok, if◌then◌else◌, Option, None, Some, Result, Ok, Err}
+use Rattle.std.specs.Prelude.{ℕ, List, [], ◌∷◌, ◌++◌, map, is_none, is_ok, if◌then◌else◌, Option, None, Some, Result, Ok, Err}
 use Rattle.std.specs.Result.{result_ok}
 use Rattle.std.specs.List.{join_with_byte, filter_map, position_from}
 use Rattle.field_values.specs.Value.{value_text}

@@ -5,10 +5,11 @@ ghost use Rattle.hybrid_clock.specs.Stamp.{IsStamp};
 ghost use Rattle.budget_ports.specs.Keeper.{HaveKeys};
 ghost use Rattle.field_merge.specs.Log.{later};
 ghost use Rattle.field_merge.specs.Messages.{AreMessages};
+ghost use Rattle.minute_trie.specs.Trie.{IsTrieOf, ArePairs};
 ghost use Rattle.device_core.specs.declared.device.StartFault.TheVariants.{NoMemory as OutOfMemory};
 ghost use Rattle.device_core.specs.Records.{kept_set};
 ghost use Rattle.device_core.specs.Edits.{IsEdit, AreWrites};
-ghost use Rattle.device_core.specs.Device.{at_rest, begun, with_messages, stamped, writing, edited, later_of, greatest_of, received, IsUpTo, IsAhead, IsAccepted, IsRefused, IsStartFault};
+ghost use Rattle.device_core.specs.Device.{at_rest, begun, with_messages, stamped, writing, edited, later_of, greatest_of, received, pairs_of, IsUpTo, IsAhead, IsAccepted, IsRefused, IsStartFault};
 
 use crate::edit::{Edit, EditFault, LineRefusal, Write, edit_writes};
 use crate::join::{join_all, read_log};
@@ -16,6 +17,7 @@ use budget_ports::Kept;
 use field_merge::{Log, Message};
 use field_values::{Items, NoMemory, Steps, Txt};
 use hybrid_clock::{HybridClock, Node, Stamp};
+use minute_trie::{Trie, tries_are_maps};
 use std::alloc::Global;
 use std::marker::Model;
 use std::sync::ledger::Ledger;
@@ -50,6 +52,7 @@ const MOST_WRITES: usize = 65_536;
 pub struct Device {
     alloc: Global,
     log: Log,
+    trie: Trie,
     clock: HybridClock,
     batch: Vec<Kept>,
     made: Items<Txt>,
@@ -64,7 +67,7 @@ impl Model for Device {
 
     ghost view = { λ d. record { state = record { messages = d.log.messages; clock = d.clock }; batch = d.batch.items; made = d.made; spent = d.spent } };
 
-    ghost invariant = { λ d. d.spent ≡ false → Stands d.log d.clock d.batch.items };
+    ghost invariant = { λ d. d.spent ≡ false → Stands d.log d.trie d.clock d.batch.items };
 }
 
 impl Device {
@@ -77,11 +80,12 @@ impl Device {
         ensures state { IfOk result (λ d. d ≡ at_rest (begun node d.state.messages)) }
         ensures err { IfErr result (IsStartFault (kept_set items.now)) }
     {
-        let log = read_log(alloc, items)?;
+        let (log, trie) = read_log(alloc, items)?;
         let clock = HybridClock::new(node, log.last());
         Ok(Device {
             alloc,
             log,
+            trie,
             clock,
             batch: Vec::new(alloc),
             made: Items::new(Vec::new(alloc)),
@@ -188,7 +192,13 @@ impl Device {
     {
         self.rest();
         self.spent = true;
-        join_all(self.alloc, &mut self.log, messages, &mut self.batch)?;
+        join_all(
+            self.alloc,
+            &mut self.log,
+            &mut self.trie,
+            messages,
+            &mut self.batch,
+        )?;
         self.spent = false;
         Ok(())
     }
@@ -270,6 +280,21 @@ impl Device {
         ensures valid { AreMessages self.now.state.messages }
     {
         &self.log
+    }
+
+    /// The trie of the messages' timestamps, by which two devices find from when on they differ.
+    ///
+    /// It depends on the messages alone: after the same messages have come, by edits, in batches in
+    /// any order, or from records when a device starts again, it holds the same. A new message
+    /// costs one insertion, and a known one none.
+    pub fn trie(&self) -> &Trie
+        requires { self.now.spent ≡ false }
+        ensures trie { IsTrieOf (pairs_of self.now.state.messages) result.now }
+        ensures pairs { ArePairs (pairs_of self.now.state.messages) }
+    {
+        // Each timestamp has a minute of the trie.
+        tries_are_maps();
+        &self.trie
     }
 
     /// The timestamp at which the clock stands. No message has a greater time and counter.

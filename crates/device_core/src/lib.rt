@@ -5,8 +5,13 @@
 mod device;
 mod edit;
 mod join;
+mod laws;
 mod record;
 
 pub use device::{Device, StartFault};
 pub use edit::{BookEdit, Edit, EditFault, LineRefusal, Write};
+pub use laws::batches_are_kept;
 pub use record::records_read_back;
+
+#[cfg(test)]
+mod tests;

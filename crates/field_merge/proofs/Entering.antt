@@ -1,16 +1,15 @@
 -- What the latest message of each field is once a message with a new timestamp has taken its place.
-use Rattle.std.proofs.Common.{◌≡◌, ◌≢◌, List, [], ◌∷◌, Bool, true, false, ◌&&◌, cond, Option, None, Some, map, refl, sym, ap, ◌∙◌, subst}
+use Rattle.std.proofs.Common.{◌≡◌, List, [], ◌∷◌, Bool, true, false, ◌&&◌, cond, Option, None, Some, refl, sym, ap, ◌∙◌, subst}
 use Rattle.std.specs.Ordering.{is_eq, is_lt, ordering_reverse}
-use Rattle.std.specs.Option.{is_some, option_map, option_or}
+use Rattle.std.specs.Option.{option_or}
 use Rattle.std.specs.Cmp.{tied_itself}
-use Rattle.std.specs.List.{find, AllByRecursion}
-use Rattle.std.specs.declared.cmp.Ordering.{Ordering}
+use Rattle.std.specs.List.{AllByRecursion}
 use Rattle.std.specs.declared.cmp.Ordering.TheVariants.{Less, Equal, Greater}
-use Rattle.field_values.specs.Names.{FieldNames, names_cmp}
+use Rattle.field_values.specs.Names.{FieldNames}
 use Rattle.hybrid_clock.specs.declared.stamp.Stamp.{Stamp}
 use Rattle.hybrid_clock.specs.Order.{stamp_cmp}
 use Rattle.field_merge.specs.declared.message.Message.{Message}
-use Rattle.field_merge.specs.Log.{IsRising, at_stamp, by_stamp, has_field, has_stamp, latest, placed}
+use Rattle.field_merge.specs.Log.{IsRising, at_stamp, by_stamp, has_field, latest, placed}
 use Rattle.field_merge.specs.Kept.{is_newer}
 use Rattle.field_merge.proofs.Orders.{stamps_total, names_exact, names_total}
 use Rattle.field_merge.proofs.Members.{all_of, all_keys, missed, or_none}
@@ -20,7 +19,7 @@ use Rattle.field_merge.proofs.Latest.{latest-cons, latest_there}
 
 -- whether a message is newer than the latest of its field
 abbrev pub wins : List Message → Message → Bool
-wins ms n = is_newer (option_map (λ (m : Message). m.stamp) (latest ms n.field)) n.stamp
+wins ms n = is_newer (latest ms n.field) n.stamp
 
 -- ---- another field
 other_field : (ms : List Message) (n : Message) (f : FieldNames) → has_field f n ≡ false → latest (placed by_stamp ms n) f ≡ latest ms f
@@ -32,13 +31,13 @@ other_field (m ∷ ms) n f h =
     ]
 
 -- ---- its own field
-step : (o : Option Message) (b : Bool) (m n : Message) → is_lt (stamp_cmp m.stamp n.stamp) ≡ true → option_or (cond (is_newer (option_map (λ (m : Message). m.stamp) o) n.stamp) (Some n) o) (cond b (Some m) None) ≡ cond (is_newer (option_map (λ (m : Message). m.stamp) (option_or o (cond b (Some m) None))) n.stamp) (Some n) (option_or o (cond b (Some m) None))
+step : (o : Option Message) (b : Bool) (m n : Message) → is_lt (stamp_cmp m.stamp n.stamp) ≡ true → option_or (cond (is_newer o n.stamp) (Some n) o) (cond b (Some m) None) ≡ cond (is_newer (option_or o (cond b (Some m) None)) n.stamp) (Some n) (option_or o (cond b (Some m) None))
 step None true m n h = rw h refl
 step None false m n h = refl
 step (Some l) b m n h =
     elim (is_lt (stamp_cmp l.stamp n.stamp)) as (λ t. option_or (cond t (Some n) (Some l)) (cond b (Some m) None) ≡ cond t (Some n) (Some l)) [ true ↦ refl | false ↦ refl ]
 
-last_of_its_field : (o : Option Message) (n : Message) → ((l : Message) → o ≡ Some l → is_lt (stamp_cmp l.stamp n.stamp) ≡ false) → option_or o (Some n) ≡ cond (is_newer (option_map (λ (m : Message). m.stamp) o) n.stamp) (Some n) o
+last_of_its_field : (o : Option Message) (n : Message) → ((l : Message) → o ≡ Some l → is_lt (stamp_cmp l.stamp n.stamp) ≡ false) → option_or o (Some n) ≡ cond (is_newer o n.stamp) (Some n) o
 last_of_its_field None n h = refl
 last_of_its_field (Some l) n h = rw (h l refl) refl
 
@@ -61,7 +60,7 @@ own_field (m ∷ ms) n s h =
           latest-cons m (placed by_stamp ms n) n.field
           ∙ ap (λ o. option_or o (cond (has_field n.field m) (Some m) None)) (own_field ms n (tail stamp_of stamp_cmp m ms s) new.1)
           ∙ step (latest ms n.field) (has_field n.field m) m n less
-          ∙ sym (ap (λ o. cond (is_newer (option_map (λ (m : Message). m.stamp) o) n.stamp) (Some n) o) (latest-cons m ms n.field))
+          ∙ sym (ap (λ o. cond (is_newer o n.stamp) (Some n) o) (latest-cons m ms n.field))
     ] refl new.0
 
 and_true : (b : Bool) → (b && true) ≡ b

@@ -1,11 +1,14 @@
 -- Escapes: what stands before, at and behind a backslash.
 use Rattle.std.proofs.Common.{◌≡◌, ◌≢◌, ℕ, zero, suc, ◌+◌, ◌<◌, Bool, true, false, cond, ◌||◌, ◌==◌, eqb, List, [], ◌∷◌, ◌++◌, length, get_or, take, drop, Option, None, Some, MatchOption, Bor, not, ◌≤◌, nat_lt, refl, ap, sym, subst, ◌∙◌, arith, append_assoc, length-append, one-add}
 use Rattle.std.specs.List.{position, position_or_len}
-use Rattle.std.proofs.lemmas.Bool.{ne_eqb, eqb-true, ltb-false, or_parts}
+use Rattle.std.proofs.lemmas.Bool.{ne_eqb, eq-eqb, eqb-true, ltb-false, or_parts}
 use Rattle.std.proofs.lemmas.Bool.Decides.{nat_tests}
 use Rattle.std.proofs.lemmas.List.{append-nil, take_all, drop_all, drop_more}
 use Rattle.std.proofs.lemmas.List.Quantifiers.{position-Some}
 use Rattle.std.proofs.lemmas.Option.{cond_some}
+use Rattle.std.specs.Option.{is_some}
+use Rattle.std.specs.Bool.{OnTrue}
+use Rattle.memchr.specs.Find.{IsFirstByte, is_byte}
 use Rattle.field_merge.specs.Escapes.{escaped, escaped_byte, is_special, is_letter, unescaped, later, bad_escape}
 
 -- each byte of the text fails the test
@@ -211,3 +214,17 @@ bad_escape-escaped (b ∷ text) ys h =
 
 pub bad_escape-tab : (ys : List ℕ) → bad_escape ys ≡ None → bad_escape (9 ∷ ys) ≡ None
 bad_escape-tab ys h = bad_escape-plain 9 ys refl ∙ ap (later 1) h
+
+-- a search for a byte finds none
+lacks_byte : (b : ℕ) (bs : List ℕ) → IsFirstByte (is_byte b) bs None → Lacks b bs
+lacks_byte b bs h = Lacks-from_reads b bs (λ i below same. h i (omega arith) below (eq-eqb (get_or bs i 0) b same))
+
+pub plain_whole : (plain : Bool) (found : Option ℕ) (bs part : List ℕ) → IsFirstByte (is_byte 92) bs found → is_some found ≡ not plain → bs ≡ part → OnTrue plain (unescaped part ≡ part)
+plain_whole true None bs part h e is = subst (λ (t : List ℕ). unescaped t ≡ t) is (unescaped-whole bs (lacks_byte 92 bs h))
+plain_whole true (Some k) bs part h e is = cc
+plain_whole false found bs part h e is = tt
+
+pub plain_good : (plain : Bool) (found : Option ℕ) (bs part : List ℕ) → IsFirstByte (is_byte 92) bs found → is_some found ≡ not plain → bs ≡ part → OnTrue plain (bad_escape part ≡ None)
+plain_good true None bs part h e is = subst (λ (t : List ℕ). bad_escape t ≡ None) is (bad_escape-whole bs (lacks_byte 92 bs h))
+plain_good true (Some k) bs part h e is = cc
+plain_good false found bs part h e is = tt

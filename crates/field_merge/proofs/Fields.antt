@@ -1,8 +1,7 @@
 -- The list of the latest message of each field.
-use Rattle.std.proofs.Common.{◌≡◌, ◌↔◌, List, [], ◌∷◌, Bool, true, false, cond, Option, None, Some, refl, sym, ap, ◌∙◌, subst}
-use Rattle.std.specs.Ordering.{is_eq}
+use Rattle.std.proofs.Common.{◌≡◌, List, [], ◌∷◌, Bool, true, false, cond, Option, None, Some, refl, sym, ap, ◌∙◌, subst}
 use Rattle.std.specs.Option.{is_some, option_or}
-use Rattle.std.specs.List.{find, list_any, Contains, AllByRecursion}
+use Rattle.std.specs.List.{find, list_any}
 use Rattle.field_values.specs.Names.{FieldNames, names_cmp}
 use Rattle.field_merge.specs.declared.message.Message.{Message}
 use Rattle.field_merge.specs.Log.{IsByField, by_field, fields, has_field, latest, placed}

@@ -1,16 +1,16 @@
 -- What a join keeps, what is found in it, and in which orders messages may be joined.
-use Rattle.std.proofs.Common.{◌≡◌, ◌≢◌, ◌⊎◌, ◌↔◌, List, [], ◌∷◌, ◌++◌, Bool, true, false, cond, Option, None, Some, length, refl, sym, ap, ◌∙◌, subst, inl, inr}
+use Rattle.std.proofs.Common.{◌≡◌, ◌⊎◌, List, [], ◌∷◌, ◌++◌, Bool, true, false, cond, Option, None, Some, refl, sym, ap, ◌∙◌, subst, inl, inr}
 use Rattle.std.specs.Ordering.{is_eq}
 use Rattle.std.specs.Option.{is_some, option_or}
 use Rattle.std.specs.Cmp.{tied_itself}
-use Rattle.std.specs.List.{find, list_any, Contains, AllByRecursion}
+use Rattle.std.specs.List.{list_any, Contains, AllByRecursion}
 use Rattle.hybrid_clock.specs.declared.stamp.Stamp.{Stamp}
 use Rattle.hybrid_clock.specs.Order.{stamp_cmp}
 use Rattle.field_merge.specs.declared.message.Message.{Message}
 use Rattle.field_merge.specs.Log.{IsRising, at_stamp, by_stamp, has_stamp, join, join_one, placed}
 use Rattle.field_merge.specs.Joining.{HasOneEach, HaveSame, IsJoin}
 use Rattle.field_merge.proofs.Orders.{stamps_total, stamps_exact}
-use Rattle.field_merge.proofs.Members.{all_of, all_from, all_weaker, found_in, is_some-find, new_or_there, none_from_any, or_assoc, or_none, some_passes}
+use Rattle.field_merge.proofs.Members.{all_of, all_from, found_in, is_some-find, new_or_there, none_from_any, or_assoc, or_none, some_passes}
 use Rattle.field_merge.proofs.Ordered.{equal, same}
 use Rattle.field_merge.proofs.Placing.{all_placed, find-placed, in_order}
 

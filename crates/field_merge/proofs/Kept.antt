@@ -1,10 +1,10 @@
 -- The maps of a log, as lists of messages and of latest timestamps.
 use Rattle.std.proofs.Common.{◌≡◌, ◌≢◌, ◌+◌, IsTrue, arith, length, List, [], ◌∷◌, Bool, true, false, not, ◌&&◌, ◌||◌, ◌↔◌, cond, Option, None, Some, map, refl, sym, ap, ◌∙◌, subst}
 use Rattle.std.specs.Ordering.{is_eq, is_lt, ordering_reverse, match_ordering}
-use Rattle.std.specs.Option.{is_none, is_some, option_map, option_or}
+use Rattle.std.specs.Option.{is_none, is_some}
 use Rattle.std.proofs.lemmas.Bool.{both_ways}
 use Rattle.std.specs.Cmp.{tied_itself}
-use Rattle.std.specs.List.{find, list_any, AllByRecursion, Contains, IsDistinct}
+use Rattle.std.specs.List.{list_any, AllByRecursion, Contains, IsDistinct}
 use Rattle.std.specs.List.Sorted.{IsStrictlySortedBy}
 use Rattle.std.specs.Map.{keys_of, lookup, values_of}
 use Rattle.std.specs.BTreeMap.{insert_entry, is_at}
@@ -24,8 +24,8 @@ use Rattle.field_merge.specs.Kept.{AreEntries, IsIndex, MarksChanged, Notes, is_
 use Rattle.field_merge.proofs.Orders.{stamps_total, names_alike, names_exact, names_total}
 use Rattle.field_merge.proofs.Joining.{stamp_of}
 use Rattle.field_merge.proofs.Latest.{latest_there}
-use Rattle.field_merge.proofs.Members.{found_in, is_some-find, missed, some_passes}
-use Rattle.field_merge.proofs.Ordered.{equal, found_by_key}
+use Rattle.field_merge.proofs.Members.{is_some-find, missed, some_passes}
+use Rattle.field_merge.proofs.Ordered.{equal}
 use Rattle.field_merge.proofs.Placing.{all_placed, find-placed, in_order, length-placed}
 use Rattle.field_merge.proofs.Entering.{latest-placed, wins}
 
@@ -108,65 +108,23 @@ flips Greater = refl
 pub names_flip : (f g : FieldNames) → is_eq (names_cmp f g) ≡ is_eq (names_cmp g f)
 names_flip f g = ap is_eq (names_total.antisymm f g) ∙ flips (names_cmp g f)
 
-map_cond : (b : Bool) (n : Message) (o : Option Message) → option_map (λ (m : Message). m.stamp) (cond b (Some n) o) ≡ cond b (Some n.stamp) (option_map (λ (m : Message). m.stamp) o)
-map_cond true n o = refl
-map_cond false n o = refl
-
 -- what is noted of a message, against the messages
-pub wins_by_index : (ms : List Message) (n : Message) (index new_index : List (FieldNames × Stamp)) (w : Bool) → IsIndex ms index → Notes index new_index n w → w ≡ wins ms n
+pub wins_by_index : (ms : List Message) (n : Message) (index new_index : List (FieldNames × Message)) (w : Bool) → IsIndex ms index → Notes index new_index n w → w ≡ wins ms n
 wins_by_index ms n index new_index w right note = note.is_later ∙ ap (λ o. is_newer o n.stamp) (right n.field)
 
-pub index-placed : (ms : List Message) (n : Message) (index new_index : List (FieldNames × Stamp)) (w : Bool) → IsRising ms → at_stamp ms n.stamp ≡ None → IsIndex ms index → Notes index new_index n w → IsIndex (placed by_stamp ms n) new_index
+pub index-placed : (ms : List Message) (n : Message) (index new_index : List (FieldNames × Message)) (w : Bool) → IsRising ms → at_stamp ms n.stamp ≡ None → IsIndex ms index → Notes index new_index n w → IsIndex (placed by_stamp ms n) new_index
 index-placed ms n index new_index w s new right note f =
     note.now f
-    ∙ (λ i. cond (wins_by_index ms n index new_index w right note i && names_flip n.field f i) (Some n.stamp) (right f i))
-    ∙ sym (map_cond (wins ms n && has_field f n) n (latest ms f))
-    ∙ ap (option_map (λ (m : Message). m.stamp)) (sym (latest-placed ms n s new f))
-
--- ---- a note where the index has the field, and where it does not
-keep : (a b : Bool) (s t : Stamp) (o : Option Stamp) → (a ≡ true → o ≡ Some t) → cond a (Some (cond b s t)) o ≡ cond (b && a) (Some s) o
-keep a true s t o h = refl
-keep true false s t o h = sym (h refl)
-keep false false s t o h = refl
-
--- a timestamp that was replaced is put back
-pub put_back : (b w : Bool) (s t : Stamp) (before between after : Option Stamp) → w ≡ false → between ≡ cond b (Some s) before → after ≡ cond b (Some t) between → after ≡ cond b (Some (cond w s t)) before
-put_back true w s t before between after isnt first second = second ∙ ap (λ v. Some (cond v s t)) (sym isnt)
-put_back false w s t before between after isnt first second = second ∙ first
-
-pub noted_there : (index new_index : List (FieldNames × Stamp)) (n : Message) (old : Stamp) (w : Bool) → Some old ≡ lookup (is_at (names_cmp n.field)) index → w ≡ is_lt (stamp_cmp old n.stamp) → ((f : FieldNames) → lookup (is_at (names_cmp f)) new_index ≡ cond (is_at (names_cmp n.field) f) (Some (cond w n.stamp old)) (lookup (is_at (names_cmp f)) index)) → Notes index new_index n w
-noted_there index new_index n old w there later now = record {
-  is_later = later ∙ ap (λ o. is_newer o n.stamp) there;
-  now = λ f. now f ∙ keep (is_at (names_cmp n.field) f) w n.stamp old (lookup (is_at (names_cmp f)) index)
-      (λ t. subst (λ (g : FieldNames). lookup (is_at (names_cmp g)) index ≡ Some old) (names_exact n.field f (equal _ t)) (sym there));
-}
-
-pub noted_first : (index new_index : List (FieldNames × Stamp)) (n : Message) → None ≡ lookup (is_at (names_cmp n.field)) index → ((f : FieldNames) → lookup (is_at (names_cmp f)) new_index ≡ cond (is_at (names_cmp n.field) f) (Some n.stamp) (lookup (is_at (names_cmp f)) index)) → Notes index new_index n true
-noted_first index new_index n lacks now = record {
-  is_later = ap (λ o. is_newer o n.stamp) lacks;
-  now = now;
-}
-
--- the index leads to the latest message
-some_stamp : (o : Option Message) (s : Stamp) → option_map (λ (m : Message). m.stamp) o ≡ Some s → (m : Message) × (o ≡ Some m) × (m.stamp ≡ s)
-some_stamp None s h = cc
-some_stamp (Some m) s h = (m, refl, cc)
-
-pub by_index : (es : List (Stamp × Message)) (index : List (FieldNames × Stamp)) (f : FieldNames) (s : Stamp) → AreEntries es → IsIndex (values_of es) index → Some s ≡ lookup (is_at (names_cmp f)) index → lookup (is_at (stamp_cmp s)) es ≡ latest (values_of es) f
-by_index es index f s stand right there =
-    let known = some_stamp (latest (values_of es) f) s (sym (right f) ∙ sym there) in
-    lookup-own es stand.own s
-    ∙ ap (λ (t : Stamp). at_stamp (values_of es) t) (sym known.2)
-    ∙ found_by_key stamp_of stamp_cmp stamps_total (values_of es) (rising_from es stand.own stand.rising) known.0 (latest_there (values_of es) f known.0 known.1).0
-    ∙ sym known.1
+    ∙ (λ i. cond (wins_by_index ms n index new_index w right note i && names_flip n.field f i) (Some n) (right f i))
+    ∙ sym (latest-placed ms n s new f)
 
 -- ---- what enters
-pub entered_right : (n : Message) (es fs : List (Stamp × Message)) (index new_index : List (FieldNames × Stamp)) (w : Bool) → AreEntries es → lookup (is_at (stamp_cmp n.stamp)) es ≡ None → fs ≡ insert_entry stamp_cmp es n.stamp n → IsIndex (values_of es) index → Notes index new_index n w → IsIndex (values_of fs) new_index
+pub entered_right : (n : Message) (es fs : List (Stamp × Message)) (index new_index : List (FieldNames × Message)) (w : Bool) → AreEntries es → lookup (is_at (stamp_cmp n.stamp)) es ≡ None → fs ≡ insert_entry stamp_cmp es n.stamp n → IsIndex (values_of es) index → Notes index new_index n w → IsIndex (values_of fs) new_index
 entered_right n es fs index new_index w stand new is right note =
     subst (λ (ms : List Message). IsIndex ms new_index) (sym (ap values_of is ∙ values-insert n es stand.own new))
     (index-placed (values_of es) n index new_index w (rising_from es stand.own stand.rising) (fresh_stamp es n stand.own new) right note)
 
-pub entered_wins : (n : Message) (es fs : List (Stamp × Message)) (index new_index : List (FieldNames × Stamp)) (w : Bool) → AreEntries es → lookup (is_at (stamp_cmp n.stamp)) es ≡ None → fs ≡ insert_entry stamp_cmp es n.stamp n → IsIndex (values_of es) index → Notes index new_index n w → (f : FieldNames) → latest (values_of fs) f ≡ cond (w && has_field f n) (Some n) (latest (values_of es) f)
+pub entered_wins : (n : Message) (es fs : List (Stamp × Message)) (index new_index : List (FieldNames × Message)) (w : Bool) → AreEntries es → lookup (is_at (stamp_cmp n.stamp)) es ≡ None → fs ≡ insert_entry stamp_cmp es n.stamp n → IsIndex (values_of es) index → Notes index new_index n w → (f : FieldNames) → latest (values_of fs) f ≡ cond (w && has_field f n) (Some n) (latest (values_of es) f)
 entered_wins n es fs index new_index w stand new is right note f =
     ap (λ (ms : List Message). latest ms f) (ap values_of is ∙ values-insert n es stand.own new)
     ∙ latest-placed (values_of es) n (rising_from es stand.own stand.rising) (fresh_stamp es n stand.own new) f

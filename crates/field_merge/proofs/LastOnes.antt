@@ -1,5 +1,5 @@
 -- The messages whose timestamp's text is greater than a text stand at the end of the list.
-use Rattle.std.proofs.Common.{◌≡◌, List, [], ◌∷◌, ◌++◌, ℕ, Bool, true, false, cond, map, refl, sym, ap, ◌∙◌, subst, append_assoc}
+use Rattle.std.proofs.Common.{◌≡◌, List, [], ◌∷◌, ◌++◌, ℕ, Bool, true, false, cond, map, refl, sym, ap, ◌∙◌, append_assoc}
 use Rattle.std.specs.Prelude.{filter, reverse}
 use Rattle.std.specs.Ordering.{is_gt, nat_cmp}
 use Rattle.std.specs.Cmp.Lexicographic.{slice_cmp}
@@ -14,7 +14,7 @@ use Rattle.hybrid_clock.specs.Order.{stamp_cmp}
 use Rattle.field_merge.specs.declared.message.Message.{Message}
 use Rattle.field_merge.specs.Messages.{AreMessages, IsMessage}
 use Rattle.field_merge.specs.Log.{IsRising, is_after, later}
-use Rattle.field_merge.proofs.Members.{all_keys, all_weaker}
+use Rattle.field_merge.proofs.Members.{all_keys}
 use Rattle.field_merge.proofs.Ordered.{cons, head, in_order_nil, tail}
 use Rattle.field_merge.proofs.Joining.{stamp_of}
 

@@ -1,21 +1,20 @@
 -- The latest message of a field.
-use Rattle.std.proofs.Common.{◌≡◌, ◌≢◌, List, [], ◌∷◌, Bool, true, false, ◌||◌, ◌&&◌, cond, Option, None, Some, map, refl, sym, ap, ◌∙◌, subst}
+use Rattle.std.proofs.Common.{◌≡◌, List, [], ◌∷◌, Bool, true, false, ◌||◌, cond, Option, None, Some, refl, sym, ap, ◌∙◌, subst}
 use Rattle.std.specs.Prelude.{filter}
 use Rattle.std.proofs.lemmas.Bool.{or_parts}
-use Rattle.std.specs.Ordering.{is_eq, is_lt, is_gt, ordering_reverse}
-use Rattle.std.specs.Option.{is_some, option_map, option_or}
+use Rattle.std.specs.Ordering.{is_eq, is_gt}
+use Rattle.std.specs.Option.{is_some, option_or}
 use Rattle.std.specs.Cmp.{tied_itself}
 use Rattle.std.specs.List.{list_any, last_or, Contains, AllByRecursion}
-use Rattle.std.specs.declared.cmp.Ordering.{Ordering}
-use Rattle.std.specs.declared.cmp.Ordering.TheVariants.{Less, Equal, Greater}
+use Rattle.std.specs.declared.cmp.Ordering.TheVariants.{Less}
 use Rattle.field_values.specs.Names.{FieldNames, names_cmp}
 use Rattle.hybrid_clock.specs.declared.stamp.Stamp.{Stamp}
 use Rattle.hybrid_clock.specs.Order.{stamp_cmp}
 use Rattle.field_merge.specs.declared.message.Message.{Message}
-use Rattle.field_merge.specs.Log.{IsRising, at_stamp, by_stamp, has_field, latest, placed}
-use Rattle.field_merge.specs.Joining.{IsLatest, IsLatestOrNone}
+use Rattle.field_merge.specs.Log.{IsRising, has_field, latest}
+use Rattle.field_merge.specs.Joining.{IsLatestOrNone}
 use Rattle.field_merge.proofs.Orders.{stamps_total, names_exact, names_total}
-use Rattle.field_merge.proofs.Members.{all_of, all_keys, all_weaker, here, missed, or_none, there}
+use Rattle.field_merge.proofs.Members.{all_of, all_keys, all_weaker, here, or_none, there}
 use Rattle.field_merge.proofs.Ordered.{equal, head, tail}
 use Rattle.field_merge.proofs.Joining.{stamp_of}
 

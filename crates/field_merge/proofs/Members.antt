@@ -1,8 +1,8 @@
 -- The members of a list, and the first one that passes a test.
-use Rattle.std.proofs.Common.{◌≡◌, ◌≢◌, ℕ, zero, suc, ◌<◌, ◌+◌, List, [], ◌∷◌, Bool, true, false, ◌||◌, cond, Option, None, Some, length, map, refl, sym, ap, ◌∙◌, subst, inl, inr, arith, ◌⊎◌, get_or}
+use Rattle.std.proofs.Common.{◌≡◌, ◌≢◌, suc, List, [], ◌∷◌, Bool, true, false, ◌||◌, cond, Option, None, Some, map, refl, ◌∙◌, subst, arith}
 use Rattle.std.specs.Option.{is_some, option_or}
-use Rattle.std.specs.List.{find, list_any, Contains, AllByRecursion, All}
-use Rattle.std.proofs.lemmas.List.Elements.{All-contains, All-from_recursion, All-contains_itself, recursion_from_All}
+use Rattle.std.specs.List.{find, list_any, Contains, AllByRecursion}
+use Rattle.std.proofs.lemmas.List.Elements.{All-contains, All-from_recursion}
 
 module _ {A : Type 0} where
   pub here : (x : A) (xs : List A) → Contains (x ∷ xs) x

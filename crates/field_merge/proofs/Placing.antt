@@ -1,15 +1,14 @@
 -- A message at its place among messages in the order of a key, which is their timestamp or their field.
-use Rattle.std.proofs.Common.{◌≡◌, ◌≢◌, ℕ, suc, List, [], ◌∷◌, Bool, true, false, cond, Option, None, Some, map, length, refl, sym, ap, ◌∙◌, subst}
+use Rattle.std.proofs.Common.{◌≡◌, suc, List, [], ◌∷◌, Bool, true, false, cond, None, Some, map, length, refl, sym, ap, ◌∙◌}
 use Rattle.std.specs.Ordering.{is_eq, is_lt, ordering_reverse}
 use Rattle.std.specs.Cmp.{IsTotalOrder}
 use Rattle.std.specs.List.{find, AllByRecursion}
-use Rattle.std.specs.List.Sorted.{IsStrictlySortedBy}
 use Rattle.std.specs.declared.cmp.Ordering.{Ordering}
 use Rattle.std.specs.declared.cmp.Ordering.TheVariants.{Less, Equal, Greater}
 use Rattle.field_merge.specs.declared.message.Message.{Message}
 use Rattle.field_merge.specs.Log.{placed}
 use Rattle.field_merge.proofs.Members.{missed}
-use Rattle.field_merge.proofs.Ordered.{has, IsInOrder, IsBelow, head, tail, cons, in_order_nil, below_less, equal}
+use Rattle.field_merge.proofs.Ordered.{has, IsInOrder, head, tail, cons, below_less, equal}
 
 -- what holds of the messages and of a new one holds of all
 pub all_placed : (cmp : Message → Message → Ordering) (P : Message → Type 0) (ms : List Message) (n : Message) → P n → AllByRecursion P ms → AllByRecursion P (placed cmp ms n)

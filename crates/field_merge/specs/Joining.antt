@@ -1,5 +1,5 @@
 -- What joining keeps, what the latest message of a field is, and what a join tells, in the words of those who use the log.
-use Rattle.std.specs.Prelude.{◌≡◌, ◌≢◌, ◌↔◌, ◌⊎◌, ℕ, List, Bool, false, Option, None, Some}
+use Rattle.std.specs.Prelude.{◌≡◌, ◌≢◌, ◌↔◌, ◌⊎◌, List, false, Option, None, Some}
 use Rattle.std.specs.Ordering.{is_gt}
 use Rattle.std.specs.List.{Contains, IsDistinct}
 use Rattle.std.specs.Option.{option_or}

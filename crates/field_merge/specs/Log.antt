@@ -1,6 +1,6 @@
 -- The message log: what a log is, what it is joined with, and what is read from it.
-use Rattle.std.specs.Prelude.{◌≡◌, ℕ, ◌-◌, List, [], ◌∷◌, ◌++◌, length, Bool, true, false, if◌then◌else◌, Option, None, Some, filter, map, option_map}
-use Rattle.std.specs.Ordering.{is_eq, is_lt, is_gt, nat_cmp, on}
+use Rattle.std.specs.Prelude.{ℕ, ◌-◌, List, [], ◌∷◌, ◌++◌, length, Bool, if◌then◌else◌, Option, None, filter, map, option_map}
+use Rattle.std.specs.Ordering.{is_eq, is_lt, is_gt, nat_cmp}
 use Rattle.std.specs.Cmp.Lexicographic.{slice_cmp}
 use Rattle.std.specs.List.{find, list_any, last_or, flat_map, slice_get}
 use Rattle.std.specs.List.Sorted.{IsStrictlySortedBy}

@@ -5,6 +5,7 @@ ghost use Rattle.field_merge.specs.Escapes as spec;
 ghost use Rattle.field_merge.specs.Escapes.{escaped, escaped_byte, unescaped};
 
 use field_values::NoMemory;
+use memchr::memchr;
 use std::alloc::Global;
 
 /// Whether a byte makes an escape with a backslash before it.
@@ -53,7 +54,7 @@ pub(crate) fn is_plain(part: &str) -> bool
     ensures whole { OnTrue result (unescaped part.now ≡ part.now) }
     ensures good { OnTrue result (spec.bad_escape part.now ≡ None) }
 {
-    cut_backslash(part).is_none()
+    memchr(b'\\', part.as_bytes()).is_none()
 }
 
 /// The place of the first backslash that begins no escape. Most lines have no backslash at all.
@@ -108,6 +109,9 @@ fn cut_escape(part: &str) -> Option<Cut<'_>>
 pub fn unescape(alloc: Global, part: &str) -> Result<String, NoMemory>
     ensures { IfOk result (λ text. string_bytes text ≡ unescaped part.now) }
 {
+    if is_plain(part) {
+        return Ok(String::from_str(alloc, part)?);
+    }
     let mut text = String::with_capacity(alloc, part.len())?;
     let mut rest = part;
     'escapes: while let Some(cut) = cut_escape(rest) {

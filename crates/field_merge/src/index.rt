@@ -1,9 +1,10 @@
 //! The two maps of a log: its messages by timestamp, and the index of the
 //! latest message of each field.
 ghost use Rattle.std.specs.Prelude.{◌≡◌, ◌&&◌, ◌||◌, IfOk, IsOk, OnOk, OnErr, Bool, List, None, Some, cond, not, true, false};
-ghost use Rattle.std.specs.List.{list_any};
+ghost use Rattle.std.specs.List.{find, list_any};
 ghost use Rattle.std.specs.Map.{lookup, values_of};
-ghost use Rattle.std.specs.BTreeMap.{get, insert_entry, is_at, values};
+ghost use Rattle.std.specs.BTreeMap.{get, insert_entry, is_at, values, IsOrdered};
+ghost use Rattle.std.specs.Option.{option_copied};
 ghost use Rattle.std.specs.BTreeSet.{contains};
 ghost use Rattle.field_values.specs.Names.{FieldNames, names_cmp};
 ghost use Rattle.hybrid_clock.specs.Order.{stamp_cmp};
@@ -13,55 +14,82 @@ ghost use Rattle.field_merge.specs.Log.{by_stamp, has_field, has_stamp, join_one
 ghost use Rattle.field_merge.specs.Kept.{AreEntries, IsIndex, MarksChanged, Notes, is_newer};
 
 use crate::message::Message;
-use field_values::{Field, NoMemory};
+use crate::shared::Shared;
+use field_values::{Field, FieldKey, NoMemory};
 use hybrid_clock::Stamp;
+use std::alloc::Global;
 use std::collections::{BTreeMap, BTreeSet};
 
 /// The messages of a log, each under its own timestamp.
-pub(crate) type Messages = BTreeMap<Stamp, Message>;
+pub(crate) type Messages = BTreeMap<Stamp, Shared>;
 
-/// The timestamp of the latest message of each field.
-pub(crate) type Index = BTreeMap<Field, Stamp>;
+/// The latest message of each field.
+pub(crate) type Index = BTreeMap<FieldKey, Shared>;
 
-/// Gives a field a timestamp, and says which one it had.
-fn give(index: &mut Index, field: &Field, stamp: Stamp) -> Result<Option<Stamp>, NoMemory>
-    ensures before { IfOk result (λ before. before ≡ lookup (is_at (names_cmp field.now)) index.old.entries) }
-    ensures now { OnOk result ((f : FieldNames) → lookup (is_at (names_cmp f)) index.new.entries
-        ≡ cond (is_at (names_cmp field.now) f) (Some stamp) (lookup (is_at (names_cmp f)) index.old.entries)) }
+/// Gives a field a message.
+fn give(index: &mut Index, key: FieldKey, message: &Shared) -> Result<(), NoMemory>
+    ensures { OnOk result ((f : FieldNames) → lookup (is_at (names_cmp f)) index.new.entries
+        ≡ cond (is_at (names_cmp key) f) (Some message.now) (lookup (is_at (names_cmp f)) index.old.entries)) }
 {
-    let before = index.insert(field.copy()?, stamp)?;
-    Ok(before)
+    index.insert(key, message.copy()?)?;
+    Ok(())
+}
+
+/// The message with the names of an equal field, so that its own are not kept.
+fn with_names_of(message: Message, field: &Field) -> Result<Message, NoMemory>
+    requires { field.now ≡ message.field }
+    ensures { IfOk result (λ m. m ≡ message) }
+{
+    Ok(Message {
+        stamp: message.stamp,
+        field: field.copy()?,
+        value: message.value,
+    })
+}
+
+/// The message, which shares the names of its field with the index where the
+/// index has it, and whether it is later than the one that is there.
+fn compared(index: &Index, key: &FieldKey, message: Message) -> Result<(Message, bool), NoMemory>
+    requires { key.now ≡ message.field }
+    ensures { IfOk result (λ r. (r.0 ≡ message) × (r.1 ≡ is_newer (lookup (is_at (names_cmp message.field)) index.now.entries) message.stamp)) }
+{
+    let Some((known, before)) = index.get_key_value(key) else {
+        return Ok((message, true));
+    };
+    let is_later = before.message().stamp < message.stamp;
+    let message = with_names_of(message, known.field())?;
+    Ok((message, is_later))
 }
 
 /// Enters a message into the index where it is later than the one of its
-/// field there, and says whether it is. A field that is new or has a later
-/// message now costs one look-up.
-fn note(index: &mut Index, message: &Message) -> Result<bool, NoMemory>
-    ensures { IfOk result (Notes index.old.entries index.new.entries message.now) }
+/// field there, and says whether it is.
+fn note(alloc: Global, index: &mut Index, message: Message) -> Result<(Shared, bool), NoMemory>
+    ensures { IfOk result (λ r. (r.0 ≡ message) × Notes index.old.entries index.new.entries message r.1) }
 {
-    let Some(before) = give(index, &message.field, message.stamp)? else {
-        return Ok(true);
-    };
-    let is_later = before < message.stamp;
-    if !is_later {
-        give(index, &message.field, before)?;
+    let key = FieldKey::of(&message.field)?;
+    let (message, is_later) = compared(index, &key, message)?;
+    let message = Shared::new(alloc, message)?;
+    if is_later {
+        give(index, key, &message)?;
     }
-    Ok(is_later)
+    Ok((message, is_later))
 }
 
 /// Puts a message under its timestamp, which no message has yet.
-fn store(messages: &mut Messages, message: Message) -> Result<(), NoMemory>
+fn store(messages: &mut Messages, message: Shared) -> Result<(), NoMemory>
     requires { get stamp_cmp messages.old message.stamp ≡ None }
     ensures stored { OnOk result (messages.new.entries ≡ insert_entry stamp_cmp messages.old.entries message.stamp message) }
     ensures unchanged { OnErr result (messages.new.entries ≡ messages.old.entries) }
 {
-    messages.insert(message.stamp, message)?;
+    let stamp = message.message().stamp;
+    messages.insert(stamp, message)?;
     Ok(())
 }
 
 /// Takes in a message with a new timestamp, and says whether it is now the
 /// latest of its field.
 pub(crate) fn enter(
+    alloc: Global,
     messages: &mut Messages,
     index: &mut Index,
     message: Message,
@@ -75,8 +103,8 @@ pub(crate) fn enter(
     ensures placed { OnOk result (values messages.new ≡ placed by_stamp (values messages.old) message) }
     ensures wins { IfOk result (λ wins. (f : FieldNames) → latest (values messages.new) f ≡ cond (wins && has_field f message) (Some message) (latest (values messages.old) f)) }
 {
-    let is_latest = note(index, &message)?;
-    store(messages, message)?;
+    let (entered, is_latest) = note(alloc, index, message)?;
+    store(messages, entered)?;
     Ok(is_latest)
 }
 
@@ -93,6 +121,7 @@ fn mark(changed: &mut BTreeSet<Field>, field: &Field) -> Result<(), NoMemory>
 /// Takes in a copy of a message unless its timestamp is there already, marks
 /// its field where it is now the latest of it, and says whether it was new.
 pub(crate) fn take_in(
+    alloc: Global,
     messages: &mut Messages,
     index: &mut Index,
     changed: &mut BTreeSet<Field>,
@@ -110,8 +139,21 @@ pub(crate) fn take_in(
     if messages.contains_key(&message.stamp) {
         return Ok(false);
     }
-    if enter(messages, index, message.copy()?)? {
+    if enter(alloc, messages, index, message.copy()?)? {
         mark(changed, &message.field)?;
     }
     Ok(true)
+}
+
+/// The latest message of a field, found by going through the index.
+pub(crate) fn winner_among<'a>(index: &'a Index, field: &Field) -> Option<&'a Message>
+    ensures found { option_copied result ≡ find (has_field field.now) (values index.now) }
+    ensures ordered { IsOrdered names_cmp index.now }
+{
+    for message in index.values() {
+        if *field == message.message().field {
+            return Some(message.message());
+        }
+    }
+    None
 }

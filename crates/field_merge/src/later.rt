@@ -10,17 +10,18 @@ ghost use Rattle.field_merge.specs.Log.{later};
 
 use crate::index::Messages;
 use crate::message::Message;
+use crate::shared::Shared;
 use field_values::NoMemory;
-use hybrid_clock::{Stamp, order_of_texts};
+use hybrid_clock::order_of_texts;
 use std::alloc::Global;
 
-/// Whether the text of a timestamp is greater than a text, by bytes.
-fn is_after(stamp: &Stamp, text: &[u8]) -> bool
-    requires { IsStamp stamp.now }
-    ensures { result ≡ is_gt (slice_cmp nat_cmp (stamp_text stamp.now) text.now) }
+/// Whether the text of a message's timestamp is greater than a text, by bytes.
+fn is_after(message: &Shared, text: &[u8]) -> bool
+    requires { IsStamp message.now.stamp }
+    ensures { result ≡ is_gt (slice_cmp nat_cmp (stamp_text message.now.stamp) text.now) }
 {
     let mut own = [0u8; 46];
-    stamp.write_text(&mut own);
+    message.message().stamp.write_text(&mut own);
     own.as_slice().cmp(&text).is_gt()
 }
 
@@ -39,10 +40,10 @@ pub(crate) fn copies_after(
     let mut left = messages.values();
     let mut found = Vec::new(alloc);
     while let Some(message) = left.next_back() {
-        if !is_after(&message.stamp, text) {
+        if !is_after(message, text) {
             break;
         }
-        found.push(message.copy()?)?;
+        found.push(message.own()?)?;
     }
     found.reverse();
     Ok(found)

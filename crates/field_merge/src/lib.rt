@@ -8,12 +8,13 @@ mod laws;
 mod line;
 mod log;
 mod message;
+mod shared;
 
 pub use escape::{bad_escape, push_escaped, unescape};
 pub use laws::{
     joined, joined_again, joined_in_any_order, joined_in_turn, latest_message, listed_fields,
 };
-pub use line::{LineFault, message_lines, push_line, read_line, write_line};
+pub use line::{LineFault, message_lines, push_line, read_line, read_text, write_line};
 pub use log::{Joined, Log};
 pub use message::Message;
 

@@ -164,18 +164,27 @@ fn message_in(alloc: Global, parts: &Parts<'_>) -> Result<Message, LineFault>
 }
 
 /// The message of a line. The line stands without its end: a LF in it is read as any other byte.
-#[tactic(auto, using(crate::proofs::LineLemmas::reading_of_others))]
 pub fn read_line(alloc: Global, line: &Txt) -> Result<Message, LineFault>
     ensures ok { IfOk result (λ m. reading line.now ≡ Ok m) }
     ensures valid { IfOk result IsMessage }
     ensures err { IfErr result (IsFaultIn (reading line.now)) }
 {
-    let Some(parts) = five_parts(line.as_str()) else {
+    read_text(alloc, line.as_str())
+}
+
+/// The message of a line that is lent, as [`read_line`].
+#[tactic(auto, using(crate::proofs::LineLemmas::reading_of_others))]
+pub fn read_text(alloc: Global, line: &str) -> Result<Message, LineFault>
+    ensures ok { IfOk result (λ m. reading line.now ≡ Ok m) }
+    ensures valid { IfOk result IsMessage }
+    ensures err { IfErr result (IsFaultIn (reading line.now)) }
+{
+    let Some(parts) = five_parts(line) else {
         return Err(LineFault::Columns {
-            found: count_parts(line.bytes()),
+            found: count_parts(line.as_bytes()),
         });
     };
-    if let Some(at) = bad_escape_in(line.as_str()) {
+    if let Some(at) = bad_escape_in(line) {
         return Err(LineFault::Escape { at });
     }
     message_in(alloc, &parts)

@@ -8,11 +8,11 @@ ghost use Rattle.field_merge.specs.Messages.{AreMessages, IsMessage};
 ghost use Rattle.field_merge.specs.Log.{IsRising, at_stamp, ended_line, field_text, join, last_stamp, later, latest};
 ghost use Rattle.field_merge.specs.Joining.{AreChanged};
 
-use crate::index::{Index, Messages, enter, take_in};
+use crate::index::{Index, Messages, enter, take_in, winner_among};
 use crate::later::copies_after;
 use crate::line::push_line;
 use crate::message::Message;
-use field_values::{Field, Items, NoMemory, Txt, Value};
+use field_values::{Field, FieldKey, Items, NoMemory, Txt, Value};
 use hybrid_clock::Stamp;
 use std::alloc::Global;
 use std::collections::{BTreeMap, BTreeSet};
@@ -108,7 +108,13 @@ impl Log {
         let mut added = 0;
         let mut changed = BTreeSet::new(self.alloc);
         for message in batch {
-            if take_in(&mut self.messages, &mut self.index, &mut changed, message)? {
+            if take_in(
+                self.alloc,
+                &mut self.messages,
+                &mut self.index,
+                &mut changed,
+                message,
+            )? {
                 added += 1;
             }
         }
@@ -131,7 +137,7 @@ impl Log {
             return Ok(false);
         }
         self.spent = true;
-        enter(&mut self.messages, &mut self.index, message)?;
+        enter(self.alloc, &mut self.messages, &mut self.index, message)?;
         self.spent = false;
         Ok(true)
     }
@@ -141,8 +147,12 @@ impl Log {
         requires { self.now.spent ≡ false }
         ensures { option_copied result ≡ latest self.now.messages field.now }
     {
-        let stamp = self.index.get(field)?;
-        self.messages.get(stamp)
+        let Ok(key) = FieldKey::of(field) else {
+            // the field has more copies than can be counted
+            return winner_among(&self.index, field);
+        };
+        let message = self.index.get(&key)?;
+        Some(message.message())
     }
 
     /// The value of a field: that of its latest message.
@@ -194,10 +204,8 @@ impl Log {
         ensures { IfOk result (λ t. t ≡ field_text self.now.messages) }
     {
         let mut text = String::new(self.alloc);
-        for stamp in self.index.values() {
-            if let Some(message) = self.messages.get(stamp) {
-                push_ended(self.alloc, &mut text, message)?;
-            }
+        for message in self.index.values() {
+            push_ended(self.alloc, &mut text, message.message())?;
         }
         Ok(Txt::new(text))
     }

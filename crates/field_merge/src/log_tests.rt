@@ -1,4 +1,4 @@
-ghost use Rattle.std.specs.Prelude.{IfOk};
+ghost use Rattle.std.specs.Prelude.{◌≡◌, IfOk, OnOk, false};
 ghost use Rattle.field_merge.specs.Messages.{IsMessage};
 
 use crate::{Log, Message};
@@ -34,72 +34,117 @@ fn message(alloc: Global, stamp: &str, row: &str, value: &str) -> Result<Message
     })
 }
 
-/// One message is added, then a batch of two is joined.
+/// A message by its timestamp, row and value.
+type Told = (&'static str, &'static str, &'static str);
+
+fn told(alloc: Global, of: Told) -> Result<Message, Fail>
+    ensures { IfOk result IsMessage }
+{
+    message(alloc, of.0, of.1, of.2)
+}
+
+/// A log that one message was added to.
+fn log_of(alloc: Global, one: Told) -> Result<Log, Fail>
+    ensures { IfOk result (λ l. l.spent ≡ false) }
+{
+    let mut log = Log::new(alloc)?;
+    log.add(told(alloc, one)?)?;
+    Ok(log)
+}
+
+/// Joins a batch of two, and says how many were new and how many fields changed.
+fn join_two(alloc: Global, log: &mut Log, two: Told, three: Told) -> Result<(usize, usize), Fail>
+    requires { log.old.spent ≡ false }
+    ensures { OnOk result (log.new.spent ≡ false) }
+{
+    let batch = [told(alloc, two)?, told(alloc, three)?];
+    let joined = log.join(&batch)?;
+    Ok((joined.added, joined.changed.len()))
+}
+
+/// Whether a message with the timestamp of the first one is new.
+fn is_new(alloc: Global, log: &mut Log, one: Told) -> Result<bool, Fail>
+    requires { log.old.spent ≡ false }
+{
+    Ok(log.add(told(alloc, (one.0, "t", "N:7"))?)?)
+}
+
+/// One message is added, then a batch of two is joined: how many were new, how many fields changed, and the lines.
+fn tells(
+    alloc: Global,
+    messages: (Told, Told, Told),
+    added: usize,
+    changed: usize,
+    lines: &str,
+) -> Result<bool, Fail> {
+    let mut log = log_of(alloc, messages.0)?;
+    let counts = join_two(alloc, &mut log, messages.1, messages.2)?;
+    let is_right = counts == (added, changed) && log.field_lines()?.as_str() == lines;
+    Ok(is_right && !is_new(alloc, &mut log, messages.0)?)
+}
+
 #[test]
 fn joins(rt: HostRuntime) -> Result<(), Fail> {
-    let alloc = rt.alloc();
-    for (one, two, three, added, changed, lines) in [
+    for (messages, added, changed, lines) in [
         // the greatest timestamp wins in whatever order the messages come
         (
-            (FIRST, "r", "N:1"),
-            (THIRD, "r", "N:3"),
-            (SECOND, "r", "N:2"),
+            (
+                (FIRST, "r", "N:1"),
+                (THIRD, "r", "N:3"),
+                (SECOND, "r", "N:2"),
+            ),
             2,
             1,
             "2024-01-05T10:00:01.000Z-0000-0000000000000Zaa\tnotes\tr\tnote\tN:3\n",
         ),
         (
-            (FIRST, "r", "N:1"),
-            (SECOND, "r", "N:2"),
-            (THIRD, "r", "N:3"),
+            (
+                (FIRST, "r", "N:1"),
+                (SECOND, "r", "N:2"),
+                (THIRD, "r", "N:3"),
+            ),
             2,
             1,
             "2024-01-05T10:00:01.000Z-0000-0000000000000Zaa\tnotes\tr\tnote\tN:3\n",
         ),
         // an older message is kept and changes no field
         (
-            (THIRD, "r", "N:3"),
-            (SECOND, "r", "N:2"),
-            (FIRST, "r", "N:1"),
+            (
+                (THIRD, "r", "N:3"),
+                (SECOND, "r", "N:2"),
+                (FIRST, "r", "N:1"),
+            ),
             2,
             0,
             "2024-01-05T10:00:01.000Z-0000-0000000000000Zaa\tnotes\tr\tnote\tN:3\n",
         ),
         // of one timestamp the first message stays, whatever the others hold
         (
-            (FIRST, "r", "N:1"),
-            (FIRST, "r", "N:9"),
-            (FIRST, "s", "N:9"),
+            (
+                (FIRST, "r", "N:1"),
+                (FIRST, "r", "N:9"),
+                (FIRST, "s", "N:9"),
+            ),
             0,
             0,
             "2024-01-05T10:00:00.000Z-0000-00000000000000aa\tnotes\tr\tnote\tN:1\n",
         ),
         // also inside a batch; the fields come in their order
         (
-            (FIRST, "s", "N:1"),
-            (SECOND, "r", "S:two"),
-            (SECOND, "s", "N:3"),
+            (
+                (FIRST, "s", "N:1"),
+                (SECOND, "r", "S:two"),
+                (SECOND, "s", "N:3"),
+            ),
             1,
             1,
             "2024-01-05T10:00:00.000Z-0001-00000000000000aa\tnotes\tr\tnote\tS:two\n2024-01-05T10:00:00.000Z-0000-00000000000000aa\tnotes\ts\tnote\tN:1\n",
         ),
     ] {
-        let mut log = Log::new(alloc)?;
-        let is_new = log.add(message(alloc, one.0, one.1, one.2)?)?;
-        assert!(rt; is_new);
-        let batch = [
-            message(alloc, two.0, two.1, two.2)?,
-            message(alloc, three.0, three.1, three.2)?,
-        ];
-        let joined = log.join(&batch)?;
-        assert_eq!(rt; joined.added, added);
-        assert_eq!(rt; joined.changed.len(), changed);
-        assert_eq!(rt; log.len(), added + 1);
-        assert!(rt; !log.is_spent());
-        let text = log.field_lines()?;
-        assert_eq!(rt; text.as_str(), lines);
-        let is_new = log.add(message(alloc, one.0, "t", "N:7")?)?;
-        assert!(rt; !is_new);
+        assert!(rt;
+            tells(rt.alloc(), messages, added, changed, lines)?,
+            "{lines}"
+        );
     }
     Ok(())
 }

@@ -1,8 +1,6 @@
 //! The names of a field.
-ghost use Rattle.std.specs.Prelude.{◌≡◌, ◌≢◌, ◌≤◌, length, slice_index, IfOk, IfErr, OnOk, Some, None};
-ghost use Rattle.std.specs.Ordering.{as_partial_cmp, nat_cmp};
-ghost use Rattle.std.specs.Cmp.Lexicographic.{slice_cmp};
-ghost use Rattle.field_values.specs.Heads.{head_of, AreBytes};
+ghost use Rattle.std.specs.Prelude.{◌≡◌, ◌≢◌, IfOk, IfErr, OnOk, Some, None};
+ghost use Rattle.std.specs.Ordering.{as_partial_cmp};
 ghost use Rattle.std.proofs.Common.{rules};
 ghost use Rattle.std.specs.Cmp.Rules.{comparing};
 ghost use Rattle.std.specs.Cmp.{partial_order_from_own_ties};
@@ -23,32 +21,23 @@ use std::rc::Rc;
 /// A field and its copies share one block of memory, so a copy costs no more than counting one owner more.
 #[derive(Debug, Drop)]
 pub struct Field {
-    dataset_head: u128,
-    row_head: u128,
-    dataset_len: usize,
     names: Rc<Names>,
 }
 
-/// How many bytes of a text its head has.
-const HEAD_BYTES: usize = 16;
-
-/// The names, which the copies of a field share.
+/// The names, which the copies of a field share. Rows and columns, which are compared most, stand first, side by side.
 #[derive(Debug, Drop)]
 struct Names {
-    dataset: Txt,
     row: Txt,
     column: Txt,
+    dataset: Txt,
 }
 
 impl Model for Field {
     ghost use Rattle.field_values.specs.Names.{FieldNames};
-    ghost use Rattle.field_values.specs.Heads.{AreHeads};
 
     ghost Value = { FieldNames };
 
     ghost view = { λ f. record { dataset = f.names.value.dataset; row = f.names.value.row; column = f.names.value.column } };
-
-    ghost invariant = { λ f. AreHeads f.dataset_head f.row_head f.dataset_len f.names.value.dataset f.names.value.row };
 }
 
 fn check_names(dataset: &Txt, row: &Txt, column: &Txt) -> Result<(), NameFault>
@@ -69,56 +58,6 @@ fn shared(alloc: Global, names: Names) -> Result<Rc<Names>, NoMemory>
     Ok(block)
 }
 
-/// The byte at a place, or 0 past the end.
-fn byte_at(bytes: &[u8], at: usize) -> u8
-    ensures { result ≡ slice_index bytes.now at }
-{
-    if at < bytes.len() { bytes[at] } else { 0 }
-}
-
-/// The first 16 bytes as a number.
-fn front(bytes: &[u8]) -> u128
-    requires { 16 ≤ length bytes.now }
-    ensures { result ≡ head_of bytes.now }
-{
-    u128::from_be_bytes([
-        bytes[0], bytes[1], bytes[2], bytes[3], bytes[4], bytes[5], bytes[6], bytes[7], bytes[8],
-        bytes[9], bytes[10], bytes[11], bytes[12], bytes[13], bytes[14], bytes[15],
-    ])
-}
-
-/// The first 16 bytes as a number, with 0 for each that is not there. Where the heads of two texts differ, they are ordered as
-/// the texts are.
-fn head(bytes: &[u8]) -> u128
-    ensures value { result ≡ head_of bytes.now }
-    ensures bytes { AreBytes bytes.now }
-{
-    if HEAD_BYTES <= bytes.len() {
-        return front(bytes);
-    }
-    let mut head = 0;
-    for at in 0..HEAD_BYTES {
-        head = head * 256 + byte_at(bytes, at) as u128;
-    }
-    head
-}
-
-/// The field of these names.
-fn headed(alloc: Global, names: Names) -> Result<Field, NoMemory>
-    ensures { IfOk result (λ f. f ≡ field_of names.dataset names.row names.column) }
-{
-    let dataset_head = head(names.dataset.bytes());
-    let row_head = head(names.row.bytes());
-    let dataset_len = names.dataset.bytes().len();
-    let names = shared(alloc, names)?;
-    Ok(Field {
-        dataset_head,
-        row_head,
-        dataset_len,
-        names,
-    })
-}
-
 impl Field {
     /// The field of these names, which are copied.
     pub fn make(alloc: Global, dataset: &Txt, row: &Txt, column: &Txt) -> Result<Field, NameFault>
@@ -134,8 +73,8 @@ impl Field {
             row: row.copy()?,
             column: column.copy()?,
         };
-        let field = headed(alloc, names)?;
-        Ok(field)
+        let names = shared(alloc, names)?;
+        Ok(Field { names })
     }
 
     /// The field of these names. It takes the texts themselves, and drops them where it refuses.
@@ -151,8 +90,8 @@ impl Field {
             row,
             column,
         };
-        let field = headed(alloc, names)?;
-        Ok(field)
+        let names = shared(alloc, names)?;
+        Ok(Field { names })
     }
 
     pub fn dataset(&self) -> &Txt
@@ -173,40 +112,12 @@ impl Field {
         &self.names.as_ref().column
     }
 
-    /// How the datasets are ordered. Mostly no pointer has to be followed.
-    fn dataset_cmp(&self, other: &Field) -> Ordering
-        ensures { result ≡ slice_cmp nat_cmp self.now.dataset other.now.dataset }
-    {
-        if self.dataset_head != other.dataset_head {
-            return self.dataset_head.cmp(&other.dataset_head);
-        }
-        if self.dataset_len == other.dataset_len && self.dataset_len <= HEAD_BYTES {
-            return Ordering::Equal;
-        }
-        self.dataset().cmp(&other.dataset())
-    }
-
-    /// How the rows are ordered. A pointer has to be followed only where their heads are equal.
-    fn row_cmp(&self, other: &Field) -> Ordering
-        ensures { result ≡ slice_cmp nat_cmp self.now.row other.now.row }
-    {
-        if self.row_head != other.row_head {
-            return self.row_head.cmp(&other.row_head);
-        }
-        self.row().cmp(&other.row())
-    }
-
     /// An equal field, in the same memory.
     pub fn copy(&self) -> Result<Field, NoMemory>
         ensures { IfOk result (λ f. f ≡ self.now) }
     {
         let names = self.names.clone()?;
-        Ok(Field {
-            dataset_head: self.dataset_head,
-            row_head: self.row_head,
-            dataset_len: self.dataset_len,
-            names,
-        })
+        Ok(Field { names })
     }
 }
 
@@ -242,8 +153,9 @@ impl Ord for Field {
     ghost matches_eq = { Prim.search (comparing, rules) };
 
     fn cmp(&self, other: &Field) -> Ordering {
-        self.dataset_cmp(other)
-            .then_with(|| self.row_cmp(other))
+        self.dataset()
+            .cmp(&other.dataset())
+            .then_with(|| self.row().cmp(&other.row()))
             .then_with(|| self.column().cmp(&other.column()))
     }
 }

@@ -6,6 +6,7 @@
 
 pub mod field;
 pub mod items;
+pub mod key;
 pub mod memory;
 pub mod name;
 pub mod steps;
@@ -16,6 +17,7 @@ pub mod value;
 
 pub use field::Field;
 pub use items::{Copied, Items};
+pub use key::FieldKey;
 pub use memory::NoMemory;
 pub use name::{NameFault, NamePart, check_name};
 pub use steps::Steps;

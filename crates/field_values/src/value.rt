@@ -5,6 +5,7 @@ ghost use Rattle.field_values.specs.Value.{IsNumberText, value_text, value_of, I
 use crate::items::Copied;
 use crate::memory::NoMemory;
 use crate::text::Txt;
+use itoa::Buffer;
 use std::alloc::Global;
 
 /// The largest number that a value holds, 2 to the 53 less 1: up to it each whole number has a 64-bit float of its own, as
@@ -28,20 +29,20 @@ pub enum Value {
 }
 
 /// The number whose decimal text this is, with no plus, no leading zero and no minus before 0, where it is in range.
-fn number_in(alloc: Global, digits: &str) -> Result<Option<i64>, NoMemory>
-    ensures { IfOk result (λ number. IsNumberText digits.now number) }
+fn number_in(digits: &str) -> Option<i64>
+    ensures { IsNumberText digits.now result }
 {
     let Ok(number) = digits.parse::<i64>() else {
-        return Ok(None);
+        return None;
     };
     if number < SMALLEST || number > LARGEST {
-        return Ok(None);
+        return None;
     }
-    let canonical = number.to_string(alloc)?;
-    if canonical.as_str() == digits {
-        Ok(Some(number))
+    let mut buffer = Buffer::new();
+    if buffer.format(number) == digits {
+        Some(number)
     } else {
-        Ok(None)
+        None
     }
 }
 
@@ -57,7 +58,7 @@ fn by_form(alloc: Global, text: &str) -> Result<Value, NoMemory>
         return Ok(Value::Text(Txt::from_text(alloc, rest)?));
     }
     if let Some(digits) = text.strip_prefix("N:") {
-        if let Some(number) = number_in(alloc, digits)? {
+        if let Some(number) = number_in(digits) {
             return Ok(Value::Number(number));
         }
     }

@@ -1,7 +1,7 @@
 use Rattle.std.proofs.Common.{◌≤◌, ◌+◌, ◌++◌, take, drop, length, length-take, arith, ap}
 use Rattle.budget_top.specs.Lines.{whole_lines}
 use Rattle.budget_top.specs.Verdicts.{bad_lines}
-use Rattle.budget_top.specs.MergeRun.{most_input}
+use Rattle.budget_top.specs.Limits.{most_input}
 use Rattle.budget_top.proofs.Standing.{front_as, appends_as}
 use Rattle.budget_top.proofs.SoFar.{has_read, length_more, limit_taken}
 use Rattle.budget_top.proofs.merge.read_all.Goals as goal

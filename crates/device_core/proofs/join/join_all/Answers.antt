@@ -1,7 +1,6 @@
 use Rattle.std.proofs.Common.{◌≡◌, ◌∙◌, ◌∷◌, ◌++◌, ◌+◌, List, ap, sym, subst, drop, map}
-use Rattle.budget_ports.specs.declared.keeper.Kept.{Kept}
 use Rattle.field_merge.specs.declared.message.Message.{Message}
-use Rattle.field_merge.specs.Log.{join, join_one}
+use Rattle.field_merge.specs.Log.{join}
 use Rattle.field_merge.specs.Messages.{AreMessages}
 use Rattle.device_core.specs.Records.{record_of}
 use Rattle.device_core.specs.Device.{new_in}
@@ -18,6 +17,8 @@ loop-message-preserved c =
     let old = c.loop-message.log.messages in
     let joined = c.in_ok-join_message.ensures.joined in record {
       live = c.in_ok-join_message.ensures.live;
+      trie_live = c.in_ok-join_message.ensures.trie_live;
+      right = c.in_ok-join_message.ensures.right;
       rest = ap (λ l. join l later) joined ∙ ap (join old) (sym step) ∙ c.loop-message.invariant.rest;
       batch = ap (λ l. c.join_message.new.batch.items ++ map record_of (new_in l later)) joined
           ∙ batch_on c.loop-message.batch.items c.join_message.new.batch.items old m later (c.args.batch.now.items ++ map record_of (new_in c.args.log.now.messages ms)) c.in_ok-join_message.ensures.batch

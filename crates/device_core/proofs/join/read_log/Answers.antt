@@ -1,6 +1,8 @@
-use Rattle.std.proofs.Common.{◌≡◌, ◌∙◌, ap, sym, subst}
+use Rattle.std.proofs.Common.{◌∙◌, ap, sym, subst}
 use Rattle.field_merge.specs.Log.{LogState}
 use Rattle.field_merge.specs.Messages.{AreMessages}
+use Rattle.minute_trie.specs.Trie.{IsTrieOf}
+use Rattle.device_core.specs.Device.{pairs_of}
 use Rattle.device_core.proofs.Starting.{kept_after, kept_is}
 use Rattle.device_core.proofs.join.read_log.Goals as goal
 
@@ -8,5 +10,7 @@ pub loop-index-init : goal.loop-index-init
 loop-index-init c = record {
   rest = ap (λ (l : LogState). kept_after l.messages 0 c.args.items.now) c.in_ok-log.ensures ∙ kept_is c.args.items.now;
   live = ap (λ (l : LogState). l.spent) c.in_ok-log.ensures;
+  trie_live = c.in_ok-trie.ensures.live;
+  right = subst (λ (l : LogState). IsTrieOf (pairs_of l.messages) c.in_ok-trie.trie) (sym c.in_ok-log.ensures) c.in_ok-trie.ensures.empty;
   valid = subst (λ (l : LogState). AreMessages l.messages) (sym c.in_ok-log.ensures) tt;
 }

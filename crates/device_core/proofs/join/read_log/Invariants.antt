@@ -1,6 +1,8 @@
 use Rattle.std.proofs.Common.{◌≡◌, drop, false}
 use Rattle.field_merge.specs.Messages.{AreMessages}
+use Rattle.minute_trie.specs.Trie.{is_spent, IsTrieOf}
 use Rattle.device_core.specs.Records.{kept_set}
+use Rattle.device_core.specs.Device.{pairs_of}
 use Rattle.device_core.proofs.Starting.{kept_after}
 use Rattle.device_core.proofs.join.read_log.Given as goal
 
@@ -8,5 +10,7 @@ abbrev pub invariant-loop-index : goal.invariant-loop-index
 invariant-loop-index l = record {
   rest : kept_after l.log.messages l.index (drop l.index l.items) ≡ kept_set l.items;
   live : l.log.spent ≡ false;
+  trie_live : is_spent l.trie ≡ false;
+  right : IsTrieOf (pairs_of l.log.messages) l.trie;
   valid : AreMessages l.log.messages;
 }

@@ -1,9 +1,8 @@
-use Rattle.std.proofs.Common.{◌≡◌, ◌∙◌, sym, ap, true, false, not, None, Some, Bool, cond, ◌&&◌, ◌||◌}
-use Rattle.std.specs.Map.{values_of}
+use Rattle.std.proofs.Common.{◌∙◌, sym, ap, not, Some, cond, ◌&&◌, ◌||◌}
 use Rattle.std.specs.BTreeMap.{values}
 use Rattle.std.specs.BTreeSet.{contains}
 use Rattle.field_values.specs.Names.{names_cmp}
-use Rattle.field_merge.specs.Log.{at_stamp, by_stamp, has_field, has_stamp, latest, placed}
+use Rattle.field_merge.specs.Log.{by_stamp, has_field, has_stamp, latest, placed}
 use Rattle.field_merge.proofs.Members.{none_from_any}
 use Rattle.field_merge.proofs.Kept.{any-own, join-fresh, join-there, marks-placed, names_flip}
 use Rattle.field_merge.proofs.index.take_in.Goals as goal

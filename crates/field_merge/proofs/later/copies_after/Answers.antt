@@ -28,7 +28,7 @@ loop-message-preserved c =
     let text = c.args.text.now in
     let step : c.loop-message.left ≡ c.next_back.new.self ++ c.in-Some.message.now ∷ [] = c.in-Some.ensures.steps in
     let pushed : c.push.new.self.items ≡ c.loop-message.found.items ++ c.in-Some.message.now ∷ [] =
-    c.in_ok-push.ensures.items ∙ ap (λ x. c.loop-message.found.items ++ x ∷ []) c.in_ok-copy.ensures in
+    c.in_ok-push.ensures.items ∙ ap (λ x. c.loop-message.found.items ++ x ∷ []) c.in_ok-own.ensures in
     let yes : is_after c.args.text.now c.in-Some.message.now ≡ true = sym c.is_after.ensures ∙ c.if-not-is_after.false in
     record {
       told =

@@ -20,11 +20,11 @@ returns-then-number-lt-SMALLEST c = λ n h e.
       | then-number-lt-SMALLEST-via-else-number-lt-SMALLEST+then-number-gt-LARGEST w ↦ omega (arith, ints, held.low, held.high)
     ]
 
-pub returns : goal.returns
-returns c = λ n h e.
+pub returns-else-eq : goal.returns-else-eq
+returns-else-eq c = λ n h e.
     let same : c.in-Ok.number ≡ n = let r = reads_number n _ _ h e c.parse.ensures.value.0 in cc in
     let fits : FitsSigned w64 c.in-Ok.number = rw same (number_fits n h) in
-    let shown = rw to_z-of_z at c.in_ok-canonical.ensures.ok in
-    let printed : c.as_str.result.now ≡ c.args.digits.now = c.as_str.ensures.value ∙ shown ∙ ap signed_decimal same ∙ sym e in
-    let equal = (bytes_eq-Decides c.as_str.result.now c.args.digits.now).1 printed in
-    false≢true (c.if-eq.ensures ∙ equal)
+    let shown = rw to_z-of_z at c.format.ensures.text in
+    let printed : c.format.result.now ≡ c.args.digits.now = shown ∙ ap signed_decimal same ∙ sym e in
+    let equal = (bytes_eq-Decides c.format.result.now c.args.digits.now).1 printed in
+    false≢true (sym c.if-eq.false ∙ c.eq.ensures ∙ equal)

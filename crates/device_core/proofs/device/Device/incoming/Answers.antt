@@ -1,4 +1,4 @@
-use Rattle.std.proofs.Common.{◌≡◌, sym}
+use Rattle.std.proofs.Common.{sym}
 use Rattle.device_core.proofs.Greatest.{of_valid, of_ahead, ahead_later}
 use Rattle.device_core.proofs.device.Device.incoming.Goals as goal
 
@@ -9,6 +9,8 @@ pub invariant_of-self-2 : goal.invariant_of-self-2
 invariant_of-self-2 g c = λ live.
     let stands = c.self.invariant live in record {
       live = stands.live;
+      trie_live = stands.trie_live;
+      trie_right = stands.trie_right;
       valid = stands.valid;
       ahead = ahead_later c.self.inside.clock c.receive.new.self c.self.inside.log.messages c.in_default-receive.ensures.later.0 stands.ahead;
       keys = stands.keys;

@@ -1,4 +1,4 @@
-use Rattle.std.proofs.Common.{◌≡◌, ◌∙◌, List, Result, Ok, ap, sym, subst}
+use Rattle.std.proofs.Common.{◌∙◌, List, Result, Ok, ap, sym, subst}
 use Rattle.std.specs.Prelude.{IfOk, IfErr}
 use Rattle.device_core.specs.declared.edit.Write.{Write}
 use Rattle.device_core.specs.declared.edit.EditFault.{EditFault}

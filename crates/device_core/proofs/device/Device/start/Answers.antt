@@ -1,9 +1,11 @@
-use Rattle.std.proofs.Common.{◌≡◌, ◌∙◌, ap, sym, subst}
+use Rattle.std.proofs.Common.{◌∙◌, Option, ap, sym, subst}
+use Rattle.std.specs.Option.{ForSome}
 use Rattle.hybrid_clock.specs.declared.stamp.Stamp.{Stamp}
+use Rattle.hybrid_clock.specs.Stamp.{IsStamp}
 use Rattle.hybrid_clock.specs.Clock.{clock_after}
 use Rattle.budget_ports.specs.Keeper.{HaveKeys}
 use Rattle.device_core.specs.Device.{IsAhead}
-use Rattle.device_core.proofs.Greatest.{after_ahead}
+use Rattle.device_core.proofs.Greatest.{after_ahead, last_valid}
 use Rattle.device_core.proofs.Starting.{rising_set}
 use Rattle.device_core.proofs.device.Device.start.Goals as goal
 
@@ -11,7 +13,12 @@ pub invariant_of-result : goal.invariant_of-result
 invariant_of-result c = λ _.
     let ms = c.in_ok-log.log.messages in record {
       live = c.in_ok-log.ensures.live;
+      trie_live = c.in_ok-log.ensures.trie_live;
+      trie_right = c.in_ok-log.ensures.right;
       valid = c.in_ok-log.ensures.valid;
       ahead = subst (λ (s : Stamp). IsAhead s ms) (sym (c.new-clock.ensures ∙ ap (clock_after c.args.node) c.last.ensures)) (after_ahead c.args.node ms (rising_set c.args.items.now ms c.in_ok-log.ensures.messages));
       keys = subst HaveKeys (sym c.new.ensures.items) tt;
     }
+
+pub new-clock-requires-clause-last : goal.new-clock-requires-clause-last
+new-clock-requires-clause-last c = subst (λ (o : Option Stamp). ForSome o IsStamp) (sym c.last.ensures) (last_valid c.in_ok-log.log.messages c.in_ok-log.ensures.valid)

@@ -1,4 +1,4 @@
-use Rattle.std.proofs.Common.{◌≡◌, ◌∙◌, sym, ap, true, false}
+use Rattle.std.proofs.Common.{◌∙◌, sym, ap, true, false}
 use Rattle.std.specs.Option.{is_some}
 use Rattle.std.specs.BTreeMap.{values}
 use Rattle.field_merge.specs.Log.{at_stamp}

@@ -1,11 +1,11 @@
-use Rattle.std.proofs.Common.{◌∙◌, sym, ap}
-use Rattle.field_merge.specs.Log.{latest}
-use Rattle.field_merge.proofs.Kept.{by_index}
+use Rattle.std.proofs.Common.{◌∙◌, ap}
+use Rattle.std.specs.BTreeMap.{values}
+use Rattle.field_merge.proofs.Listed.{found_among}
 use Rattle.field_merge.proofs.log.Log.winner.Goals as goal
 
-pub returns : goal.returns
-returns c =
+pub returns-in_default : goal.returns-in_default
+returns-in_default c =
     rw (← c.self.view_is)
-    (c.get-2.ensures.value
-    ∙ by_index c.self.inside.messages.entries c.self.inside.index.entries c.args.field.now c.in_ok-stamp.stamp.now c.self.invariant.entries_stand
-    (c.self.invariant.index_right (ap (λ v. v.spent) c.self.view_is ∙ c.requires)) c.in_ok-stamp.ensures.value)
+    (c.winner_among.ensures.found
+    ∙ found_among (values c.self.inside.messages) c.self.inside.index.entries c.args.field.now
+    (c.self.invariant.index_right (ap (λ v. v.spent) c.self.view_is ∙ c.requires)) c.winner_among.ensures.ordered)

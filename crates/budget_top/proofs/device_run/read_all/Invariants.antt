@@ -1,0 +1,23 @@
+use Rattle.std.proofs.Common.{◌≤◌, ◌-◌}
+use Rattle.budget_ports.specs.Keeper.{Only}
+use Rattle.budget_top.specs.Seen.{seen}
+use Rattle.budget_top.specs.Standing.{IsReady}
+use Rattle.budget_top.proofs.Answering.{ReadSoFar}
+use Rattle.budget_top.proofs.device_run.read_all.Given as goal
+
+abbrev pub invariant-reads : goal.invariant-reads
+invariant-reads g l = record {
+  read : ReadSoFar (g.S.Source.left l.initial.source) (g.S.Source.left l.source) l.taken
+      l.initial.session (seen (g.W.Sink.taken l.initial.sink) (g.C.WallClock.readings l.initial.clock) (g.K.Keeper.tells l.initial.keeper) (g.K.Keeper.contents l.initial.keeper) (g.K.Keeper.left l.initial.keeper))
+      l.session (seen (g.W.Sink.taken l.sink) (g.C.WallClock.readings l.clock) (g.K.Keeper.tells l.keeper) (g.K.Keeper.contents l.keeper) (g.K.Keeper.left l.keeper));
+  within : l.taken ≤ 1_073_741_824;
+  ready : IsReady l.session;
+  told : g.K.Keeper.tells l.keeper → g.K.Keeper.tells l.initial.keeper;
+  alone : g.K.Keeper.tells l.keeper → Only (g.K.Keeper.contents l.initial.keeper) (g.K.Keeper.left l.initial.keeper) → Only (g.K.Keeper.contents l.keeper) (g.K.Keeper.left l.keeper);
+  source_later : g.S.Source.faults l.initial.source ≤ g.S.Source.faults l.source;
+  sink_later : g.W.Sink.faults l.initial.sink ≤ g.W.Sink.faults l.sink;
+  keeper_later : g.K.Keeper.faults l.initial.keeper ≤ g.K.Keeper.faults l.keeper;
+}
+
+abbrev pub decreases-reads : goal.decreases-reads
+decreases-reads g l = 1_073_741_824 - l.taken

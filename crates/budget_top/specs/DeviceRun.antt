@@ -1,0 +1,101 @@
+-- What a run of the mode `device` has done, by its status.
+use Rattle.std.specs.Prelude.{◌≡◌, ◌⊎◌, ℕ, ◌<◌, ◌≤◌, ◌==◌, Bool, true, false, List, [], ◌∷◌, ◌++◌, length, take, codes, Option, Ok, Err, IsTrue}
+use Rattle.std.specs.List.{list_any}
+use Rattle.std.specs.Fmt.{decimal}
+use Rattle.std.specs.Io.KnownBytes.{Appends, IsAtEnd}
+use Rattle.budget_ports.specs.Keeper.{Only, LeavesNoMore}
+use Rattle.field_merge.specs.declared.message.Message.{Message}
+use Rattle.device_core.specs.Records.{kept_set}
+use Rattle.device_core.specs.Device.{State, begun}
+use Rattle.budget_top.specs.declared.session.Session.{Session}
+use Rattle.budget_top.specs.declared.device_run.End.{End as TheEnd}
+use Rattle.budget_top.specs.declared.device_run.End.TheVariants.{AtEnd, SourceFailed, TooMuch, Stopped}
+use Rattle.budget_top.specs.Lines.{whole_lines, all_lines}
+use Rattle.budget_top.specs.Limits.{most_input, HasRead, lines_due}
+use Rattle.budget_top.specs.Fronts.{AppendsFront}
+use Rattle.budget_top.specs.Session.{some_refused}
+use Rattle.budget_top.specs.Seen.{device_records, Seen}
+use Rattle.budget_top.specs.Standing.{Entry, Handles, Stands, Halts, Cuts, BreaksAs}
+
+-- a run with these things told began in this state
+abbrev pub entry : Seen → State → Entry
+entry old start = record { taken = old.taken; readings = old.readings; contents = old.contents; start = start }
+
+-- all was read, all lines were handled, and one was refused or none. A stop leaves what the keeper holds
+pub record HandlesAll (has_bad : Bool) (new_left : Option (List ℕ)) (e : Entry) (alone : Type 0) (read : List ℕ) (now : Seen) : Type 0 where
+  pub within : length read ≤ most_input
+  pub at_end : IsAtEnd new_left
+  pub handled : Handles e (all_lines read) now
+  pub bad : some_refused e.start handled.inputs ≡ has_bad
+  pub stops : now.tells → alone → Only now.contents now.left
+
+-- the source failed: the whole lines were handled
+pub record HandlesTaken (e : Entry) (alone : Type 0) (read : List ℕ) (now : Seen) : Type 0 where
+  pub within : length read ≤ most_input
+  pub handled : Handles e (whole_lines read) now
+  pub stops : now.tells → alone → Only now.contents now.left
+
+-- a byte past the limit came: the whole lines before that place were handled
+pub record HandlesLimit (e : Entry) (alone : Type 0) (read : List ℕ) (now : Seen) : Type 0 where
+  pub past : most_input < length read
+  pub handled : Handles e (whole_lines (take most_input read)) now
+  pub stops : now.tells → alone → Only now.contents now.left
+
+-- the statuses of a run whose group was opened
+abbrev pub device_statuses : List ℕ
+device_statuses = 0 ∷ 1 ∷ 4 ∷ 5 ∷ 6 ∷ 7 ∷ 9 ∷ []
+
+-- what was read and done, and how the status follows from it
+pub record Answers (status : ℕ) (left new_left : Option (List ℕ)) (e : Entry) (alone : Type 0) (now : Seen) : Type 0 where
+  pub read : List ℕ
+  pub has_read : HasRead left new_left read
+  pub known : IsTrue (list_any (λ s. status == s) device_statuses)
+  pub all_good : status ≡ 0 → HandlesAll false new_left e alone read now
+  pub some_refused : status ≡ 1 → HandlesAll true new_left e alone read now
+  pub source_failed : status ≡ 4 → HandlesTaken e alone read now
+  pub sink_failed : status ≡ 5 → Cuts e alone (lines_due read) now
+  pub keeper_failed : status ≡ 6 → Halts e alone (lines_due read) now
+  pub no_memory : status ≡ 7 → Halts e alone (lines_due read) now
+  pub too_much : status ≡ 9 → HandlesLimit e alone read now
+
+-- what is written where the record with this index, counted from 0, keeps no message
+abbrev pub bad_record_text : ℕ → List ℕ
+bad_record_text index = codes "bad-record " ++ decimal index ++ 10 ∷ []
+
+-- such a record is the first one. Its line was written, or a front of it, and then the count of the sink rose
+pub record BadRecord (rose : Type 0) (old now : Seen) : Type 0 where
+  pub index : ℕ
+  pub first_bad : now.tells → kept_set (device_records old.contents) ≡ Err index
+  pub written : Appends old.taken now.taken (bad_record_text index) ⊎ rose × AppendsFront old.taken now.taken (bad_record_text index)
+
+-- The group was not opened, and nothing was read. A record of it keeps no message, or the keeper failed or memory ran out
+-- before anything was written
+pub record Unopened (status : ℕ) (left new_left : Option (List ℕ)) (rose : Type 0) (old now : Seen) : Type 0 where
+  pub source : new_left ≡ left
+  pub readings : now.readings ≡ old.readings
+  pub contents : now.tells → now.contents ≡ old.contents
+  pub stops : LeavesNoMore old.left now.left
+  pub how : (status ≡ 3) × BadRecord rose old now ⊎ ((status ≡ 6) ⊎ (status ≡ 7)) × (now.taken ≡ old.taken)
+
+-- the group was opened, and keeps these messages
+pub record Opened (node : List ℕ) (status : ℕ) (left new_left : Option (List ℕ)) (old now : Seen) : Type 0 where
+  pub first : List Message
+  pub has : now.tells → kept_set (device_records old.contents) ≡ Ok first
+  pub answers : Answers status left new_left (entry old (begun node first)) (Only old.contents old.left) now
+
+-- a run of the device of this node, where `rose` says that the count of the sink rose
+pub record DeviceRun (node : List ℕ) (status : ℕ) (left new_left : Option (List ℕ)) (rose : Type 0) (old now : Seen) : Type 0 where
+  pub told : now.tells → old.tells
+  pub opening : Unopened status left new_left rose old now ⊎ Opened node status left new_left old now
+
+-- how reading ended
+abbrev pub EndsAs : TheEnd → Entry → Type 0 → Session → List ℕ → Seen → Type 0
+EndsAs AtEnd e alone session read now = (length read ≤ most_input) × Stands e read session now
+EndsAs SourceFailed e alone session read now = (length read ≤ most_input) × Handles e (whole_lines read) now
+EndsAs TooMuch e alone session read now = (most_input < length read) × Handles e (whole_lines (take most_input read)) now
+EndsAs (Stopped stop) e alone session read now = BreaksAs stop e alone (whole_lines (take most_input read)) now
+
+-- it ended by itself
+abbrev pub IsWhole : TheEnd → Type 0
+IsWhole (Stopped stop) = ⊥
+IsWhole end = Unit {0}

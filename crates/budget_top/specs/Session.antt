@@ -1,0 +1,73 @@
+-- What a device makes of its lines, one after the other.
+use Rattle.std.specs.Prelude.{ℕ, List, [], ◌∷◌, ◌++◌, Bool, true, false, ◌||◌, if◌then◌else◌, Option, None, Some, Result, Ok, Err}
+use Rattle.std.specs.Str.{is_utf8}
+use Rattle.device_core.specs.declared.edit.LineRefusal.{LineRefusal}
+use Rattle.device_core.specs.Device.{State, Accepted, edited, received}
+use Rattle.command_lines.specs.declared.command.Command.{Command}
+use Rattle.command_lines.specs.declared.command.Command.TheVariants.{Edit, Receive}
+use Rattle.command_lines.specs.declared.reply.Reply.{Reply}
+use Rattle.command_lines.specs.declared.reply.Reply.TheVariants.{Done, Refused}
+use Rattle.command_lines.specs.Commands.{command}
+use Rattle.command_lines.specs.Readings.{answer}
+use Rattle.command_lines.specs.Replies.{wrote, added, faulty, refused, reply_text_of}
+
+-- a line, and the reading of the wall clock that it takes
+pub record Input : Type 0 where
+  pub reading : ℕ
+  pub line : List ℕ
+
+-- the command of a line, or the index of the first word that is not of its form: 0 for a line that is no UTF-8
+abbrev pub asked : List ℕ → Result Command ℕ
+asked line = if is_utf8 line then command line else Err 0
+
+-- the same of what is kept of a line: nothing of one that is too long
+abbrev pub asked_kept : Option (List ℕ) → Result Command ℕ
+asked_kept None = Err 0
+asked_kept (Some line) = asked line
+
+-- the reply to a refusal. A want of memory would have none, and no line is refused for that by what it says
+abbrev pub told : Option Reply → Reply
+told None = Done []
+told (Some reply) = reply
+
+-- what an accepted line leaves, with its reply; a refused one leaves all as it is
+abbrev pub settled : State → (Accepted → Reply) → Result Accepted LineRefusal → State × Reply
+settled s reply (Ok accepted) = (accepted.device.state, reply accepted)
+settled s reply (Err refusal) = (s, told (refused refusal))
+
+abbrev pub wrote_all : Accepted → Reply
+wrote_all accepted = wrote accepted.count accepted.device.made
+
+abbrev pub added_all : Accepted → Reply
+added_all accepted = added accepted.count
+
+-- what is made of what a line asks at a reading of the clock, and the reply: an edit is made, a message is received,
+-- a line that only reads is answered, and one that is no command is refused
+abbrev pub obeyed : State → ℕ → Result Command ℕ → State × Reply
+obeyed s reading (Err part) = (s, faulty part)
+obeyed s reading (Ok (Edit edit)) = settled s wrote_all (edited s edit reading)
+obeyed s reading (Ok (Receive message)) = settled s added_all (received s (message ∷ []) reading)
+obeyed s reading (Ok command) = (s, answer s.messages command)
+
+-- what a line makes of the state, and its reply
+abbrev pub step : State → Input → State × Reply
+step s i = obeyed s i.reading (asked i.line)
+
+abbrev pub is_refused : Reply → Bool
+is_refused (Done lines) = false
+is_refused (Refused number code detail) = true
+
+-- the state after lines
+abbrev pub after : State → List Input → State
+after s [] = s
+after s (i ∷ is) = after (step s i).0 is
+
+-- the replies to lines, one behind the other
+abbrev pub replies : State → List Input → List ℕ
+replies s [] = []
+replies s (i ∷ is) = reply_text_of (step s i).1 ++ replies (step s i).0 is
+
+-- whether a line was refused
+abbrev pub some_refused : State → List Input → Bool
+some_refused s [] = false
+some_refused s (i ∷ is) = is_refused (step s i).1 || some_refused (step s i).0 is

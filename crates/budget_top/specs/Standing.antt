@@ -1,0 +1,92 @@
+-- Where a device's run stands between two lines, and how it breaks off.
+use Rattle.std.specs.Prelude.{◌≡◌, ◌≤◌, ℕ, List, [], ◌∷◌, ◌++◌, length, map, false, Option}
+use Rattle.std.specs.Io.KnownBytes.{Appends}
+use Rattle.budget_ports.specs.Contents.{Contents}
+use Rattle.budget_ports.specs.Keeper.{Only}
+use Rattle.budget_ports.specs.Readings.{Readings, Takes}
+use Rattle.device_core.specs.Device.{State}
+use Rattle.command_lines.specs.Replies.{reply_text_of}
+use Rattle.budget_top.specs.declared.session.Session.{Session}
+use Rattle.budget_top.specs.declared.session.DeviceStop.{DeviceStop}
+use Rattle.budget_top.specs.declared.session.DeviceStop.TheVariants.{Memory, Keeper, Sink}
+use Rattle.budget_top.specs.Lines.{whole_lines, last_piece, all_lines}
+use Rattle.budget_top.specs.Kept.{kept}
+use Rattle.budget_top.specs.Fronts.{IsFront}
+use Rattle.budget_top.specs.Session.{Input, step, after, replies, some_refused}
+use Rattle.budget_top.specs.Seen.{device_group, Seen, Holds}
+use Rattle.budget_top.specs.Acting.{HoldsEither}
+
+-- how a run began: what the sink, the clock and the keeper told, and the state that the device had
+pub record Entry : Type 0 where
+  pub taken : Option (List ℕ)
+  pub readings : Option Readings
+  pub contents : Contents
+  pub start : State
+
+-- the lines of inputs, and the readings that they took
+abbrev pub lines_of : List Input → List (List ℕ)
+lines_of inputs = map (λ i. i.line) inputs
+
+abbrev pub readings_of : List Input → List ℕ
+readings_of inputs = map (λ i. i.reading) inputs
+
+-- these lines come first
+abbrev pub AreFirst : List (List ℕ) → List (List ℕ) → Type 0
+AreFirst lines all = (more : List (List ℕ)) × (lines ++ more ≡ all)
+
+-- these lines were handled, one after the other: each took the next reading and was answered, and what it made is kept
+pub record Handles (e : Entry) (handled : List (List ℕ)) (now : Seen) : Type 0 where
+  pub inputs : List Input
+  pub lines : lines_of inputs ≡ handled
+  pub took : Takes e.readings now.readings (readings_of inputs)
+  pub written : Appends e.taken now.taken (replies e.start inputs)
+  pub keeper : now.tells → Holds e.contents now.contents (after e.start inputs).messages
+
+-- no line is in hand: all that was made is kept, and the group is the device's
+pub record IsReady (session : Session) : Type 0 where
+  pub live : session.device.spent ≡ false
+  pub idle : session.device.batch ≡ []
+  pub group : session.group ≡ device_group
+
+-- these bytes were read, and their whole lines handled
+pub record Stands (e : Entry) (read : List ℕ) (session : Session) (now : Seen) : Type 0 where
+  pub handled : Handles e (whole_lines read) now
+  pub line : session.line ≡ kept (last_piece read)
+  pub state : session.device.state ≡ after e.start handled.inputs
+  pub bad : session.bad ≡ some_refused e.start handled.inputs
+
+-- these bytes were read to their end, and all lines handled
+pub record Ended (e : Entry) (read : List ℕ) (session : Session) (now : Seen) : Type 0 where
+  pub handled : Handles e (all_lines read) now
+  pub bad : session.bad ≡ some_refused e.start handled.inputs
+
+-- The run broke off between the lines that were due, or in one of them before its reply. That line took its reading;
+-- what it made is kept whole or not at all. What a stop may leave is told where it could leave the contents alone before.
+pub record Halts (e : Entry) (alone : Type 0) (due : List (List ℕ)) (now : Seen) : Type 0 where
+  pub inputs : List Input
+  pub in_hand : List Input
+  pub one : length in_hand ≤ 1
+  pub first : AreFirst (lines_of (inputs ++ in_hand)) due
+  pub took : Takes e.readings now.readings (readings_of (inputs ++ in_hand))
+  pub written : Appends e.taken now.taken (replies e.start inputs)
+  pub keeper : now.tells → HoldsEither e.contents now.contents (after e.start inputs).messages (after e.start (inputs ++ in_hand)).messages
+  pub stops : now.tells → alone → (c : Contents) → now.left c →
+      HoldsEither e.contents c (after e.start inputs).messages (after e.start (inputs ++ in_hand)).messages
+
+-- the run broke off in the reply to a line: what the line made is kept, and a front of its reply was written, or all of it
+pub record Cuts (e : Entry) (alone : Type 0) (due : List (List ℕ)) (now : Seen) : Type 0 where
+  pub inputs : List Input
+  pub last : Input
+  pub part : List ℕ
+  pub of : IsFront part (reply_text_of (step (after e.start inputs) last).1)
+  pub first : AreFirst (lines_of (inputs ++ last ∷ [])) due
+  pub took : Takes e.readings now.readings (readings_of (inputs ++ last ∷ []))
+  pub written : Appends e.taken now.taken (replies e.start inputs ++ part)
+  pub keeper : now.tells → Holds e.contents now.contents (after e.start (inputs ++ last ∷ [])).messages
+  pub stops : now.tells → alone → Only now.contents now.left
+
+-- how it breaks off for this cause
+abbrev pub BreaksAs : DeviceStop → Entry → Type 0 → List (List ℕ) → Seen → Type 0
+BreaksAs Memory e alone due now = Halts e alone due now
+BreaksAs Keeper e alone due now = Halts e alone due now
+BreaksAs Sink e alone due now = Cuts e alone due now

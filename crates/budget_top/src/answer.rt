@@ -1,0 +1,198 @@
+//! One line of a device: what it asks is done, and what it made is kept before it is answered.
+ghost use Rattle.std.specs.Prelude.{◌≡◌, ◌∷◌, [], List, Ok, IfOk, OnOk, OnErr, false};
+ghost use Rattle.field_merge.specs.declared.message.Message.{Message};
+ghost use Rattle.field_merge.specs.Messages.{IsMessage};
+ghost use Rattle.device_core.specs.Edits.{IsEdit};
+ghost use Rattle.device_core.specs.Device.{edited, received};
+ghost use Rattle.command_lines.specs.Commands.{IsRead, IsCommand};
+ghost use Rattle.budget_ports.specs.Contents.{Contents};
+ghost use Rattle.budget_ports.specs.Keeper.{FailsFrom, Only};
+ghost use Rattle.budget_top.specs.Session.{asked_kept, settled, wrote_all, added_all, obeyed, is_refused};
+ghost use Rattle.budget_top.specs.Seen.{device_group};
+ghost use Rattle.budget_top.specs.Acting.{Acts, Brings, Carries, CarriesEither};
+
+use crate::begun::Begun;
+use budget_ports::{Keeper, PortFault};
+use command_lines::{
+    Command, CommandFault, Reply, added_reply, faulty_reply, read_command, read_reply,
+    refusal_reply, reply_text, wrote_reply,
+};
+use device_core::{Device, Edit, batches_are_kept};
+use field_merge::Message;
+use field_values::{NoMemory, Steps, Txt, TxtFault};
+use std::alloc::Global;
+use std::sync::ledger::Ledger;
+
+/// The reply to a line.
+#[derive(Drop)]
+pub struct Answer {
+    pub text: Txt,
+    /// Whether it refuses the line.
+    pub refused: bool,
+}
+
+/// The command of a line, or the index of its first word that is not of its form: 0 for a line that
+/// is too long or no UTF-8.
+fn ask(alloc: Global, line: &Begun) -> Result<Command, CommandFault>
+    ensures read { IsRead (asked_kept line.now) result }
+    ensures valid { IfOk result IsCommand }
+{
+    let Some(bytes) = line.bytes() else {
+        return Err(CommandFault::BadCommand { part: 0 });
+    };
+    match Txt::make(alloc, bytes) {
+        Ok(text) => read_command(alloc, &text),
+        Err(TxtFault::NotUtf8 { .. }) => Err(CommandFault::BadCommand { part: 0 }),
+        Err(TxtFault::NoMemory) => Err(CommandFault::NoMemory),
+    }
+}
+
+/// Makes an edit, and gives the reply.
+fn make<G: Ledger>(
+    alloc: Global,
+    device: &mut Device,
+    steps: &mut Steps<G>,
+    reading: u64,
+    edit: &Edit,
+) -> Result<Reply, NoMemory>
+    requires live { device.old.spent ≡ false }
+    requires idle { device.old.batch ≡ [] }
+    requires valid { IsEdit edit.now }
+    ensures ok { IfOk result (λ reply. settled device.old.state wrote_all (edited device.old.state edit.now reading) ≡ (device.new.state, reply)) }
+    ensures live { OnOk result (device.new.spent ≡ false) }
+    ensures brings { OnOk result (Brings device.old.state.messages device.new) }
+{
+    match device.prepare(edit, reading, steps) {
+        Ok(count) => wrote_reply(alloc, count, device.made()),
+        Err(refusal) => refusal_reply(alloc, &refusal),
+    }
+}
+
+/// Receives a message, and gives the reply.
+fn receive<G: Ledger>(
+    alloc: Global,
+    device: &mut Device,
+    steps: &mut Steps<G>,
+    reading: u64,
+    message: Message,
+) -> Result<Reply, NoMemory>
+    requires live { device.old.spent ≡ false }
+    requires idle { device.old.batch ≡ [] }
+    requires valid { IsMessage message }
+    ensures ok { IfOk result (λ reply. settled device.old.state added_all (received device.old.state (message ∷ []) reading) ≡ (device.new.state, reply)) }
+    ensures live { OnOk result (device.new.spent ≡ false) }
+    ensures brings { OnOk result (Brings device.old.state.messages device.new) }
+{
+    match device.incoming(&[message], reading, steps) {
+        Ok(count) => added_reply(alloc, count),
+        Err(refusal) => refusal_reply(alloc, &refusal),
+    }
+}
+
+/// Does what a command asks, and gives the reply.
+fn obey<G: Ledger>(
+    alloc: Global,
+    device: &mut Device,
+    steps: &mut Steps<G>,
+    reading: u64,
+    command: Command,
+) -> Result<Reply, NoMemory>
+    requires live { device.old.spent ≡ false }
+    requires idle { device.old.batch ≡ [] }
+    requires valid { IsCommand command }
+    ensures ok { IfOk result (λ reply. obeyed device.old.state reading (Ok command) ≡ (device.new.state, reply)) }
+    ensures live { OnOk result (device.new.spent ≡ false) }
+    ensures brings { OnOk result (Brings device.old.state.messages device.new) }
+{
+    match command {
+        Command::Edit(edit) => make(alloc, device, steps, reading, &edit),
+        Command::Receive { message } => receive(alloc, device, steps, reading, message),
+        reading_line => read_reply(alloc, device, &reading_line),
+    }
+}
+
+/// Does what a line asks, and gives the reply.
+fn reply_to<G: Ledger>(
+    alloc: Global,
+    device: &mut Device,
+    steps: &mut Steps<G>,
+    reading: u64,
+    line: &Begun,
+) -> Result<Reply, NoMemory>
+    requires live { device.old.spent ≡ false }
+    requires idle { device.old.batch ≡ [] }
+    ensures ok { IfOk result (λ reply. obeyed device.old.state reading (asked_kept line.now) ≡ (device.new.state, reply)) }
+    ensures live { OnOk result (device.new.spent ≡ false) }
+    ensures brings { OnOk result (Brings device.old.state.messages device.new) }
+{
+    match ask(alloc, line) {
+        Ok(command) => obey(alloc, device, steps, reading, command),
+        Err(CommandFault::BadCommand { part }) => faulty_reply(alloc, part),
+        Err(CommandFault::NoMemory) => Err(NoMemory),
+    }
+}
+
+/// Keeps the records of the device's new messages, if there are any.
+fn keep<K: Keeper>(device: &mut Device, keeper: &mut K, group: &Txt) -> Result<(), PortFault>
+    requires live { device.old.spent ≡ false }
+    requires group { group.now ≡ device_group }
+    ensures ok { OnOk result (device.new ≡ record device.old { batch = [] }) }
+    ensures carries { K.tells keeper.new → OnOk result ((old : List Message) → Brings old device.old → Carries old device.old.state.messages (K.contents keeper.old) (K.contents keeper.new)) }
+    ensures alone { K.tells keeper.new → OnOk result (Only (K.contents keeper.old) (K.left keeper.old) → Only (K.contents keeper.new) (K.left keeper.new)) }
+    ensures same { K.tells keeper.new → OnErr result (K.contents keeper.new ≡ K.contents keeper.old) }
+    ensures stops { OnErr result (Only (K.contents keeper.old) (K.left keeper.old) → (c : Contents) → K.left keeper.new c → (old : List Message) → Brings old device.old → CarriesEither old device.old.state.messages (K.contents keeper.old) c) }
+    ensures told { K.tells keeper.new → K.tells keeper.old }
+    ensures cause { FailsFrom (K.faults keeper.old) (K.faults keeper.new) result }
+{
+    // A device's messages are valid, so the records of the new ones keep them.
+    batches_are_kept();
+    let _log = device.log();
+    if !device.batch().is_empty() {
+        keeper.append(group, device.batch())?;
+        device.commit();
+    }
+    Ok(())
+}
+
+/// Whether a reply refuses its line.
+fn is_refusal(reply: &Reply) -> bool
+    ensures { result ≡ is_refused reply.now }
+{
+    matches!(reply, Reply::Refused { .. })
+}
+
+/// Does what a line asks at a reading of the wall clock, keeps what it made, and gives its reply.
+///
+/// The reply's text is made before anything is kept. Where the keeper fails or memory runs out
+/// there is no reply, the device is not to be used any more, and the keeper holds what it held or
+/// that with all that the line made.
+pub fn act<K: Keeper, G: Ledger>(
+    alloc: Global,
+    device: &mut Device,
+    keeper: &mut K,
+    group: &Txt,
+    steps: &mut Steps<G>,
+    reading: u64,
+    line: &Begun,
+) -> Result<Answer, PortFault>
+    requires live { device.old.spent ≡ false }
+    requires idle { device.old.batch ≡ [] }
+    requires group { group.now ≡ device_group }
+    ensures ok { IfOk result (λ a. Acts (obeyed device.old.state reading (asked_kept line.now)) device.new.state a.text a.refused) }
+    ensures live { OnOk result (device.new.spent ≡ false) }
+    ensures idle { OnOk result (device.new.batch ≡ []) }
+    ensures carries { K.tells keeper.new → OnOk result (Carries device.old.state.messages (obeyed device.old.state reading (asked_kept line.now)).0.messages (K.contents keeper.old) (K.contents keeper.new)) }
+    ensures alone { K.tells keeper.new → OnOk result (Only (K.contents keeper.old) (K.left keeper.old) → Only (K.contents keeper.new) (K.left keeper.new)) }
+    ensures either { K.tells keeper.new → OnErr result (CarriesEither device.old.state.messages (obeyed device.old.state reading (asked_kept line.now)).0.messages (K.contents keeper.old) (K.contents keeper.new)) }
+    ensures stops { K.tells keeper.new → OnErr result (Only (K.contents keeper.old) (K.left keeper.old) → (c : Contents) → K.left keeper.new c → CarriesEither device.old.state.messages (obeyed device.old.state reading (asked_kept line.now)).0.messages (K.contents keeper.old) c) }
+    ensures told { K.tells keeper.new → K.tells keeper.old }
+    ensures cause { FailsFrom (K.faults keeper.old) (K.faults keeper.new) result }
+{
+    let reply = reply_to(alloc, device, steps, reading, line)?;
+    let text = reply_text(alloc, &reply)?;
+    keep(device, keeper, group)?;
+    Ok(Answer {
+        text,
+        refused: is_refusal(&reply),
+    })
+}

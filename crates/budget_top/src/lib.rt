@@ -1,0 +1,32 @@
+//! What the program does, from the words of the command line to the status: it merges message
+//! lines, or answers the lines of a device, over the outside that it is given.
+#![tactic(auto)]
+
+mod answer;
+mod begun;
+mod device_run;
+#[cfg(test)]
+mod device_tests;
+mod dispatch;
+mod input;
+mod line;
+mod merge;
+mod opening;
+mod planning;
+mod session;
+mod stop;
+#[cfg(test)]
+mod tests;
+mod values;
+mod verdict;
+#[cfg(test)]
+mod word_tests;
+mod words;
+mod write;
+
+pub use dispatch::{
+    BAD_RECORD, BAD_WORDS, DONE, KEEPER_FAILED, NO_MEMORY, SINK_FAILED, SOME_BAD, SOURCE_FAILED,
+    TOO_MUCH, run, status_of,
+};
+pub use planning::plan;
+pub use words::{Mode, Plan, WordFault};

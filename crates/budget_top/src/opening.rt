@@ -1,0 +1,54 @@
+//! The opening of a device's run: what its group keeps.
+ghost use Rattle.std.specs.Prelude.{◌≡◌, ◌≤◌, ℕ, Ok, Err, IfOk};
+ghost use Rattle.hybrid_clock.specs.Node.{IsNode};
+ghost use Rattle.budget_ports.specs.Faults.{Rose};
+ghost use Rattle.budget_ports.specs.Keeper.{LeavesNoMore};
+ghost use Rattle.device_core.specs.Records.{kept_set};
+ghost use Rattle.budget_top.specs.Seen.{device_group, device_records};
+ghost use Rattle.budget_top.specs.Acting.{IsOpened};
+
+use budget_ports::{Keeper, PortFault};
+use device_core::{Device, StartFault};
+use field_values::Txt;
+use hybrid_clock::Node;
+use std::alloc::Global;
+
+/// Why a device's run does not begin.
+#[derive(Clone, Copy, Debug, PartialEq, Eq)]
+pub enum OpeningFault {
+    /// The keeper failed.
+    Keeper,
+    /// The record with this index, counted from 0, is the first that keeps no message.
+    BadRecord { index: usize },
+    /// Memory ran out.
+    NoMemory,
+}
+
+/// The device of this node that begins with what the group keeps.
+pub fn open<K: Keeper>(
+    alloc: Global,
+    node: Node,
+    keeper: &mut K,
+    group: &Txt,
+) -> Result<Device, OpeningFault>
+    requires node { IsNode node }
+    requires group { group.now ≡ device_group }
+    ensures ok { IfOk result (IsOpened node (K.contents keeper.old) (K.tells keeper.new)) }
+    ensures bad { (index : ℕ) → result ≡ Err (OpeningFault.BadRecord index) → K.tells keeper.new → kept_set (device_records (K.contents keeper.old)) ≡ Err index }
+    ensures same { K.tells keeper.new → K.contents keeper.new ≡ K.contents keeper.old }
+    ensures left { LeavesNoMore (K.left keeper.old) (K.left keeper.new) }
+    ensures told { K.tells keeper.new → K.tells keeper.old }
+    ensures later { K.faults keeper.old ≤ K.faults keeper.new }
+    ensures cause { result ≡ Err OpeningFault.Keeper → Rose (K.faults keeper.old) (K.faults keeper.new) }
+{
+    let records = match keeper.since(group, &Txt::new(String::new(alloc))) {
+        Ok(records) => records,
+        Err(PortFault::Failed) => return Err(OpeningFault::Keeper),
+        Err(PortFault::NoMemory) => return Err(OpeningFault::NoMemory),
+    };
+    match Device::start(alloc, node, records.as_slice()) {
+        Ok(device) => Ok(device),
+        Err(StartFault::NoMemory) => Err(OpeningFault::NoMemory),
+        Err(StartFault::BadRecord { index }) => Err(OpeningFault::BadRecord { index }),
+    }
+}

@@ -1,0 +1,25 @@
+-- What a keeper holds of a message set: the records of one group.
+use Rattle.std.specs.Prelude.{◌≡◌, ◌≢◌, ℕ, List, [], map, Ok}
+use Rattle.std.specs.FinMap.{get}
+use Rattle.budget_ports.specs.Contents.{Contents, Text, Place, records_after, appended}
+use Rattle.field_merge.specs.declared.message.Message.{Message}
+use Rattle.field_merge.specs.Messages.{AreMessages}
+use Rattle.field_merge.specs.Log.{join}
+use Rattle.device_core.specs.Records.{record_of, kept_set}
+use Rattle.device_core.specs.Device.{new_in}
+
+-- what all other groups keep, and the texts, are as they were
+pub record Others (group : Text) (entry now : Contents) : Type 0 where
+  pub records : (place : Place) → place.0 ≢ group → get now.records place ≡ get entry.records place
+  pub texts : now.texts ≡ entry.texts
+
+-- the group keeps this message set, and all else is as it was
+pub record Holds (group : Text) (entry now : Contents) (ms : List Message) : Type 0 where
+  pub messages : kept_set (records_after now group []) ≡ Ok ms
+  pub others : Others group entry now
+
+-- A group that keeps a message set keeps, when the records of the new ones of other messages are appended,
+-- that set joined with these messages; and all else stays.
+abbrev pub BatchesAreKept : Type 0
+BatchesAreKept = (group : Text) (entry now : Contents) (ms ns : List Message) → AreMessages ns → Holds group entry now ms →
+    Holds group entry (appended now group (map record_of (new_in ms ns))) (join ms ns)
