@@ -68,7 +68,7 @@ never_if true o never = never
 never_if false o never = never_none
 
 -- two mode words
-never_two : (a b : Text) (o : Option (List Pair)) → Never (joined (mode, a) (joined (mode, b) o))
+pub never_two : (a b : Text) (o : Option (List Pair)) → Never (joined (mode, a) (joined (mode, b) o))
 never_two a b None ps e = absurd (let bad : None ≡ Some ps = e in cc)
 never_two a b (Some more) ps e =
     let is : (mode, a) ∷ (mode, b) ∷ more ≡ ps = ap (λ o. unwrap_or o ps) e in

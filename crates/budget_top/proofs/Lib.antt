@@ -22,3 +22,4 @@ pub mod ClapWhole
 pub mod Spelled
 pub mod Hyphens
 pub mod Refusing
+pub mod LineWriting

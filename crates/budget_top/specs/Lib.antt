@@ -1,6 +1,7 @@
 pub mod Line
 pub mod Words
 pub mod Clap
+pub mod Written
 pub mod Lines
 pub mod Limits
 pub mod Verdicts

@@ -9,6 +9,7 @@ mod device_run;
 mod device_tests;
 mod dispatch;
 mod input;
+mod laws;
 mod line;
 mod merge;
 mod opening;
@@ -28,5 +29,6 @@ pub use dispatch::{
     BAD_RECORD, BAD_WORDS, DONE, KEEPER_FAILED, NO_MEMORY, SINK_FAILED, SOME_BAD, SOURCE_FAILED,
     TOO_MUCH, run, status_of,
 };
+pub use laws::lines_are_written;
 pub use planning::plan;
 pub use words::{Mode, Plan, WordFault};
