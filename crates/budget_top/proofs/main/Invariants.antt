@@ -2,4 +2,4 @@ use Rattle.budget_top.proofs.main.Given as goal
 
 -- the counter's ledger is the blank one's
 abbrev pub ghosts-uncounted : goal.ghosts-uncounted
-ghosts-uncounted g a = record { name = a.blank.name; parts = a.blank.parts }
+ghosts-uncounted a = record { name = a.blank.name; parts = a.blank.parts }
