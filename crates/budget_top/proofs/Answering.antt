@@ -1,23 +1,21 @@
 -- A device's run as a whole.
-use Rattle.std.proofs.Common.{◌≡◌, ℕ, ◌+◌, ◌-◌, ◌<◌, ◌≤◌, ◌⊎◌, inl, inr, min, List, [], ◌∷◌, ◌++◌, refl, ap, sym, ◌∙◌, subst, Bool, true, false, cond, nat_lt, Option, None, Some, Result, Ok, Err, OnOk, OnErr, length, take, drop, append-nil, length-append, length-take, arith}
+use Rattle.std.proofs.Common.{◌≡◌, ℕ, ◌+◌, ◌-◌, ◌<◌, ◌≤◌, ◌⊎◌, inl, inr, min, List, [], ◌++◌, refl, ap, sym, ◌∙◌, subst, Bool, true, false, cond, Option, Some, Result, Ok, Err, OnOk, OnErr, length, take, append-nil, length-append, length-take, arith}
 use Rattle.std.proofs.KnownBytes.{Consumes-trans, Consumes-kept, Consumes-nil, Appends-nil}
 use Rattle.std.proofs.lemmas.Bool.{lt-ltb, le-ltb, cases_lt, cond-true, cond-false}
 use Rattle.std.specs.Io.KnownBytes.{Appends, Consumes, Keeps, IsAtEnd}
 use Rattle.budget_ports.specs.Contents.{Contents}
 use Rattle.budget_ports.specs.Keeper.{Only, LeavesNoMore}
 use Rattle.budget_ports.specs.Readings.{Readings, Takes}
-use Rattle.field_merge.specs.declared.message.Message.{Message}
-use Rattle.device_core.specs.Records.{kept_set}
-use Rattle.device_core.specs.Device.{State, DeviceState, at_rest, begun}
+use Rattle.device_core.specs.Device.{DeviceState, begun}
 use Rattle.budget_top.specs.declared.session.Session.{Session}
 use Rattle.budget_top.specs.declared.session.DeviceStop.{DeviceStop}
 use Rattle.budget_top.specs.declared.session.DeviceStop.TheVariants.{Memory, Keeper, Sink}
 use Rattle.budget_top.specs.Lines.{whole_lines, all_lines, line_if_some, last_piece}
 use Rattle.budget_top.specs.Limits.{most_input, HasRead, lines_due}
-use Rattle.budget_top.specs.Seen.{device_group, device_records, Seen, Holds}
+use Rattle.budget_top.specs.Seen.{device_group, Seen, Holds}
 use Rattle.budget_top.specs.Acting.{IsOpened}
 use Rattle.budget_top.specs.DeviceStops.{stop_status}
-use Rattle.budget_top.specs.Standing.{Entry, AreFirst, Handles, IsReady, Stands, Ended, Halts, Cuts, BreaksAs}
+use Rattle.budget_top.specs.Standing.{Entry, AreFirst, Handles, IsReady, Stands, Ended, BreaksAs}
 use Rattle.budget_top.specs.DeviceRun.{HandlesAll, HandlesTaken, HandlesLimit, Answers, entry}
 use Rattle.budget_ports.specs.declared.stream.Failed.{Failed}
 use Rattle.budget_top.specs.Fronts.{AppendsFront}

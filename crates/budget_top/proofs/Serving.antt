@@ -1,5 +1,5 @@
 -- Where a device's run stands after one more line, and how it breaks off.
-use Rattle.std.proofs.Common.{◌≡◌, ℕ, ◌+◌, ◌-◌, ◌≤◌, take, drop, List, [], ◌∷◌, ◌++◌, length, refl, ap, ◌∙◌, sym, subst, append_assoc, append-nil, Bool, true, false, ◌||◌, cond, nat_lt, Option, None, Some, Result, Ok, Err, inl, inr, ◌⊎◌, arith}
+use Rattle.std.proofs.Common.{◌≡◌, ℕ, ◌+◌, ◌-◌, take, drop, List, [], ◌∷◌, ◌++◌, length, refl, ap, ◌∙◌, sym, subst, append_assoc, append-nil, Bool, true, false, ◌||◌, cond, nat_lt, Option, None, Some, Result, Err, inl, inr, ◌⊎◌, arith}
 use Rattle.std.proofs.KnownBytes.{Appends-trans}
 use Rattle.std.specs.Str.{is_utf8}
 use Rattle.std.specs.Io.KnownBytes.{Appends}
@@ -26,7 +26,7 @@ use Rattle.budget_top.specs.Session.{Input, asked, asked_kept, obeyed, step, aft
 use Rattle.budget_top.specs.Seen.{Seen, Holds}
 use Rattle.budget_top.specs.Acting.{Acts, Carries, CarriesEither, HoldsEither}
 use Rattle.budget_top.specs.DeviceStops.{stop_of}
-use Rattle.budget_top.specs.Standing.{Entry, lines_of, readings_of, AreFirst, Handles, Stands, Ended, Halts, Cuts, BreaksAs}
+use Rattle.budget_top.specs.Standing.{Entry, lines_of, readings_of, AreFirst, Stands, Ended, Halts, Cuts, BreaksAs}
 use Rattle.budget_top.proofs.Cutting.{whole_lines-within, last_piece-within, whole_lines-end, last_piece-end, whole_lines-append}
 use Rattle.budget_top.proofs.Standing.{appends_as, kept-append}
 use Rattle.budget_top.proofs.Ending.{one_begun}

@@ -1,5 +1,5 @@
 -- What the objects of the outside tell a device's run.
-use Rattle.std.specs.Prelude.{◌≡◌, ◌⊎◌, ℕ, List, [], Option, codes, Ok}
+use Rattle.std.specs.Prelude.{ℕ, List, [], Option, codes}
 use Rattle.budget_ports.specs.Contents.{Contents, Text, records_after}
 use Rattle.budget_ports.specs.declared.keeper.Kept.{Kept}
 use Rattle.budget_ports.specs.Readings.{Readings}

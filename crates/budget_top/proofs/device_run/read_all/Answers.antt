@@ -1,4 +1,4 @@
-use Rattle.std.proofs.Common.{◌≤◌, ◌+◌, ◌++◌, take, drop, length, length-take, arith}
+use Rattle.std.proofs.Common.{◌≤◌, ◌+◌, ◌++◌, take, drop, length-take, arith}
 use Rattle.budget_top.specs.Limits.{most_input}
 use Rattle.budget_top.proofs.SoFar.{length_more, limit_taken}
 use Rattle.budget_top.proofs.Answering.{read_kept, read_none, read_more, whole_taken, stands_along, handles_along, breaks_along}

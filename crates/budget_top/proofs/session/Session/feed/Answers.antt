@@ -1,4 +1,4 @@
-use Rattle.std.proofs.Common.{List, ℕ, refl, arith, sym, drop, length-drop}
+use Rattle.std.proofs.Common.{refl, arith, sym, drop, length-drop}
 use Rattle.std.proofs.lemmas.Result.{err_from_is_err_and}
 use Rattle.budget_top.specs.Lines.{FirstEnd}
 use Rattle.budget_top.specs.declared.session.DeviceStop.TheVariants.{Memory}
