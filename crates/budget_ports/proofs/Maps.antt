@@ -1,13 +1,12 @@
 -- Maps in order, as finite maps.
-use Rattle.std.proofs.Common.{◌≡◌, Bool, true, false, not, ◌&&◌, cond, List, [], ◌∷◌, ◌++◌, map, filter, Option, Some, None, is_some, length, arith, refl, sym, ap, ap₂, subst, ◌∙◌, true≢false, Ordering, Less, Equal, Greater}
-use Rattle.std.specs.Ordering.{is_lt, is_eq, eq_by_cmp, ordering_then}
+use Rattle.std.proofs.Common.{◌≡◌, cond, List, [], ◌∷◌, map, Some, None, length, arith, refl, sym, ap, ◌∙◌, Ordering, Less}
 use Rattle.std.specs.List.{AllByRecursion}
-use Rattle.std.specs.Cmp.{IsTotalOrder, eq_by_cmp_equiv, tied_itself}
+use Rattle.std.specs.Cmp.{IsTotalOrder, eq_by_cmp_equiv}
 use Rattle.std.specs.BTreeMap.{is_at}
 use Rattle.std.specs.Map.{lookup, keys_of}
 use Rattle.std.specs.List.Sorted.{IsStrictlySortedBy}
 use Rattle.std.proofs.lemmas.Map.Keys.{sorted_head, sorted_tail}
-use Rattle.std.specs.FinMap.{FinMap, IsAntisymmetric, put, find, entries, from_entries, get, insert, remove, contains_key, get-from_entries, same_map, get-insert, get-remove, entries-insert, empty, len-entries, len-empty}
+use Rattle.std.specs.FinMap.{FinMap, IsAntisymmetric, put, find, entries, from_entries, get, insert, remove, get-from_entries, same_map, get-insert, get-remove, entries-insert, empty, len-entries, len-empty}
 
 -- each key is below each later one
 abbrev pub IsRising : {K V : Type 0} → (K → K → Ordering) → List (K × V) → Type 0

@@ -1,12 +1,11 @@
 -- The records that a keeper gives rise by key, and no key is empty.
-use Rattle.std.proofs.Common.{◌≡◌, inl, inr, ℕ, ◌<◌, Bool, true, false, cond, List, [], ◌∷◌, map, filter, length, refl, sym, ap, subst, ◌∙◌, true≢false, Ordering, Less, Equal, Greater, arith}
+use Rattle.std.proofs.Common.{◌≡◌, inl, inr, ◌<◌, Bool, true, false, List, [], ◌∷◌, map, filter, length, refl, sym, true≢false, Ordering, Less, Equal, Greater, arith}
 use Rattle.std.specs.Ordering.{is_lt, is_eq, ordering_then}
 use Rattle.std.specs.List.{AllByRecursion}
 use Rattle.std.specs.Cmp.{tied_itself}
 use Rattle.std.proofs.lemmas.Bool.{and_parts, cases_Bool}
 use Rattle.std.specs.FinMap.{FinMap, entries, entries_sorted, is_sorted}
 use Rattle.std.specs.Prelude.{T}
-use Rattle.budget_ports.specs.declared.keeper.Kept.{Kept}
 use Rattle.budget_ports.specs.Contents.{Text, text_cmp, Place, place_cmp, is_in, of_entry, records_of_after}
 use Rattle.budget_ports.specs.Keeper.{Rise}
 use Rattle.budget_ports.proofs.Maps.{IsRising}

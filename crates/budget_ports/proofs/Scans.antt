@@ -1,8 +1,8 @@
 -- A scan over the records from a place on.
-use Rattle.std.proofs.Common.{append_assoc, append-nil, bytes_eq, ◌≡◌, ◌⊎◌, inl, inr, Bool, true, false, not, ◌&&◌, cond, List, [], ◌∷◌, ◌++◌, map, filter, refl, sym, ap, ap₂, subst, ◌∙◌, true≢false, Ordering, Less, Equal, Greater}
-use Rattle.std.specs.Ordering.{is_lt, is_eq, ordering_then, ordering_reverse}
+use Rattle.std.proofs.Common.{append_assoc, append-nil, bytes_eq, ◌≡◌, inl, inr, Bool, true, false, not, ◌&&◌, cond, List, [], ◌∷◌, ◌++◌, map, filter, refl, sym, ap, subst, ◌∙◌, true≢false, Ordering, Less, Equal, Greater}
+use Rattle.std.specs.Ordering.{is_lt, is_eq, ordering_reverse}
 use Rattle.std.specs.List.{AllByRecursion}
-use Rattle.std.specs.Cmp.{IsTotalOrder, tied_itself}
+use Rattle.std.specs.Cmp.{tied_itself}
 use Rattle.std.specs.Cmp.Lexicographic.{texts_ties}
 use Rattle.std.proofs.lemmas.Bool.{cases_Bool, and_parts}
 use Rattle.budget_ports.specs.declared.keeper.Kept.{Kept}

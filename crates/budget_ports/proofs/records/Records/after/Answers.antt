@@ -1,6 +1,6 @@
-use Rattle.std.proofs.Common.{◌≡◌, ◌∙◌, ◌++◌, ◌∷◌, [], List, ap, sym, subst, filter, false, true, not, bytes_eq, append-nil}
+use Rattle.std.proofs.Common.{◌≡◌, ◌∙◌, ◌++◌, ◌∷◌, [], ap, sym, subst, filter, false, true, not, bytes_eq, append-nil}
 use Rattle.budget_ports.specs.declared.keeper.Kept.{Kept}
-use Rattle.budget_ports.specs.Contents.{Text, Place, place_cmp, records_of_after, of_entry}
+use Rattle.budget_ports.specs.Contents.{Place, place_cmp, records_of_after, of_entry}
 use Rattle.budget_ports.proofs.Maps.{IsRising}
 use Rattle.budget_ports.proofs.Scans.{of_group, Above, is_above, scan_start, scan_above, scan_rising, one_found, all_found, tells_same, tells_apart}
 use Rattle.budget_ports.proofs.records.Records.after.Goals as goal

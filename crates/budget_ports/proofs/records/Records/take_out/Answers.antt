@@ -1,4 +1,4 @@
-use Rattle.std.proofs.Common.{◌≡◌, ◌∙◌, ap, sym}
+use Rattle.std.proofs.Common.{◌∙◌, ap, sym}
 use Rattle.std.specs.FinMap as map
 use Rattle.budget_ports.specs.Contents.{place_cmp}
 use Rattle.budget_ports.specs.Undoing.{taken_out}

@@ -1,4 +1,4 @@
-use Rattle.std.proofs.Common.{◌≡◌, ◌∙◌, ap, sym, Some}
+use Rattle.std.proofs.Common.{◌∙◌, ap, sym, Some}
 use Rattle.std.specs.FinMap as map
 use Rattle.budget_ports.proofs.Maps.{get_is}
 use Rattle.budget_ports.proofs.Places.{text_total, text_same}

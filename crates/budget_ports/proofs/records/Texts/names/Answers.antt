@@ -1,4 +1,4 @@
-use Rattle.std.proofs.Common.{◌≡◌, ◌∙◌, ◌++◌, ap, sym}
+use Rattle.std.proofs.Common.{◌∙◌, ◌++◌, ap}
 use Rattle.budget_ports.proofs.Maps.{keys_are}
 use Rattle.budget_ports.proofs.Places.{text_total, text_same}
 use Rattle.budget_ports.proofs.records.Texts.names.Goals as goal

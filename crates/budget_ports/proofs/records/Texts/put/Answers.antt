@@ -1,4 +1,4 @@
-use Rattle.std.proofs.Common.{◌≡◌, ◌∙◌, ap, sym}
+use Rattle.std.proofs.Common.{◌∙◌, ap}
 use Rattle.std.specs.FinMap as map
 use Rattle.budget_ports.proofs.Maps.{one_put}
 use Rattle.budget_ports.proofs.Places.{text_total, text_same}
