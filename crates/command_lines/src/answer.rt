@@ -98,7 +98,7 @@ fn value_at<'a>(
     requires valid { AreMessages log.now.messages }
     ensures { IfOk result (λ v. option_copied v ≡ value_in log.now.messages (field_of dataset.now row.now column.now)) }
 {
-    match Field::make(alloc, dataset, row, column) {
+    match Field::make(alloc, dataset.as_str(), row.as_str(), column.as_str()) {
         Ok(field) => Ok(log.value(&field)),
         Err(fault) => {
             memory_aside(fault)?;

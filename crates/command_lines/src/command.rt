@@ -82,7 +82,7 @@ fn receive(alloc: Global, words: &mut Words<'_>) -> Result<Command, CommandFault
     words.end()?;
     let value = Value::read(alloc, value.as_str())?;
     // The names are those of a field, so only memory can be missing.
-    match Field::of(alloc, dataset, row, column) {
+    match Field::make(alloc, dataset.as_str(), row.as_str(), column.as_str()) {
         Ok(field) => Ok(Command::Receive {
             message: Message {
                 stamp,

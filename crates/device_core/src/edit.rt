@@ -106,7 +106,7 @@ fn set_writes(
     if is_no_name(NamePart::Column, column) {
         return Err(EditFault::BadId { id: column.copy()? });
     }
-    let Ok(field) = Field::make(alloc, dataset, row, column) else {
+    let Ok(field) = Field::make(alloc, dataset.as_str(), row.as_str(), column.as_str()) else {
         return Err(EditFault::NoMemory);
     };
     let value = value.copy()?;

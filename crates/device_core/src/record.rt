@@ -30,11 +30,11 @@ fn stamp_text(alloc: Global, stamp: &Stamp) -> Result<Txt, NoMemory>
 }
 
 /// Puts a TAB and an escaped text at the end of a body.
-fn push_part(body: &mut String, text: &Txt) -> Result<(), NoMemory>
+fn push_part(body: &mut String, text: &str) -> Result<(), NoMemory>
     ensures { OnOk result (string_bytes body.new ≡ string_bytes body.old ++ 9 ∷ escaped text.now) }
 {
     body.push('\t')?;
-    push_escaped(body, text.as_str())
+    push_escaped(body, text)
 }
 
 /// What stands behind the timestamp in a message's line.
@@ -44,11 +44,11 @@ fn body(alloc: Global, message: &Message) -> Result<Txt, NoMemory>
     ensures { IfOk result (λ t. t ≡ body_of message.now) }
 {
     let mut body = String::new(alloc);
-    push_escaped(&mut body, message.field.dataset().as_str())?;
+    push_escaped(&mut body, message.field.dataset())?;
     push_part(&mut body, message.field.row())?;
     push_part(&mut body, message.field.column())?;
     let value = message.value.text(alloc)?;
-    push_part(&mut body, &value)?;
+    push_part(&mut body, value.as_str())?;
     Ok(Txt::new(body))
 }
 

@@ -110,21 +110,39 @@ fn stamp_in(alloc: Global, part: &str) -> Result<Result<Stamp, StampFault>, NoMe
     Ok(Stamp::parse(text.as_bytes()))
 }
 
-/// The field that three parts stand for.
+/// The field of three names.
+fn field_of_names(
+    alloc: Global,
+    dataset: &str,
+    row: &str,
+    column: &str,
+) -> Result<Result<Field, NameFault>, NoMemory>
+    ensures { let names = field_of dataset.now row.now column.now in
+        IfOk result (λ read. MatchResult read
+        (λ field. (field ≡ names) × AreNames names × (names_fault names ≡ None))
+        (λ fault. names_fault names ≡ Some fault)) }
+{
+    match Field::make(alloc, dataset, row, column) {
+        Ok(field) => Ok(Ok(field)),
+        Err(NameFault::NoMemory) => Err(NoMemory),
+        Err(fault) => Ok(Err(fault)),
+    }
+}
+
+/// The field that three parts stand for. Parts without a backslash are not copied first.
 fn field_in(alloc: Global, parts: &Parts<'_>) -> Result<Result<Field, NameFault>, NoMemory>
     ensures { let names = field_of (unescaped parts.now.dataset.now) (unescaped parts.now.row.now) (unescaped parts.now.column.now) in
         IfOk result (λ read. MatchResult read
         (λ field. (field ≡ names) × AreNames names × (names_fault names ≡ None))
         (λ fault. names_fault names ≡ Some fault)) }
 {
-    let dataset = Txt::new(unescape(alloc, parts.dataset)?);
-    let row = Txt::new(unescape(alloc, parts.row)?);
-    let column = Txt::new(unescape(alloc, parts.column)?);
-    match Field::of(alloc, dataset, row, column) {
-        Ok(field) => Ok(Ok(field)),
-        Err(NameFault::NoMemory) => Err(NoMemory),
-        Err(fault) => Ok(Err(fault)),
+    if is_plain(parts.dataset) && is_plain(parts.row) && is_plain(parts.column) {
+        return field_of_names(alloc, parts.dataset, parts.row, parts.column);
     }
+    let dataset = unescape(alloc, parts.dataset)?;
+    let row = unescape(alloc, parts.row)?;
+    let column = unescape(alloc, parts.column)?;
+    field_of_names(alloc, dataset.as_str(), row.as_str(), column.as_str())
 }
 
 /// The value that a part stands for.
@@ -225,9 +243,9 @@ pub fn push_line(alloc: Global, line: &mut String, message: &Message) -> Result<
     ensures { OnOk result (string_bytes line.new ≡ string_bytes line.old ++ message_line message.now) }
 {
     push_stamp(line, &message.stamp)?;
-    push_part(line, message.field.dataset().as_str())?;
-    push_part(line, message.field.row().as_str())?;
-    push_part(line, message.field.column().as_str())?;
+    push_part(line, message.field.dataset())?;
+    push_part(line, message.field.row())?;
+    push_part(line, message.field.column())?;
     push_part(line, message.value.text(alloc)?.as_str())
 }
 

@@ -1,5 +1,6 @@
 ghost use Rattle.std.specs.Prelude.{◌≡◌, IfOk, OnOk, false};
 ghost use Rattle.field_merge.specs.Messages.{IsMessage};
+ghost use Rattle.field_values.specs.Names.{AreNames};
 
 use crate::{Log, Message};
 use field_values::{Field, Txt, Value};
@@ -13,23 +14,19 @@ const SECOND: &str = "2024-01-05T10:00:00.000Z-0001-00000000000000aa";
 
 const THIRD: &str = "2024-01-05T10:00:01.000Z-0000-0000000000000Zaa";
 
-fn field(alloc: Global, row: &str) -> Result<Field, Fail> {
-    let dataset = Txt::from_text(alloc, "notes")?;
-    let row = Txt::from_text(alloc, row)?;
-    let column = Txt::from_text(alloc, "note")?;
-    Ok(Field::of(alloc, dataset, row, column)?)
+fn field(alloc: Global, row: &str) -> Result<Field, Fail>
+    ensures { IfOk result AreNames }
+{
+    Ok(Field::make(alloc, "notes", row, "note")?)
 }
 
 fn message(alloc: Global, stamp: &str, row: &str, value: &str) -> Result<Message, Fail>
     ensures { IfOk result IsMessage }
 {
-    let dataset = Txt::from_text(alloc, "notes")?;
-    let row = Txt::from_text(alloc, row)?;
-    let column = Txt::from_text(alloc, "note")?;
     let value = Txt::from_text(alloc, value)?;
     Ok(Message {
         stamp: Stamp::parse(stamp.as_bytes())?,
-        field: Field::of(alloc, dataset, row, column)?,
+        field: field(alloc, row)?,
         value: Value::from_text(alloc, &value)?,
     })
 }

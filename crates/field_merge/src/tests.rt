@@ -18,10 +18,7 @@ fn lines(rt: HostRuntime) -> Result<(), Fail> {
     }
     let line = "2024-01-05T10:00:00.000Z-0000-00000000000000aa\ta\\\\b\tr\tc\tS:\\0\\t\\n\\\\\0\n";
     let message = read_line(alloc, &Txt::from_text(alloc, line)?)?;
-    let dataset = Txt::from_text(alloc, "a\\b")?;
-    let row = Txt::from_text(alloc, "r")?;
-    let column = Txt::from_text(alloc, "c")?;
-    assert_eq!(rt; message.field, Field::of(alloc, dataset, row, column)?);
+    assert_eq!(rt; message.field, Field::make(alloc, "a\\b", "r", "c")?);
     assert_eq!(rt;
         message.value,
         Value::Text(Txt::from_text(alloc, "\0\t\n\\\0\n")?)

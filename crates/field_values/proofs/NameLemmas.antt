@@ -1,6 +1,8 @@
 -- A name without a fault is a name.
-use Rattle.std.proofs.Common.{◌≡◌, ◌≢◌, ℕ, ◌≤◌, List, length, get_or, arith, refl, false, Option, Some, None}
-use Rattle.std.specs.Prelude.{◌==◌, nat_lt, position, All, option_map}
+use Rattle.std.proofs.Common.{◌≡◌, ◌≢◌, ◌∙◌, ℕ, ◌+◌, ◌≤◌, List, [], ◌++◌, length, get_or, arith, refl, ap, subst, false, Option, Some, None}
+use Rattle.std.specs.Prelude.{◌==◌, nat_lt, position, All, option_map, IsUtf8, IsCharBoundary}
+use Rattle.std.proofs.lemmas.List.{append_assoc, length-append}
+use Rattle.std.proofs.lemmas.Str.{IsUtf8-append, IsCharBoundary-at_seam}
 use Rattle.std.specs.Option.{option_or}
 use Rattle.std.specs.List.{position_or_len}
 use Rattle.std.proofs.lemmas.List.Sums.{position_or_len_is, fails_before_first}
@@ -9,7 +11,7 @@ use Rattle.field_values.specs.declared.name.NamePart.{NamePart}
 use Rattle.field_values.specs.declared.name.NamePart.TheVariants.{Dataset, Row, Column}
 use Rattle.field_values.specs.declared.name.NameFault.{NameFault}
 use Rattle.field_values.specs.declared.name.NameFault.TheVariants.{Empty, TooLong, BadByte}
-use Rattle.field_values.specs.Names.{IsName, IsNameByte, AreNames, FieldNames, is_bad_byte, name_fault, names_fault, FaultsAreTold}
+use Rattle.field_values.specs.Names.{IsName, IsNameByte, AreNames, FieldNames, is_bad_byte, name_fault, names_fault, FaultsAreTold, IsCut}
 
 good_byte : (b : ℕ) → is_bad_byte b ≡ false → IsNameByte b
 good_byte b e = let both = or_parts _ _ e in (ltb-false b 32 both.0, eqb-false b 127 both.1)
@@ -85,3 +87,13 @@ names_fault-none names are =
 
 pub faults_are_told_lem : FaultsAreTold
 faults_are_told_lem names = (names_without_fault names, names_fault-none names)
+
+-- the joints of names that are put one behind the other
+pub cut_is : (t₀ t₁ t₂ t₃ d r c : List ℕ) → t₀ ≡ [] → t₁ ≡ t₀ ++ d → t₂ ≡ t₁ ++ r → t₃ ≡ t₂ ++ c → IsUtf8 r → IsUtf8 c → IsCut t₃ (length d) (length d + length r)
+cut_is t₀ t₁ t₂ t₃ d r c e₀ e₁ e₂ e₃ u v =
+    let e : t₃ ≡ d ++ r ++ c = e₃ ∙ ap (λ (t : List ℕ). t ++ c) (e₂ ∙ ap (λ (t : List ℕ). t ++ r) (e₁ ∙ ap (λ (t : List ℕ). t ++ d) e₀)) in
+    record {
+      in_order = omega arith;
+      row = IsCharBoundary-at_seam t₃ d (r ++ c) (e ∙ append_assoc d r c) (IsUtf8-append r c u v);
+      column = subst (IsCharBoundary t₃) (length-append d r) (IsCharBoundary-at_seam t₃ (d ++ r) c e v);
+    }

@@ -1,5 +1,5 @@
 -- The three names of a field.
-use Rattle.std.specs.Prelude.{◌≡◌, ◌≢◌, ℕ, ◌<◌, ◌≤◌, ◌||◌, ◌&&◌, ◌==◌, List, length, Bool, nat_lt, if◌then◌else◌, position, Option, None, Some, All, ◌↔◌}
+use Rattle.std.specs.Prelude.{◌≡◌, ◌≢◌, ℕ, ◌<◌, ◌≤◌, ◌||◌, ◌&&◌, ◌==◌, List, length, Bool, nat_lt, if◌then◌else◌, position, Option, None, Some, All, ◌↔◌, take, drop, slice_range, IsCharBoundary}
 use Rattle.std.specs.Option.{option_or, option_map}
 use Rattle.std.specs.Cmp.Lexicographic.{pointwise, slice_cmp}
 use Rattle.std.specs.Ordering.{nat_cmp, on, then_cmp}
@@ -17,6 +17,16 @@ pub record FieldNames : Type 0 where
 -- the field that has these names
 abbrev pub field_of : List ℕ → List ℕ → List ℕ → FieldNames
 field_of dataset row column = record { dataset = dataset; row = row; column = column }
+
+-- three names that stand one behind the other in a text, where the row begins at one place and the column at another
+abbrev pub cut_names : List ℕ → ℕ → ℕ → FieldNames
+cut_names text row_at column_at = field_of (take row_at text) (slice_range text row_at column_at) (drop column_at text)
+
+-- the places stand in their order, and each between two characters
+pub record IsCut (text : List ℕ) (row_at column_at : ℕ) : Type 0 where
+  pub in_order : row_at ≤ column_at
+  pub row : IsCharBoundary text row_at
+  pub column : IsCharBoundary text column_at
 
 -- a byte that a name may have: any but the control characters of ASCII
 abbrev pub IsNameByte : ℕ → Type 0

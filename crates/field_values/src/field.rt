@@ -9,7 +9,6 @@ ghost use Rattle.field_values.specs.Names.{names_eq, names_cmp, names_fault, fie
 use crate::items::Copied;
 use crate::memory::NoMemory;
 use crate::name::{NameFault, NamePart, check_name};
-use crate::text::Txt;
 use std::alloc::Global;
 use std::cmp::Ordering;
 use std::marker::Model;
@@ -18,18 +17,32 @@ use std::rc::Rc;
 /// A field of a household's data, named by its dataset, row and column. Each name has 1 to 255 bytes, none of them below 32
 /// and none equal to 127. Fields are ordered by dataset, then row, then column, each by its bytes.
 ///
-/// A field and its copies share one block of memory, so a copy costs no more than counting one owner more.
+/// A field and its copies share their names, so a copy costs no more than counting one owner more.
 #[derive(Debug, Drop)]
 pub struct Field {
     names: Rc<Names>,
 }
 
-/// The names, which the copies of a field share. Rows and columns, which are compared most, stand first, side by side.
+/// The names, which the copies of a field share: one text, in which the dataset, the row and the column stand one behind the
+/// other.
 #[derive(Debug, Drop)]
 struct Names {
-    row: Txt,
-    column: Txt,
-    dataset: Txt,
+    text: String,
+    /// Where the row begins.
+    row_at: usize,
+    /// Where the column begins.
+    column_at: usize,
+}
+
+impl Model for Names {
+    ghost use Rattle.std.specs.Prelude.{string_bytes};
+    ghost use Rattle.field_values.specs.Names.{FieldNames, IsCut, cut_names};
+
+    ghost Value = { FieldNames };
+
+    ghost view = { λ n. cut_names (string_bytes n.text) n.row_at n.column_at };
+
+    ghost invariant = { λ n. IsCut (string_bytes n.text) n.row_at n.column_at };
 }
 
 impl Model for Field {
@@ -37,18 +50,56 @@ impl Model for Field {
 
     ghost Value = { FieldNames };
 
-    ghost view = { λ f. record { dataset = f.names.value.dataset; row = f.names.value.row; column = f.names.value.column } };
+    ghost view = { λ f. f.names.value };
 }
 
-fn check_names(dataset: &Txt, row: &Txt, column: &Txt) -> Result<(), NameFault>
+fn check_names(dataset: &str, row: &str, column: &str) -> Result<(), NameFault>
     ensures good { OnOk result (names_fault (field_of dataset.now row.now column.now) ≡ None) }
     ensures valid { OnOk result (AreNames (field_of dataset.now row.now column.now)) }
     ensures bad { IfErr result (λ fault. names_fault (field_of dataset.now row.now column.now) ≡ Some fault) }
 {
-    check_name(NamePart::Dataset, dataset.bytes())?;
-    check_name(NamePart::Row, row.bytes())?;
-    check_name(NamePart::Column, column.bytes())?;
+    check_name(NamePart::Dataset, dataset.as_bytes())?;
+    check_name(NamePart::Row, row.as_bytes())?;
+    check_name(NamePart::Column, column.as_bytes())?;
     Ok(())
+}
+
+impl Names {
+    /// Puts the names one behind the other.
+    fn of(alloc: Global, dataset: &str, row: &str, column: &str) -> Result<Names, NoMemory>
+        requires { AreNames (field_of dataset.now row.now column.now) }
+        ensures { IfOk result (λ n. n ≡ field_of dataset.now row.now column.now) }
+    {
+        let row_at = dataset.len();
+        let column_at = row_at + row.len();
+        let mut text = String::with_capacity(alloc, column_at + column.len())?;
+        text.push_str(dataset)?;
+        text.push_str(row)?;
+        text.push_str(column)?;
+        Ok(Names {
+            text,
+            row_at,
+            column_at,
+        })
+    }
+
+    fn dataset(&self) -> &str
+        ensures { result.now ≡ self.now.dataset }
+    {
+        &self.text.as_str()[..self.row_at]
+    }
+
+    fn row(&self) -> &str
+        ensures { result.now ≡ self.now.row }
+    {
+        &self.text.as_str()[self.row_at..self.column_at]
+    }
+
+    fn column(&self) -> &str
+        ensures { result.now ≡ self.now.column }
+    {
+        &self.text.as_str()[self.column_at..]
+    }
 }
 
 fn shared(alloc: Global, names: Names) -> Result<Rc<Names>, NoMemory>
@@ -60,7 +111,7 @@ fn shared(alloc: Global, names: Names) -> Result<Rc<Names>, NoMemory>
 
 impl Field {
     /// The field of these names, which are copied.
-    pub fn make(alloc: Global, dataset: &Txt, row: &Txt, column: &Txt) -> Result<Field, NameFault>
+    pub fn make(alloc: Global, dataset: &str, row: &str, column: &str) -> Result<Field, NameFault>
         ensures names { IfOk result (λ f. f ≡ field_of dataset.now row.now column.now) }
         ensures valid { IfOk result AreNames }
         ensures good { IfOk result (λ f. names_fault f ≡ None) }
@@ -68,48 +119,27 @@ impl Field {
             names_fault (field_of dataset.now row.now column.now) ≡ Some fault) }
     {
         check_names(dataset, row, column)?;
-        let names = Names {
-            dataset: dataset.copy()?,
-            row: row.copy()?,
-            column: column.copy()?,
-        };
+        let names = Names::of(alloc, dataset, row, column)?;
         let names = shared(alloc, names)?;
         Ok(Field { names })
     }
 
-    /// The field of these names. It takes the texts themselves, and drops them where it refuses.
-    pub fn of(alloc: Global, dataset: Txt, row: Txt, column: Txt) -> Result<Field, NameFault>
-        ensures names { IfOk result (λ f. f ≡ field_of dataset row column) }
-        ensures valid { IfOk result AreNames }
-        ensures good { IfOk result (λ f. names_fault f ≡ None) }
-        ensures bad { IfErr result (λ fault. fault ≢ NameFault.NoMemory → names_fault (field_of dataset row column) ≡ Some fault) }
-    {
-        check_names(&dataset, &row, &column)?;
-        let names = Names {
-            dataset,
-            row,
-            column,
-        };
-        let names = shared(alloc, names)?;
-        Ok(Field { names })
-    }
-
-    pub fn dataset(&self) -> &Txt
+    pub fn dataset(&self) -> &str
         ensures { result.now ≡ self.now.dataset }
     {
-        &self.names.as_ref().dataset
+        self.names.as_ref().dataset()
     }
 
-    pub fn row(&self) -> &Txt
+    pub fn row(&self) -> &str
         ensures { result.now ≡ self.now.row }
     {
-        &self.names.as_ref().row
+        self.names.as_ref().row()
     }
 
-    pub fn column(&self) -> &Txt
+    pub fn column(&self) -> &str
         ensures { result.now ≡ self.now.column }
     {
-        &self.names.as_ref().column
+        self.names.as_ref().column()
     }
 
     /// An equal field, in the same memory.
@@ -154,9 +184,9 @@ impl Ord for Field {
 
     fn cmp(&self, other: &Field) -> Ordering {
         self.dataset()
-            .cmp(&other.dataset())
-            .then_with(|| self.row().cmp(&other.row()))
-            .then_with(|| self.column().cmp(&other.column()))
+            .cmp(other.dataset())
+            .then_with(|| self.row().cmp(other.row()))
+            .then_with(|| self.column().cmp(other.column()))
     }
 }
 

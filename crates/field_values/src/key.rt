@@ -76,9 +76,9 @@ impl FieldKey {
     pub fn of(field: &Field) -> Result<FieldKey, NoMemory>
         ensures { IfOk result (λ k. k ≡ field.now) }
     {
-        let dataset_head = head(field.dataset().bytes());
-        let row_head = head(field.row().bytes());
-        let dataset_len = field.dataset().bytes().len();
+        let dataset_head = head(field.dataset().as_bytes());
+        let row_head = head(field.row().as_bytes());
+        let dataset_len = field.dataset().len();
         let field = field.copy()?;
         Ok(FieldKey {
             dataset_head,
@@ -105,7 +105,7 @@ impl FieldKey {
         if self.dataset_len == other.dataset_len && self.dataset_len <= HEAD_BYTES {
             return Ordering::Equal;
         }
-        self.field.dataset().cmp(&other.field.dataset())
+        self.field.dataset().cmp(other.field.dataset())
     }
 
     /// How the rows are ordered. A pointer has to be followed only where their heads are equal.
@@ -115,7 +115,7 @@ impl FieldKey {
         if self.row_head != other.row_head {
             return self.row_head.cmp(&other.row_head);
         }
-        self.field.row().cmp(&other.field.row())
+        self.field.row().cmp(other.field.row())
     }
 }
 
@@ -145,7 +145,7 @@ impl Ord for FieldKey {
     fn cmp(&self, other: &FieldKey) -> Ordering {
         self.dataset_cmp(other)
             .then_with(|| self.row_cmp(other))
-            .then_with(|| self.field.column().cmp(&other.field.column()))
+            .then_with(|| self.field.column().cmp(other.field.column()))
     }
 }
 

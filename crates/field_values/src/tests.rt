@@ -96,10 +96,13 @@ fn fault_of(
     let dataset = Txt::make(alloc, dataset)?;
     let row = Txt::make(alloc, row)?;
     let column = Txt::make(alloc, column)?;
-    match Field::make(alloc, &dataset, &row, &column) {
+    match Field::make(alloc, dataset.as_str(), row.as_str(), column.as_str()) {
         Ok(field) => {
             let copied = field.copy()?;
-            if Field::of(alloc, dataset, row, column)? == copied {
+            let has_names = copied.dataset() == dataset.as_str()
+                && copied.row() == row.as_str()
+                && copied.column() == column.as_str();
+            if has_names && copied == field {
                 Ok(None)
             } else {
                 Ok(Some(NameFault::NoMemory))
