@@ -6,6 +6,8 @@ ghost use Rattle.std.specs.Prelude.{◌≡◌, ◌≤◌};
 mod stdin_source;
 mod stdout_sink;
 mod system_clock;
+#[cfg(test)]
+mod tests;
 
 use budget_ports::{MemoryKeeper, Sink};
 use budget_top::{WordFault, plan, run, status_of};

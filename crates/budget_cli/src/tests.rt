@@ -1,0 +1,111 @@
+use crate::stdin_source::StdinSource;
+use crate::stdout_sink::StdoutSink;
+use crate::system_clock::SystemClock;
+use budget_ports::{Failed, Sink, Source, WallClock};
+use std::cell::Cell;
+use std::io;
+use std::io::{ErrorKind, Read, Write};
+use std::test::Fail;
+use std::time::{Clock, Duration};
+
+/// A clock that is set by hand. Where it isn't set, its time can't be read.
+#[derive(Drop)]
+struct SetClock {
+    time: Cell<Option<Duration>>,
+}
+
+impl Clock for SetClock {
+    fn monotonic(&self) -> io::Result<Duration> {
+        Ok(Duration::ZERO)
+    }
+
+    fn since_1970(&self) -> io::Result<Duration> {
+        match self.time.get() {
+            Some(time) => Ok(time),
+            None => Err(ErrorKind::Other.into()),
+        }
+    }
+}
+
+#[test]
+fn clock_gives_the_last_reading_again(rt: HostRuntime) {
+    let system = SetClock {
+        time: Cell::new(None),
+    };
+    let mut clock = SystemClock::new(&system);
+    let rows = [
+        (None, 0),
+        (
+            Some(Duration::new(1_704_448_800, 1_999_999)),
+            1_704_448_800_001,
+        ),
+        (None, 1_704_448_800_001),
+        // the milliseconds of so many seconds need more than 64 bits
+        (Some(Duration::from_secs(1 << 62)), 1_704_448_800_001),
+        (Some(Duration::from_millis(7)), 7),
+    ];
+    for (time, reading) in rows {
+        system.time.set(time);
+        assert_eq!(rt; clock.now(), reading);
+    }
+}
+
+/// A reader and a writer that always fails.
+#[derive(Drop)]
+struct Broken;
+
+impl Read for Broken {
+    fn read(&mut self, _buffer: &mut [u8]) -> io::Result<usize> {
+        Err(ErrorKind::Other.into())
+    }
+}
+
+impl Write for Broken {
+    fn write(&mut self, _bytes: &[u8]) -> io::Result<usize> {
+        Err(ErrorKind::Other.into())
+    }
+
+    fn flush(&mut self) -> io::Result<()> {
+        Err(ErrorKind::Other.into())
+    }
+}
+
+#[test]
+fn failures_are_told(rt: HostRuntime) {
+    let mut buffer = *b"...";
+    let mut source = StdinSource::new(Broken);
+    assert_eq!(rt; source.read(&mut buffer), Err(Failed));
+    assert_eq!(rt; buffer, *b"...");
+    let mut sink = StdoutSink::new(Broken);
+    assert_eq!(rt; sink.write(b"a"), Err(Failed));
+    assert_eq!(rt; sink.flush(), Err(Failed));
+}
+
+#[test]
+fn bytes_are_handed_on(rt: HostRuntime) -> Result<(), Fail> {
+    let bytes: &[u8] = b"money";
+    let mut source = StdinSource::new(bytes);
+    let mut buffer = *b"...";
+    assert_eq!(rt; source.read(&mut buffer), Ok(3));
+    assert_eq!(rt; buffer, *b"mon");
+    assert_eq!(rt; source.read(&mut buffer), Ok(2));
+    assert_eq!(rt; source.read(&mut buffer), Ok(0));
+    let mut written = Vec::new(rt.alloc());
+    let mut sink = StdoutSink::new(&mut written);
+    assert_eq!(rt; sink.write(b""), Ok(0));
+    assert_eq!(rt; sink.write(b"money"), Ok(5));
+    assert_eq!(rt; sink.flush(), Ok(()));
+    drop(sink);
+    assert_eq!(rt; written.as_slice(), b"money".as_slice());
+    Ok(())
+}
+
+/// A writer that has no room left takes no byte.
+#[test]
+fn no_byte_taken_is_a_failure(rt: HostRuntime) {
+    let mut room = *b"..";
+    let mut sink = StdoutSink::new(room.as_mut_slice());
+    assert_eq!(rt; sink.write(b"abc"), Ok(2));
+    assert_eq!(rt; sink.write(b"c"), Err(Failed));
+    assert_eq!(rt; sink.write(b""), Ok(0));
+}
