@@ -5,6 +5,7 @@ pub mod Standing
 pub mod SoFar
 pub mod Feeding
 pub mod Ending
+pub mod Pieces
 pub mod Running
 pub mod Judging
 pub mod Finding

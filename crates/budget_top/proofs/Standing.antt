@@ -35,6 +35,9 @@ front_then a b c x y h k = record {
   written = Appends-trans a b c x k.front h k.written;
 }
 
+pub front_more : (a b : Option (List ℕ)) (x y : List ℕ) → AppendsFront a b x → AppendsFront a b (x ++ y)
+front_more a b x y h = record { front = h.front; of = part_more h.front x y h.of; written = h.written }
+
 pub front_as : (a b : Option (List ℕ)) (x y : List ℕ) → x ≡ y → AppendsFront a b x → AppendsFront a b y
 front_as a b x y e h = record { front = h.front; of = part_as h.front x y e h.of; written = h.written }
 

@@ -1,9 +1,11 @@
 //! The mode `merge`: joins the messages of the source's lines, and writes the latest message of
 //! each field.
-ghost use Rattle.std.specs.Prelude.{◌≡◌, ◌<◌, ◌≤◌, ◌^◌, List, ℕ, [], false};
-ghost use Rattle.std.specs.Io.KnownBytes.{IsAtEnd};
+ghost use Rattle.std.specs.Prelude.{◌≡◌, ◌<◌, ◌≤◌, ◌^◌, List, ℕ, [], false, OnOk, OnErr, IsErrOf};
+ghost use Rattle.std.specs.Io.KnownBytes.{Appends, IsAtEnd};
+ghost use Rattle.field_merge.specs.Log.{field_text};
 ghost use Rattle.budget_ports.specs.Faults.{Rose};
 ghost use Rattle.budget_top.specs.MergeRun.{MergeRun};
+ghost use Rattle.budget_top.specs.Fronts.{AppendsFront};
 ghost use Rattle.budget_top.specs.Limits.{HasRead};
 ghost use Rattle.budget_top.specs.Steps.{Stands, EndsReading};
 
@@ -167,11 +169,25 @@ impl Merge {
         ensures cause { IsErrOf result Stop.Sink → Rose (W.faults sink.old) (W.faults sink.new) }
     {
         self.end_last(alloc, sink)?;
-        let text = self.log.field_lines()?;
-        write_all(sink, text.bytes())?;
+        write_fields(sink, &self.log)?;
         sink.flush()?;
         Ok(self.has_bad)
     }
+}
+
+/// Writes the lines of the latest message of each field, piece by piece.
+fn write_fields<W: Sink>(sink: &mut W, log: &Log) -> Result<(), Stop>
+    requires { log.now.spent ≡ false }
+    ensures all { OnOk result (Appends (W.taken sink.old) (W.taken sink.new) (field_text log.now.messages)) }
+    ensures front { OnErr result (AppendsFront (W.taken sink.old) (W.taken sink.new) (field_text log.now.messages)) }
+    ensures later { W.faults sink.old ≤ W.faults sink.new }
+    ensures cause { IsErrOf result Stop.Sink → Rose (W.faults sink.old) (W.faults sink.new) }
+{
+    let mut left = log.lines_by_field();
+    'pieces: while let Some(piece) = left.next_piece()? {
+        write_all(sink, piece.bytes())?;
+    }
+    Ok(())
 }
 
 /// Takes the bytes of the source up to its end, at most one past the limit.

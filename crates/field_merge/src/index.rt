@@ -18,6 +18,7 @@ use crate::shared::Shared;
 use field_values::{Field, FieldKey, NoMemory};
 use hybrid_clock::Stamp;
 use std::alloc::Global;
+use std::collections::btree_map::Entry;
 use std::collections::{BTreeMap, BTreeSet};
 
 /// The messages of a log, each under its own timestamp.
@@ -25,15 +26,6 @@ pub(crate) type Messages = BTreeMap<Stamp, Shared>;
 
 /// The latest message of each field.
 pub(crate) type Index = BTreeMap<FieldKey, Shared>;
-
-/// Gives a field a message.
-fn give(index: &mut Index, key: FieldKey, message: &Shared) -> Result<(), NoMemory>
-    ensures { OnOk result ((f : FieldNames) → lookup (is_at (names_cmp f)) index.new.entries
-        ≡ cond (is_at (names_cmp key) f) (Some message.now) (lookup (is_at (names_cmp f)) index.old.entries)) }
-{
-    index.insert(key, message.copy()?)?;
-    Ok(())
-}
 
 /// The message with the names of an equal field, so that its own are not kept.
 fn with_names_of(message: Message, field: &Field) -> Result<Message, NoMemory>
@@ -47,32 +39,29 @@ fn with_names_of(message: Message, field: &Field) -> Result<Message, NoMemory>
     })
 }
 
-/// The message, which shares the names of its field with the index where the
-/// index has it, and whether it is later than the one that is there.
-fn compared(index: &Index, key: &FieldKey, message: Message) -> Result<(Message, bool), NoMemory>
-    requires { key.now ≡ message.field }
-    ensures { IfOk result (λ r. (r.0 ≡ message) × (r.1 ≡ is_newer (lookup (is_at (names_cmp message.field)) index.now.entries) message.stamp)) }
-{
-    let Some((known, before)) = index.get_key_value(key) else {
-        return Ok((message, true));
-    };
-    let is_later = before.message().stamp < message.stamp;
-    let message = with_names_of(message, known.field())?;
-    Ok((message, is_later))
-}
-
 /// Enters a message into the index where it is later than the one of its
-/// field there, and says whether it is.
+/// field there, and says whether it is. Where the index has the field, the
+/// message shares its names.
 fn note(alloc: Global, index: &mut Index, message: Message) -> Result<(Shared, bool), NoMemory>
     ensures { IfOk result (λ r. (r.0 ≡ message) × Notes index.old.entries index.new.entries message r.1) }
 {
     let key = FieldKey::of(&message.field)?;
-    let (message, is_later) = compared(index, &key, message)?;
-    let message = Shared::new(alloc, message)?;
-    if is_later {
-        give(index, key, &message)?;
+    match index.entry(key)? {
+        Entry::Vacant(place) => {
+            let message = Shared::new(alloc, message)?;
+            place.insert(message.copy()?);
+            Ok((message, true))
+        }
+        Entry::Occupied(mut place) => {
+            let is_later = place.get().message().stamp < message.stamp;
+            let message = with_names_of(message, place.key().field())?;
+            let message = Shared::new(alloc, message)?;
+            if is_later {
+                place.insert(message.copy()?);
+            }
+            Ok((message, is_later))
+        }
     }
-    Ok((message, is_later))
 }
 
 /// Puts a message under its timestamp, which no message has yet.

@@ -8,6 +8,7 @@ mod laws;
 mod line;
 mod log;
 mod message;
+mod pieces;
 mod shared;
 
 pub use escape::{bad_escape, push_escaped, unescape};
@@ -17,6 +18,7 @@ pub use laws::{
 pub use line::{LineFault, message_lines, push_line, read_line, read_text, write_line};
 pub use log::{Joined, Log};
 pub use message::Message;
+pub use pieces::FieldLines;
 
 #[cfg(test)]
 mod log_tests;

@@ -1,20 +1,18 @@
+use Rattle.std.proofs.Common.{refl}
 use Rattle.std.proofs.lemmas.Result.{err_from_is_err_and}
-use Rattle.budget_top.proofs.Standing.{front_as, appends_as}
 use Rattle.budget_top.proofs.Ending.{breaks_fields, breaks_flush}
 use Rattle.budget_top.proofs.merge.Merge.finish.Goals as goal
 
-pub returns-in_err-write_all-clause-err : goal.returns-in_err-write_all-clause-err
-returns-in_err-write_all-clause-err g c =
-    let p = err_from_is_err_and c.from_residual-in_err-write_all.result c.from_residual-in_err-write_all.ensures.1 in
+pub returns-in_err-write_fields-clause-err : goal.returns-in_err-write_fields-clause-err
+returns-in_err-write_fields-clause-err g c =
+    let p = err_from_is_err_and c.from_residual-in_err-write_fields.result c.from_residual-in_err-write_fields.ensures.1 in
     rw p.1 (λ entry read h.
-    breaks_fields entry (g.W.Sink.taken c.end_last.new.sink) (g.W.Sink.taken c.write_all.new.sink) read c.in_ok-text.text c.end_last.new.self
-    (c.in_ok-end_last.ensures.ok entry read h) c.in_ok-text.ensures
-    (front_as _ _ c.bytes.result.now c.in_ok-text.text c.bytes.ensures.value c.in_err-write_all.ensures.front))
+    breaks_fields entry (g.W.Sink.taken c.end_last.new.sink) (g.W.Sink.taken c.write_fields.new.sink) read _ c.end_last.new.self
+    (c.in_ok-end_last.ensures.ok entry read h) refl c.in_err-write_fields.ensures.front)
 
 pub returns-in_err-flush-clause-err : goal.returns-in_err-flush-clause-err
 returns-in_err-flush-clause-err g c =
     let p = err_from_is_err_and c.from_residual-in_err-flush.result c.from_residual-in_err-flush.ensures.1 in
     rw p.1 (λ entry read h.
-    breaks_flush entry (g.W.Sink.taken c.end_last.new.sink) (g.W.Sink.taken c.write_all.new.sink) (g.W.Sink.taken c.flush.new.self) read c.in_ok-text.text c.end_last.new.self
-    (c.in_ok-end_last.ensures.ok entry read h) c.in_ok-text.ensures
-    (appends_as _ _ c.bytes.result.now c.in_ok-text.text c.bytes.ensures.value c.in_ok-write_all.ensures.all) c.in_err-flush.ensures.bytes)
+    breaks_flush entry (g.W.Sink.taken c.end_last.new.sink) (g.W.Sink.taken c.write_fields.new.sink) (g.W.Sink.taken c.flush.new.self) read _ c.end_last.new.self
+    (c.in_ok-end_last.ensures.ok entry read h) refl c.in_ok-write_fields.ensures.all c.in_err-flush.ensures.bytes)

@@ -1,0 +1,98 @@
+//! The lines of the latest messages, given piece by piece.
+ghost use Rattle.std.specs.Prelude.{◌≡◌, ◌++◌, ◌<◌, ◌≤◌, List, [], length, IfOk, OnOk, IsTrue, MatchBool, MatchOption, string_bytes};
+ghost use Rattle.std.specs.List.{flat_map};
+ghost use Rattle.field_merge.specs.Messages.{AreMessages, IsMessage};
+ghost use Rattle.field_merge.specs.Log.{ended_line};
+
+use crate::line::push_line;
+use crate::message::Message;
+use crate::shared::Shared;
+use field_values::{FieldKey, NoMemory, Txt};
+use std::alloc::Global;
+use std::collections::btree_map::Values;
+use std::marker::Model;
+
+/// A piece ends with the line by which it has so many bytes.
+const ENOUGH: usize = 1 << 16;
+
+/// Room for a piece.
+const ROOM: usize = ENOUGH + (1 << 12);
+
+/// Messages whose lines were not given yet. A contract sees their list.
+#[derive(Drop)]
+pub struct FieldLines<'a> {
+    alloc: Global,
+    left: Values<'a, FieldKey, Shared>,
+}
+
+impl<'a> Model for FieldLines<'a> {
+    ghost use Rattle.std.specs.Prelude.{List};
+    ghost use Rattle.field_merge.specs.declared.message.Message.{Message};
+    ghost use Rattle.field_merge.specs.Messages.{AreMessages};
+
+    ghost Value = { List Message };
+
+    ghost view = { λ l. l.left };
+
+    ghost invariant = { λ l. AreMessages l.left };
+}
+
+/// Writes the line of a message and a line feed after a text.
+pub(crate) fn push_ended(
+    alloc: Global,
+    text: &mut String,
+    message: &Message,
+) -> Result<(), NoMemory>
+    requires { IsMessage message.now }
+    ensures { OnOk result (string_bytes text.new ≡ string_bytes text.old ++ ended_line message.now) }
+{
+    push_line(alloc, text, message)?;
+    text.push_str("\n")?;
+    Ok(())
+}
+
+/// Writes the line of the first of the messages after a text, where there is one, and says whether there is.
+fn push_first(
+    alloc: Global,
+    text: &mut String,
+    left: &mut Values<'_, FieldKey, Shared>,
+) -> Result<bool, NoMemory>
+    requires { AreMessages left.old }
+    ensures valid { AreMessages left.new }
+    ensures lines { OnOk result (string_bytes text.new ++ flat_map ended_line left.new ≡ string_bytes text.old ++ flat_map ended_line left.old) }
+    ensures fewer { length left.new ≤ length left.old }
+    ensures some { IfOk result (λ some. MatchBool some (length left.new < length left.old) (left.old ≡ [])) }
+{
+    let Some(message) = left.next() else {
+        return Ok(false);
+    };
+    push_ended(alloc, text, message.message())?;
+    Ok(true)
+}
+
+impl<'a> FieldLines<'a> {
+    pub(crate) fn new(alloc: Global, left: Values<'a, FieldKey, Shared>) -> FieldLines<'a>
+        requires { AreMessages left }
+        ensures { result ≡ left.entry }
+    {
+        FieldLines { alloc, left }
+    }
+
+    /// The lines of the next messages, each with a line feed: 64 KiB and the rest of a line, or all that are left. `None` says
+    /// that no message is left.
+    pub fn next_piece(&mut self) -> Result<Option<Txt>, NoMemory>
+        ensures { IfOk result (λ piece. MatchOption piece (self.old ≡ [])
+            (λ text. (flat_map ended_line self.old ≡ text ++ flat_map ended_line self.new) × (length self.new < length self.old))) }
+    {
+        let mut text = String::with_capacity(self.alloc, ROOM)?;
+        if !push_first(self.alloc, &mut text, &mut self.left)? {
+            return Ok(None);
+        }
+        'lines: while text.len() < ENOUGH {
+            if !push_first(self.alloc, &mut text, &mut self.left)? {
+                break;
+            }
+        }
+        Ok(Some(Txt::new(text)))
+    }
+}
