@@ -252,7 +252,7 @@ fn merge_lines<S: Source, W: Sink>(
 
 /// Merges the lines of the source, and answers the status.
 ///
-/// The program ends after a run, so the log isn't taken apart: that would cost a fifth of the time.
+/// The program ends after a run, so the log isn't taken apart.
 pub fn run_merge<S: Source, W: Sink>(alloc: Global, source: &mut S, sink: &mut W) -> u8
     ensures run { MergeRun result (S.left source.old) (S.left source.new) (W.taken sink.old) (W.taken sink.new) }
     ensures source { result ≡ 4 → Rose (S.faults source.old) (S.faults source.new) }
