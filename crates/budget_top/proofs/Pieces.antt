@@ -1,5 +1,6 @@
 -- Lines that are written piece by piece.
-use Rattle.std.proofs.Common.{◌≡◌, ℕ, List, [], ◌++◌, ap, sym, ◌∙◌, Option, append_assoc, append-nil}
+use Rattle.std.proofs.Common.{◌≡◌, ℕ, ◌<◌, List, [], ◌++◌, length, ap, sym, subst, ◌∙◌, Option, Some, append_assoc, append-nil}
+use Rattle.std.specs.Prelude.{MatchOption}
 use Rattle.std.proofs.KnownBytes.{Appends-trans, Appends-nil}
 use Rattle.std.specs.Io.KnownBytes.{Appends}
 use Rattle.std.specs.List.{flat_map}
@@ -36,3 +37,7 @@ pub given_in_part : (a b c : Option (List ℕ)) (left rest ms : List Message) (p
 given_in_part a b c left rest ms piece text g e p f =
     front_as a c (g.given ++ (text ++ flat_map ended_line rest)) (field_text ms) (ap (λ t. g.given ++ t) (sym e) ∙ g.whole)
     (front_then a b c g.given (text ++ flat_map ended_line rest) g.written (front_more b c text (flat_map ended_line rest) (front_as b c piece text p f)))
+
+pub told_piece : (o : Option (List ℕ)) (piece : List ℕ) (left rest : List Message) → o ≡ Some piece → MatchOption o (left ≡ []) (λ text. (flat_map ended_line left ≡ text ++ flat_map ended_line rest) × (length rest < length left)) → flat_map ended_line left ≡ piece ++ flat_map ended_line rest
+told_piece o piece left rest is h =
+    (subst (λ (p : Option (List ℕ)). MatchOption p (left ≡ []) (λ text. (flat_map ended_line left ≡ text ++ flat_map ended_line rest) × (length rest < length left))) is h).0
