@@ -3,8 +3,6 @@ use Rattle.std.proofs.Common.{◌≡◌, ℕ, ◌+◌, List, [], ◌∷◌, ◌+
 use Rattle.std.proofs.lemmas.List.Concat.{flat_map-append}
 use Rattle.std.proofs.lemmas.List.Folds.{list_any-append}
 use Rattle.std.specs.Result.{is_err}
-use Rattle.field_merge.specs.declared.message.Message.{Message}
-use Rattle.field_merge.specs.Log.{join, join_one}
 use Rattle.budget_top.specs.Verdicts.{judged, bad_line, bad_lines, bad_lines_from, is_bad, some_bad, message_in, messages_of}
 
 bad_lines_from-append : (n : ℕ) (ls ks : List (List ℕ)) → bad_lines_from n (ls ++ ks) ≡ bad_lines_from n ls ++ bad_lines_from (n + length ls) ks
@@ -26,14 +24,8 @@ bad_lines-push ls l =
     ∙ ap (λ t. bad_lines ls ++ t) (append-nil (bad_line (1 + length ls) (judged l)))
     ∙ ap (λ k. bad_lines ls ++ bad_line k (judged l)) next
 
-join-join : (ms ns ps : List Message) → join ms (ns ++ ps) ≡ join (join ms ns) ps
-join-join ms [] ps = refl
-join-join ms (n ∷ ns) ps = join-join (join_one ms n) ns ps
-
-pub joined-push : (ls : List (List ℕ)) (l : List ℕ) → join [] (messages_of (ls ++ l ∷ [])) ≡ join (join [] (messages_of ls)) (message_in (judged l))
-joined-push ls l =
-    ap (λ ms. join [] ms) (flat_map-append (λ line. message_in (judged line)) ls (l ∷ []) ∙ ap (λ ms. messages_of ls ++ ms) (append-nil (message_in (judged l))))
-    ∙ join-join [] (messages_of ls) (message_in (judged l))
+pub messages-push : (ls : List (List ℕ)) (l : List ℕ) → messages_of (ls ++ l ∷ []) ≡ messages_of ls ++ message_in (judged l)
+messages-push ls l = flat_map-append (λ line. message_in (judged line)) ls (l ∷ []) ∙ ap (λ ms. messages_of ls ++ ms) (append-nil (message_in (judged l)))
 
 or_false : (a : Bool) → (a || false) ≡ a
 or_false true = refl

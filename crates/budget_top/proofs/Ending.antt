@@ -1,8 +1,9 @@
 -- The end of the input.
-use Rattle.std.proofs.Common.{◌≡◌, ℕ, List, [], ◌∷◌, ◌++◌, refl, ap, sym, ◌∙◌, Option, Some, append-nil}
+use Rattle.std.proofs.Common.{◌≡◌, ℕ, List, [], ◌∷◌, ◌++◌, refl, ap, sym, subst, ◌∙◌, Option, Some, append-nil}
 use Rattle.std.proofs.KnownBytes.{Appends-trans, Appends-kept}
 use Rattle.std.specs.Io.KnownBytes.{Appends, Keeps}
 use Rattle.field_merge.specs.Log.{join, field_text}
+use Rattle.field_merge.specs.Latest.{CameFrom}
 use Rattle.budget_top.specs.declared.merge.Merge.{Merge}
 use Rattle.budget_top.specs.Lines.{whole_lines, last_piece, all_lines, line_if_some}
 use Rattle.budget_top.specs.Verdicts.{bad_lines, messages_of, some_bad, merge_text}
@@ -26,7 +27,7 @@ ended_last entry now then read old new some h k =
     let lines = sym (one_begun read old.line h.line some) in
     record {
       live = k.live;
-      messages = k.messages ∙ ap (λ ls. join [] (messages_of ls)) lines;
+      messages = subst (λ (ls : List (List ℕ)). CameFrom (messages_of ls) new.latest) lines k.messages;
       bad = k.bad ∙ ap some_bad lines;
       written = appends_as entry then _ _ (ap bad_lines lines) k.written;
     }
@@ -36,17 +37,17 @@ breaks_last entry now then read old some h k = front_as entry then _ _ (ap bad_l
 
 -- the fields
 
-fields_text : (read : List ℕ) (m : Merge) (entry now : Option (List ℕ)) (text : List ℕ) → Ended entry now read m → text ≡ field_text m.log.messages → bad_lines (all_lines read) ++ text ≡ merge_text read
-fields_text read m entry now text h is = ap (λ t. bad_lines (all_lines read) ++ t) (is ∙ ap field_text h.messages)
+fields_text : (read : List ℕ) (m : Merge) (entry now : Option (List ℕ)) (text : List ℕ) → Ended entry now read m → text ≡ field_text (join [] (messages_of (all_lines read))) → bad_lines (all_lines read) ++ text ≡ merge_text read
+fields_text read m entry now text h is = ap (λ t. bad_lines (all_lines read) ++ t) is
 
-pub merged : (entry a b c : Option (List ℕ)) (read text : List ℕ) (m : Merge) → Ended entry a read m → text ≡ field_text m.log.messages → Appends a b text → Keeps b c → Appends entry c (merge_text read)
+pub merged : (entry a b c : Option (List ℕ)) (read text : List ℕ) (m : Merge) → Ended entry a read m → text ≡ field_text (join [] (messages_of (all_lines read))) → Appends a b text → Keeps b c → Appends entry c (merge_text read)
 merged entry a b c read text m h is written kept =
     appends_as entry c _ _ (fields_text read m entry a text h is) (Appends-kept entry b c _ (Appends-trans entry a b (bad_lines (all_lines read)) text h.written written) kept)
 
-pub breaks_fields : (entry a b : Option (List ℕ)) (read text : List ℕ) (m : Merge) → Ended entry a read m → text ≡ field_text m.log.messages → AppendsFront a b text → AppendsFront entry b (merge_text read)
+pub breaks_fields : (entry a b : Option (List ℕ)) (read text : List ℕ) (m : Merge) → Ended entry a read m → text ≡ field_text (join [] (messages_of (all_lines read))) → AppendsFront a b text → AppendsFront entry b (merge_text read)
 breaks_fields entry a b read text m h is front =
     front_as entry b _ _ (fields_text read m entry a text h is) (front_then entry a b (bad_lines (all_lines read)) text h.written front)
 
-pub breaks_flush : (entry a b c : Option (List ℕ)) (read text : List ℕ) (m : Merge) → Ended entry a read m → text ≡ field_text m.log.messages → Appends a b text → Keeps b c → AppendsFront entry c (merge_text read)
+pub breaks_flush : (entry a b c : Option (List ℕ)) (read text : List ℕ) (m : Merge) → Ended entry a read m → text ≡ field_text (join [] (messages_of (all_lines read))) → Appends a b text → Keeps b c → AppendsFront entry c (merge_text read)
 breaks_flush entry a b c read text m h is written kept =
     front_as entry c _ _ (append-nil (merge_text read)) (front_all entry c (merge_text read) [] (merged entry a b c read text m h is written kept))

@@ -1,10 +1,12 @@
 -- Where merging stands after one more step.
-use Rattle.std.proofs.Common.{◌≡◌, ℕ, ◌+◌, List, [], ◌∷◌, ◌++◌, refl, ap, sym, ◌∙◌, subst, true, false, ◌||◌, cond, Option, None, Some, length, length-append, arith, append_assoc, append-nil, nat_lt}
+use Rattle.std.proofs.Common.{◌≡◌, ℕ, ◌+◌, List, [], ◌∷◌, ◌++◌, refl, ap, sym, ◌∙◌, subst, Bool, true, false, ◌||◌, cond, Ok, Option, None, Some, length, length-append, arith, append_assoc, append-nil, nat_lt}
 use Rattle.std.proofs.lemmas.Bool.{ltb-true, lt-ltb, cond-true}
 use Rattle.std.proofs.KnownBytes.{Appends-trans, Appends-nil}
 use Rattle.std.specs.Io.KnownBytes.{Appends}
 use Rattle.std.specs.Result.{is_err}
-use Rattle.field_merge.specs.Log.{LogState, join, field_text}
+use Rattle.field_merge.specs.declared.message.Message.{Message}
+use Rattle.field_merge.specs.Log.{join, field_text}
+use Rattle.field_merge.specs.Latest.{CameFrom, LatestState}
 use Rattle.budget_top.specs.declared.merge.Merge.{Merge}
 use Rattle.budget_top.specs.Lines.{IsWithinLine, whole_lines, last_piece, all_lines, line_if_some}
 use Rattle.budget_top.specs.Verdicts.{Verdict, longest_line, judged, judged_short, bad_line, bad_lines, bad_lines_from, messages_of, message_in, some_bad, merge_text}
@@ -12,7 +14,7 @@ use Rattle.budget_top.specs.Kept.{kept, kept_with, judged_kept}
 use Rattle.budget_top.specs.Fronts.{IsFront, AppendsFront}
 use Rattle.budget_top.specs.Steps.{Settles, Stands}
 use Rattle.budget_top.proofs.Cutting.{whole_lines-within, last_piece-within, whole_lines-end, last_piece-end, whole_lines-append}
-use Rattle.budget_top.proofs.Counting.{bad_lines-append, bad_lines-push, joined-push, some_bad-push, length-push}
+use Rattle.budget_top.proofs.Counting.{bad_lines-append, bad_lines-push, messages-push, some_bad-push, length-push}
 
 -- fronts of texts
 
@@ -84,14 +86,28 @@ judged-kept line = elim (nat_lt longest_line (length line)) as (λ t. judged_kep
 
 -- the steps
 
+or_false : (b : Bool) → b ≡ (b || false)
+or_false true = refl
+or_false false = refl
+
+-- the message of a line was taken
+pub settles_good : (old new : Merge) (a : Option (List ℕ)) (verdict : Verdict) (m : Message) → verdict ≡ Ok m → new.latest.spent ≡ false
+    → ((ms : List Message) → CameFrom ms old.latest → CameFrom (ms ++ m ∷ []) new.latest) → new.line ≡ old.line → new.number ≡ old.number → new.has_bad ≡ old.has_bad
+    → Settles old new a a verdict
+settles_good old new a verdict m is live came line number bad =
+    subst (λ (v : Verdict). Settles old new a a v) (sym is)
+    (record { live = live; messages = came; line = line; number = number; bad = bad ∙ or_false old.has_bad; written = Appends-nil a })
+
 pub stands_within : (entry now : Option (List ℕ)) (read bytes : List ℕ) (old new : Merge) → IsWithinLine bytes
-    → new.log ≡ old.log → new.line ≡ kept_with old.line bytes → new.number ≡ old.number → new.has_bad ≡ old.has_bad
+    → new.latest ≡ old.latest → new.line ≡ kept_with old.line bytes → new.number ≡ old.number → new.has_bad ≡ old.has_bad
     → Stands entry now read old → Stands entry now (read ++ bytes) new
-stands_within entry now read bytes old new within log line number bad h =
+stands_within entry now read bytes old new within latest line number bad h =
     let same = sym (whole_lines-within read bytes within) in
     record {
-      live = ap (λ (l : LogState). l.spent) log ∙ h.live;
-      messages = ap (λ (l : LogState). l.messages) log ∙ h.messages ∙ ap (λ ls. join [] (messages_of ls)) same;
+      live = ap (λ (l : LatestState). l.spent) latest ∙ h.live;
+      messages =
+          subst (λ (ls : List (List ℕ)). CameFrom (messages_of ls) new.latest) same
+          (subst (λ (l : LatestState). CameFrom (messages_of (whole_lines read)) l) (sym latest) h.messages);
       line =
           line ∙ ap (λ k. kept_with k bytes) h.line ∙ kept-append (last_piece read) bytes
           ∙ ap kept (sym (last_piece-within read bytes within));
@@ -105,19 +121,17 @@ due : (read : List ℕ) → bad_lines (whole_lines (read ++ 10 ∷ [])) ≡ bad_
 due read = ap bad_lines (whole_lines-end read) ∙ bad_lines-push (whole_lines read) (last_piece read)
 
 pub stands_end : (entry now then : Option (List ℕ)) (read : List ℕ) (old mid new : Merge) (verdict : Verdict) → verdict ≡ judged_kept old.line → Settles old mid now then verdict
-    → new.log ≡ mid.log → new.line ≡ Some [] → new.number ≡ mid.number + 1 → new.has_bad ≡ mid.has_bad
+    → new.latest ≡ mid.latest → new.line ≡ Some [] → new.number ≡ mid.number + 1 → new.has_bad ≡ mid.has_bad
     → Stands entry now read old → Stands entry then (read ++ 10 ∷ []) new
-stands_end entry now then read old mid new verdict judges s log line number bad h =
+stands_end entry now then read old mid new verdict judges s latest line number bad h =
     let is : verdict ≡ judged (last_piece read) = judges ∙ ap judged_kept h.line ∙ judged-kept (last_piece read) in
     let lines = sym (whole_lines-end read) in
     record {
-      live = ap (λ (l : LogState). l.spent) log ∙ s.live;
+      live = ap (λ (l : LatestState). l.spent) latest ∙ s.live;
       messages =
-          ap (λ (l : LogState). l.messages) log ∙ s.messages
-          ∙ ap (λ ms. join ms (message_in verdict)) h.messages
-          ∙ ap (λ v. join (join [] (messages_of (whole_lines read))) (message_in v)) is
-          ∙ sym (joined-push (whole_lines read) (last_piece read))
-          ∙ ap (λ ls. join [] (messages_of ls)) lines;
+          subst (λ (ms : List Message). CameFrom ms new.latest)
+          (ap (λ v. messages_of (whole_lines read) ++ message_in v) is ∙ sym (messages-push (whole_lines read) (last_piece read)) ∙ ap messages_of lines)
+          (subst (λ (l : LatestState). CameFrom (messages_of (whole_lines read) ++ message_in verdict) l) (sym latest) (s.messages (messages_of (whole_lines read)) h.messages));
       line = line ∙ ap kept (sym (last_piece-end read));
       number = omega (arith, number, s.number, h.number, ap length lines, length-push (whole_lines read) (last_piece read));
       bad =

@@ -1,8 +1,9 @@
 -- Where merging stands between two steps.
-use Rattle.std.specs.Prelude.{◌≡◌, ℕ, ◌+◌, ◌≤◌, false, ◌||◌, List, [], length, take, Option}
+use Rattle.std.specs.Prelude.{◌≡◌, ℕ, ◌+◌, ◌≤◌, false, ◌||◌, List, [], ◌++◌, length, take, Option}
 use Rattle.std.specs.Result.{is_err}
 use Rattle.std.specs.Io.KnownBytes.{Appends}
-use Rattle.field_merge.specs.Log.{join}
+use Rattle.field_merge.specs.declared.message.Message.{Message}
+use Rattle.field_merge.specs.Latest.{CameFrom}
 use Rattle.budget_top.specs.declared.merge.Merge.{Merge}
 use Rattle.budget_top.specs.declared.merge.End.{End}
 use Rattle.budget_top.specs.declared.merge.End.TheVariants.{AtEnd, SourceFailed, TooMuch, Stopped}
@@ -14,8 +15,8 @@ use Rattle.budget_top.specs.Limits.{most_input}
 
 -- the line with this verdict was dealt with
 pub record Settles (old new : Merge) (a b : Option (List ℕ)) (verdict : Verdict) : Type 0 where
-  pub live : new.log.spent ≡ false
-  pub messages : new.log.messages ≡ join old.log.messages (message_in verdict)
+  pub live : new.latest.spent ≡ false
+  pub messages : (ms : List Message) → CameFrom ms old.latest → CameFrom (ms ++ message_in verdict) new.latest
   pub line : new.line ≡ old.line
   pub number : new.number ≡ old.number
   pub bad : new.has_bad ≡ (old.has_bad || is_err verdict)
@@ -23,8 +24,8 @@ pub record Settles (old new : Merge) (a b : Option (List ℕ)) (verdict : Verdic
 
 -- these bytes were read, and their whole lines dealt with; the sink held `entry` before
 pub record Stands (entry now : Option (List ℕ)) (read : List ℕ) (m : Merge) : Type 0 where
-  pub live : m.log.spent ≡ false
-  pub messages : m.log.messages ≡ join [] (messages_of (whole_lines read))
+  pub live : m.latest.spent ≡ false
+  pub messages : CameFrom (messages_of (whole_lines read)) m.latest
   pub line : m.line ≡ kept (last_piece read)
   pub number : m.number ≡ length (whole_lines read)
   pub bad : m.has_bad ≡ some_bad (whole_lines read)
@@ -32,8 +33,8 @@ pub record Stands (entry now : Option (List ℕ)) (read : List ℕ) (m : Merge) 
 
 -- all lines were dealt with
 pub record Ended (entry now : Option (List ℕ)) (read : List ℕ) (m : Merge) : Type 0 where
-  pub live : m.log.spent ≡ false
-  pub messages : m.log.messages ≡ join [] (messages_of (all_lines read))
+  pub live : m.latest.spent ≡ false
+  pub messages : CameFrom (messages_of (all_lines read)) m.latest
   pub bad : m.has_bad ≡ some_bad (all_lines read)
   pub written : Appends entry now (bad_lines (all_lines read))
 

@@ -2,7 +2,8 @@
 //! each field.
 ghost use Rattle.std.specs.Prelude.{◌≡◌, ◌<◌, ◌≤◌, ◌^◌, List, ℕ, [], false, OnOk, OnErr, IsErrOf};
 ghost use Rattle.std.specs.Io.KnownBytes.{Appends, IsAtEnd};
-ghost use Rattle.field_merge.specs.Log.{field_text};
+ghost use Rattle.std.specs.List.{flat_map};
+ghost use Rattle.field_merge.specs.Log.{ended_line};
 ghost use Rattle.budget_ports.specs.Faults.{Rose};
 ghost use Rattle.budget_top.specs.MergeRun.{MergeRun};
 ghost use Rattle.budget_top.specs.Fronts.{AppendsFront};
@@ -16,7 +17,7 @@ use crate::stop::Stop;
 use crate::verdict::{Word, bad_line_text};
 use crate::write::write_all;
 use budget_ports::{Sink, Source};
-use field_merge::{Log, Message};
+use field_merge::{FieldLines, LatestMessages, Message};
 use field_values::NoMemory;
 use std::alloc::Global;
 use std::mem;
@@ -24,7 +25,7 @@ use std::mem;
 /// Where merging stands: what the lines so far gave, and the line that has begun.
 #[derive(Drop)]
 pub struct Merge {
-    log: Log,
+    latest: LatestMessages,
     line: Begun,
     /// How many lines have ended.
     number: u64,
@@ -58,7 +59,7 @@ impl Merge {
         ensures { IfOk result (λ merge. (entry : Option (List ℕ)) → Stands entry entry [] merge) }
     {
         Ok(Merge {
-            log: Log::new(alloc)?,
+            latest: LatestMessages::new(alloc)?,
             line: Begun::new(alloc),
             number: 0,
             has_bad: false,
@@ -72,7 +73,7 @@ impl Merge {
         sink: &mut W,
         verdict: Result<Message, Word>,
     ) -> Result<(), Stop>
-        requires live { self.old.log.spent ≡ false }
+        requires live { self.old.latest.spent ≡ false }
         requires few { self.old.number < 2 ^ 60 }
         requires valid { IfOk verdict IsMessage }
         ensures ok { OnOk result (Settles self.old self.new (W.taken sink.old) (W.taken sink.new) verdict) }
@@ -82,7 +83,7 @@ impl Merge {
     {
         match verdict {
             Ok(message) => {
-                self.log.add(message)?;
+                self.latest.add(message)?;
                 Ok(())
             }
             Err(word) => {
@@ -96,11 +97,11 @@ impl Merge {
 
     /// Ends the line that has begun.
     fn end_line<W: Sink>(&mut self, alloc: Global, sink: &mut W) -> Result<(), Stop>
-        requires live { self.old.log.spent ≡ false }
+        requires live { self.old.latest.spent ≡ false }
         requires few { self.old.number < 2 ^ 60 }
         ensures ok { OnOk result ((entry : Option (List ℕ)) (read : List ℕ) → Stands entry (W.taken sink.old) read self.old → Stands entry (W.taken sink.new) (read ++ 10 ∷ []) self.new) }
         ensures err { OnErr result ((entry : Option (List ℕ)) (read : List ℕ) → Stands entry (W.taken sink.old) read self.old → AppendsFront entry (W.taken sink.new) (bad_lines (whole_lines (read ++ 10 ∷ [])))) }
-        ensures live { OnOk result (self.new.log.spent ≡ false) }
+        ensures live { OnOk result (self.new.latest.spent ≡ false) }
         ensures few { OnOk result (self.new.number ≡ self.old.number + 1) }
         ensures later { W.faults sink.old ≤ W.faults sink.new }
         ensures cause { IsErrOf result Stop.Sink → Rose (W.faults sink.old) (W.faults sink.new) }
@@ -116,7 +117,7 @@ impl Merge {
     fn keep(&mut self, bytes: &[u8]) -> Result<(), NoMemory>
         requires { IsWithinLine bytes.now }
         ensures ok { OnOk result ((entry now : Option (List ℕ)) (read : List ℕ) → Stands entry now read self.old → Stands entry now (read ++ bytes.now) self.new) }
-        ensures same { OnOk result ((self.new.log ≡ self.old.log) × (self.new.number ≡ self.old.number)) }
+        ensures same { OnOk result ((self.new.latest ≡ self.old.latest) × (self.new.number ≡ self.old.number)) }
     {
         self.line.push(bytes)?;
         Ok(())
@@ -124,11 +125,11 @@ impl Merge {
 
     /// Deals with the bytes that come next.
     fn feed<W: Sink>(&mut self, alloc: Global, sink: &mut W, bytes: &[u8]) -> Result<(), Stop>
-        requires live { self.old.log.spent ≡ false }
+        requires live { self.old.latest.spent ≡ false }
         requires few { self.old.number + length bytes.now < 2 ^ 60 }
         ensures ok { OnOk result ((entry : Option (List ℕ)) (read : List ℕ) → Stands entry (W.taken sink.old) read self.old → Stands entry (W.taken sink.new) (read ++ bytes.now) self.new) }
         ensures err { OnErr result ((entry : Option (List ℕ)) (read : List ℕ) → Stands entry (W.taken sink.old) read self.old → AppendsFront entry (W.taken sink.new) (bad_lines (whole_lines (read ++ bytes.now)))) }
-        ensures live { OnOk result (self.new.log.spent ≡ false) }
+        ensures live { OnOk result (self.new.latest.spent ≡ false) }
         ensures few { OnOk result (self.new.number ≤ self.old.number + length bytes.now) }
         ensures later { W.faults sink.old ≤ W.faults sink.new }
         ensures cause { IsErrOf result Stop.Sink → Rose (W.faults sink.old) (W.faults sink.new) }
@@ -145,11 +146,11 @@ impl Merge {
 
     /// Deals with a last line that lacks its line feed, where there is one.
     fn end_last<W: Sink>(&mut self, alloc: Global, sink: &mut W) -> Result<(), Stop>
-        requires live { self.old.log.spent ≡ false }
+        requires live { self.old.latest.spent ≡ false }
         requires few { self.old.number < 2 ^ 60 }
         ensures ok { OnOk result ((entry : Option (List ℕ)) (read : List ℕ) → Stands entry (W.taken sink.old) read self.old → Ended entry (W.taken sink.new) read self.new) }
         ensures err { OnErr result ((entry : Option (List ℕ)) (read : List ℕ) → Stands entry (W.taken sink.old) read self.old → AppendsFront entry (W.taken sink.new) (bad_lines (all_lines read))) }
-        ensures live { OnOk result (self.new.log.spent ≡ false) }
+        ensures live { OnOk result (self.new.latest.spent ≡ false) }
         ensures later { W.faults sink.old ≤ W.faults sink.new }
         ensures cause { IsErrOf result Stop.Sink → Rose (W.faults sink.old) (W.faults sink.new) }
     {
@@ -161,7 +162,7 @@ impl Merge {
 
     /// Deals with the end of the input: writes the fields, and hands all on.
     fn finish<W: Sink>(&mut self, alloc: Global, sink: &mut W) -> Result<bool, Stop>
-        requires live { self.old.log.spent ≡ false }
+        requires live { self.old.latest.spent ≡ false }
         requires few { self.old.number < 2 ^ 60 }
         ensures ok { IfOk result (λ has_bad. (entry : Option (List ℕ)) (read : List ℕ) → Stands entry (W.taken sink.old) read self.old → (has_bad ≡ some_bad (all_lines read)) × Appends entry (W.taken sink.new) (merge_text read)) }
         ensures err { OnErr result ((entry : Option (List ℕ)) (read : List ℕ) → Stands entry (W.taken sink.old) read self.old → AppendsFront entry (W.taken sink.new) (merge_text read)) }
@@ -169,21 +170,20 @@ impl Merge {
         ensures cause { IsErrOf result Stop.Sink → Rose (W.faults sink.old) (W.faults sink.new) }
     {
         self.end_last(alloc, sink)?;
-        write_fields(sink, &self.log)?;
+        write_lines(sink, self.latest.lines_by_field())?;
         sink.flush()?;
         Ok(self.has_bad)
     }
 }
 
-/// Writes the lines of the latest message of each field, piece by piece.
-fn write_fields<W: Sink>(sink: &mut W, log: &Log) -> Result<(), Stop>
-    requires { log.now.spent ≡ false }
-    ensures all { OnOk result (Appends (W.taken sink.old) (W.taken sink.new) (field_text log.now.messages)) }
-    ensures front { OnErr result (AppendsFront (W.taken sink.old) (W.taken sink.new) (field_text log.now.messages)) }
+/// Writes lines piece by piece, until none is left.
+fn write_lines<W: Sink>(sink: &mut W, lines: FieldLines<'_>) -> Result<(), Stop>
+    ensures all { OnOk result (Appends (W.taken sink.old) (W.taken sink.new) (flat_map ended_line lines.entry)) }
+    ensures front { OnErr result (AppendsFront (W.taken sink.old) (W.taken sink.new) (flat_map ended_line lines.entry)) }
     ensures later { W.faults sink.old ≤ W.faults sink.new }
     ensures cause { IsErrOf result Stop.Sink → Rose (W.faults sink.old) (W.faults sink.new) }
 {
-    let mut left = log.lines_by_field();
+    let mut left = lines;
     'pieces: while let Some(piece) = left.next_piece()? {
         write_all(sink, piece.bytes())?;
     }
@@ -200,7 +200,7 @@ fn read_all<S: Source, W: Sink>(
     requires fresh { Stands (W.taken sink.old) (W.taken sink.old) [] merge.old }
     ensures ends { (read : List ℕ) × HasRead (S.left source.old) (S.left source.new) read × EndsReading result (W.taken sink.old) (W.taken sink.new) read merge.new }
     ensures at_end { result ≡ End.AtEnd → IsAtEnd (S.left source.new) }
-    ensures live { result ≡ End.AtEnd → merge.new.log.spent ≡ false }
+    ensures live { result ≡ End.AtEnd → merge.new.latest.spent ≡ false }
     ensures few { result ≡ End.AtEnd → merge.new.number < 2 ^ 60 }
     ensures source { result ≡ End.SourceFailed → Rose (S.faults source.old) (S.faults source.new) }
     ensures sink { result ≡ End.Stopped Stop.Sink → Rose (W.faults sink.old) (W.faults sink.new) }
@@ -252,7 +252,7 @@ fn merge_lines<S: Source, W: Sink>(
 
 /// Merges the lines of the source, and answers the status.
 ///
-/// The program ends after a run, so the log isn't taken apart.
+/// The program ends after a run, so what was kept isn't taken apart.
 pub fn run_merge<S: Source, W: Sink>(alloc: Global, source: &mut S, sink: &mut W) -> u8
     ensures run { MergeRun result (S.left source.old) (S.left source.new) (W.taken sink.old) (W.taken sink.new) }
     ensures source { result ≡ 4 → Rose (S.faults source.old) (S.faults source.new) }

@@ -100,7 +100,7 @@ pub join-fresh : (ms : List Message) (n : Message) → list_any (has_stamp n.sta
 join-fresh ms n h = sym (ap (λ b. cond b ms (placed by_stamp ms n)) h)
 
 -- ---- the index
-flips : (r : Ordering) → is_eq (ordering_reverse r) ≡ is_eq r
+pub flips : (r : Ordering) → is_eq (ordering_reverse r) ≡ is_eq r
 flips Less = refl
 flips Equal = refl
 flips Greater = refl

@@ -12,3 +12,4 @@ pub mod Entering
 pub mod Kept
 pub mod Listed
 pub mod LastOnes
+pub mod Coming

@@ -1,7 +1,10 @@
 -- The orders of timestamps and of fields: they are total, and tell all timestamps and all fields apart.
-use Rattle.std.proofs.Common.{◌≡◌, ◌&&◌, refl, sym, ◌∙◌}
+use Rattle.std.proofs.Common.{◌≡◌, ◌&&◌, ◌==◌, ℕ, Bool, true, false, refl, sym, ap, ◌∙◌}
+use Rattle.std.proofs.lemmas.Bool.{eq-eqb, eqb-true}
+use Rattle.field_merge.proofs.Ordered.{equal}
+use Rattle.std.specs.Str.{bytes_eq}
 use Rattle.std.specs.Ordering.{is_eq, ordering_then, nat_cmp}
-use Rattle.std.specs.Cmp.{IsTotalOrder, tied_then}
+use Rattle.std.specs.Cmp.{IsTotalOrder, tied_itself, tied_then}
 use Rattle.std.specs.Cmp.Lexicographic.{slice_cmp}
 use Rattle.std.specs.declared.cmp.Ordering.{Ordering}
 use Rattle.std.specs.declared.cmp.Ordering.TheVariants.{Less, Equal, Greater}
@@ -50,3 +53,27 @@ names_alike f g =
     let tail = tied_then (slice_cmp nat_cmp f.row g.row) (slice_cmp nat_cmp f.column g.column) in
     let whole = tied_then (slice_cmp nat_cmp f.dataset g.dataset) (ordering_then (slice_cmp nat_cmp f.row g.row) (slice_cmp nat_cmp f.column g.column)) in
     sym whole ∙ (λ i. d i && (sym tail ∙ (λ j. r j && c j)) i)
+
+same_truth : (b c : Bool) → (b ≡ true → c ≡ true) → (c ≡ true → b ≡ true) → b ≡ c
+same_truth true c f g = sym (f refl)
+same_truth false true f g = g refl
+same_truth false false f g = refl
+
+itself : (a : ℕ) → is_eq (nat_cmp a a) ≡ true
+itself a = ap is_eq (tied_itself nat_cmp_total a)
+
+nat_alike : (a b : ℕ) → is_eq (nat_cmp a b) ≡ (a == b)
+nat_alike a b =
+    same_truth (is_eq (nat_cmp a b)) (a == b)
+    (λ h. eq-eqb a b (exact_unsigned a b (equal _ h)))
+    (λ h. let same = eqb-true a b h in ap (λ c. is_eq (nat_cmp a c)) (sym same) ∙ itself a)
+
+-- the test for the same timestamp is that of the order
+pub stamps_alike : (s t : Stamp) → ((s.millis == t.millis) && ((s.counter == t.counter) && bytes_eq s.node t.node)) ≡ is_eq (stamp_cmp s t)
+stamps_alike s t =
+    let millis = nat_alike s.millis t.millis in
+    let counter = nat_alike s.counter t.counter in
+    let node = is_eq-slice_cmp s.node t.node in
+    let tail = tied_then (nat_cmp s.counter t.counter) (slice_cmp nat_cmp s.node t.node) in
+    let whole = tied_then (nat_cmp s.millis t.millis) (ordering_then (nat_cmp s.counter t.counter) (slice_cmp nat_cmp s.node t.node)) in
+    sym (sym whole ∙ (λ i. millis i && (sym tail ∙ (λ j. counter j && node j)) i))

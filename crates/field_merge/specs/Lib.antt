@@ -4,3 +4,4 @@ pub mod Lines
 pub mod Log
 pub mod Joining
 pub mod Kept
+pub mod Latest

@@ -4,14 +4,17 @@
 mod escape;
 mod index;
 mod later;
+mod latest_messages;
 mod laws;
 mod line;
 mod log;
 mod message;
 mod pieces;
 mod shared;
+mod valid;
 
 pub use escape::{bad_escape, push_escaped, unescape};
+pub use latest_messages::LatestMessages;
 pub use laws::{
     joined, joined_again, joined_in_any_order, joined_in_turn, latest_message, listed_fields,
 };

@@ -5,13 +5,13 @@ ghost use Rattle.field_values.specs.Names.{names_cmp};
 ghost use Rattle.std.specs.Option.{option_copied, is_none};
 ghost use Rattle.std.specs.BTreeMap.{values};
 ghost use Rattle.field_merge.specs.Messages.{AreMessages, IsMessage};
-ghost use Rattle.field_merge.specs.Log.{IsRising, at_stamp, field_text, fields, join, last_stamp, later, latest};
+ghost use Rattle.field_merge.specs.Log.{IsRising, at_stamp, field_text, join, last_stamp, later, latest};
 ghost use Rattle.field_merge.specs.Joining.{AreChanged};
 
 use crate::index::{Index, Messages, enter, take_in, winner_among};
 use crate::later::copies_after;
 use crate::message::Message;
-use crate::pieces::{FieldLines, push_ended};
+use crate::pieces::push_ended;
 use field_values::{Field, FieldKey, Items, NoMemory, Txt, Value};
 use hybrid_clock::Stamp;
 use std::alloc::Global;
@@ -198,13 +198,5 @@ impl Log {
             push_ended(self.alloc, &mut text, message.message())?;
         }
         Ok(Txt::new(text))
-    }
-
-    /// The latest message of each field, by dataset, row and column, whose lines are then given piece by piece.
-    pub fn lines_by_field(&self) -> FieldLines<'_>
-        requires { self.now.spent ≡ false }
-        ensures { result ≡ fields self.now.messages }
-    {
-        FieldLines::new(self.alloc, self.index.values())
     }
 }

@@ -1,12 +1,12 @@
 //! The lines of the latest messages, given piece by piece.
 ghost use Rattle.std.specs.Prelude.{◌≡◌, ◌++◌, ◌<◌, ◌≤◌, List, [], length, IfOk, OnOk, IsTrue, MatchBool, MatchOption, string_bytes};
 ghost use Rattle.std.specs.List.{flat_map};
-ghost use Rattle.field_merge.specs.Messages.{AreMessages, IsMessage};
+ghost use Rattle.field_merge.specs.Messages.{IsMessage};
 ghost use Rattle.field_merge.specs.Log.{ended_line};
 
 use crate::line::push_line;
 use crate::message::Message;
-use crate::shared::Shared;
+use crate::valid::ValidMessage;
 use field_values::{FieldKey, NoMemory, Txt};
 use std::alloc::Global;
 use std::collections::btree_map::Values;
@@ -22,19 +22,16 @@ const ROOM: usize = ENOUGH + (1 << 12);
 #[derive(Drop)]
 pub struct FieldLines<'a> {
     alloc: Global,
-    left: Values<'a, FieldKey, Shared>,
+    left: Values<'a, FieldKey, ValidMessage>,
 }
 
 impl<'a> Model for FieldLines<'a> {
     ghost use Rattle.std.specs.Prelude.{List};
     ghost use Rattle.field_merge.specs.declared.message.Message.{Message};
-    ghost use Rattle.field_merge.specs.Messages.{AreMessages};
 
     ghost Value = { List Message };
 
     ghost view = { λ l. l.left };
-
-    ghost invariant = { λ l. AreMessages l.left };
 }
 
 /// Writes the line of a message and a line feed after a text.
@@ -55,10 +52,8 @@ pub(crate) fn push_ended(
 fn push_first(
     alloc: Global,
     text: &mut String,
-    left: &mut Values<'_, FieldKey, Shared>,
+    left: &mut Values<'_, FieldKey, ValidMessage>,
 ) -> Result<bool, NoMemory>
-    requires { AreMessages left.old }
-    ensures valid { AreMessages left.new }
     ensures lines { OnOk result (string_bytes text.new ++ flat_map ended_line left.new ≡ string_bytes text.old ++ flat_map ended_line left.old) }
     ensures fewer { length left.new ≤ length left.old }
     ensures some { IfOk result (λ some. MatchBool some (length left.new < length left.old) (left.old ≡ [])) }
@@ -71,8 +66,7 @@ fn push_first(
 }
 
 impl<'a> FieldLines<'a> {
-    pub(crate) fn new(alloc: Global, left: Values<'a, FieldKey, Shared>) -> FieldLines<'a>
-        requires { AreMessages left }
+    pub(crate) fn new(alloc: Global, left: Values<'a, FieldKey, ValidMessage>) -> FieldLines<'a>
         ensures { result ≡ left.entry }
     {
         FieldLines { alloc, left }

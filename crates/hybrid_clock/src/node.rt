@@ -7,7 +7,7 @@ use std::marker::Model;
 
 /// The sixteen characters by which the timestamps of one device differ from all others':
 /// letters and digits of ASCII, where case counts, and not all of them `0`.
-#[derive(Clone, Copy, Debug, PartialEq, Eq, PartialOrd, Ord)]
+#[derive(Clone, Copy, Debug, PartialEq, Eq, PartialOrd, Ord, Hash)]
 pub struct Node {
     bytes: [u8; 16],
 }

@@ -9,7 +9,7 @@ pub(crate) const WINDOW: u64 = 43_046_721;
 /// It is valid (`IsStamp`) where its minute is below 43,046,721 and its node is one that
 /// `Node::make` gives. Timestamps are ordered by time, then by counter, then by node, which
 /// is the order of their texts byte by byte.
-#[derive(Clone, Copy, Debug, PartialEq, Eq)]
+#[derive(Clone, Copy, Debug, PartialEq, Eq, Hash)]
 pub struct Stamp {
     /// Milliseconds since the start of 1970 in UTC.
     pub millis: u64,

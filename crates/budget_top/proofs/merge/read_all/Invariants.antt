@@ -5,7 +5,7 @@ use Rattle.budget_top.proofs.merge.read_all.Given as goal
 abbrev pub invariant-reads : goal.invariant-reads
 invariant-reads g l = record {
   read : SoFar (g.S.Source.left l.initial.source) (g.S.Source.left l.source) (g.W.Sink.taken l.initial.sink) (g.W.Sink.taken l.sink) l.taken l.merge;
-  live : l.merge.log.spent ≡ false;
+  live : l.merge.latest.spent ≡ false;
   few : l.merge.number ≤ l.taken;
   within : l.taken ≤ 1_073_741_824;
   source_later : g.S.Source.faults l.initial.source ≤ g.S.Source.faults l.source;

@@ -6,7 +6,7 @@ abbrev pub invariant-lines : goal.invariant-lines
 invariant-lines g l = record {
   within : l.at ≤ length l.bytes;
   stands : (entry : Option (List ℕ)) (read : List ℕ) → Stands entry (g.W.Sink.taken l.initial.sink) read l.initial.self → Stands entry (g.W.Sink.taken l.sink) (read ++ take l.at l.bytes) l.self;
-  live : l.self.log.spent ≡ false;
+  live : l.self.latest.spent ≡ false;
   few : l.self.number ≤ l.initial.self.number + l.at;
   later : g.W.Sink.faults l.initial.sink ≤ g.W.Sink.faults l.sink;
 }

@@ -1,6 +1,5 @@
 use Rattle.std.proofs.Common.{◌≡◌, ◌++◌, ◌<◌, length, string_bytes}
 use Rattle.std.specs.List.{flat_map}
-use Rattle.field_merge.specs.Messages.{AreMessages}
 use Rattle.field_merge.specs.Log.{ended_line}
 use Rattle.field_merge.proofs.pieces.FieldLines.next_piece.Given as goal
 
@@ -8,7 +7,6 @@ abbrev pub invariant-lines : goal.invariant-lines
 invariant-lines l = record {
   told : string_bytes l.text ++ flat_map ended_line l.self-inside.left ≡ flat_map ended_line l.fn.self;
   fewer : length l.self-inside.left < length l.fn.self;
-  valid : AreMessages l.self-inside.left;
 }
 
 abbrev pub decreases-lines : goal.decreases-lines

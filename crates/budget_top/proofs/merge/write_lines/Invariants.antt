@@ -1,10 +1,10 @@
 use Rattle.std.proofs.Common.{◌≤◌, length}
 use Rattle.budget_top.proofs.Pieces.{IsGiven}
-use Rattle.budget_top.proofs.merge.write_fields.Given as goal
+use Rattle.budget_top.proofs.merge.write_lines.Given as goal
 
 abbrev pub invariant-pieces : goal.invariant-pieces
 invariant-pieces g l = record {
-  given : IsGiven (g.W.Sink.taken l.initial.sink) (g.W.Sink.taken l.sink) l.left l.log.messages;
+  given : IsGiven (g.W.Sink.taken l.initial.sink) (g.W.Sink.taken l.sink) l.left l.fn.lines;
   later : g.W.Sink.faults l.initial.sink ≤ g.W.Sink.faults l.sink;
 }
 
