@@ -68,7 +68,7 @@ latest_there (x ∷ ms) f m h =
     ] refl (sym (latest-cons x ms f) ∙ h)
 
 -- in a rising list no message of the field is later
-abbrev IsUpTo : FieldNames → Message → Message → Type 0
+abbrev pub IsUpTo : FieldNames → Message → Message → Type 0
 IsUpTo f m n = has_field f n ≡ true → is_gt (stamp_cmp n.stamp m.stamp) ≡ false
 
 pub latest_greatest : (ms : List Message) (f : FieldNames) (m : Message) → IsRising ms → latest ms f ≡ Some m → AllByRecursion (IsUpTo f m) ms

@@ -13,3 +13,4 @@ pub mod Kept
 pub mod Listed
 pub mod LastOnes
 pub mod Coming
+pub mod Tidying

@@ -1,21 +1,50 @@
 -- What is kept of messages whose older writes are forgotten.
-use Rattle.std.specs.Prelude.{◌≡◌, List, [], Bool, false}
-use Rattle.std.specs.List.{list_any}
-use Rattle.std.specs.Ordering.{is_eq}
-use Rattle.field_values.specs.Names.{FieldNames}
+use Rattle.std.specs.Prelude.{◌≡◌, List, [], Bool, false, Some}
+use Rattle.std.specs.Cmp.{IsTotalOrder}
+use Rattle.std.proofs.lemmas.Cmp.{back_total, nat_cmp_total, nat_list_cmp_total, on_total, then_total}
+use Rattle.std.specs.List.{Contains, list_any}
+use Rattle.std.specs.Ordering.{is_eq, is_lt, ordering_then}
+use Rattle.std.specs.declared.cmp.Ordering.{Ordering}
+use Rattle.field_values.specs.Names.{FieldNames, names_cmp}
 use Rattle.hybrid_clock.specs.declared.stamp.Stamp.{Stamp}
 use Rattle.hybrid_clock.specs.Order.{stamp_cmp}
 use Rattle.field_merge.specs.declared.message.Message.{Message}
-use Rattle.field_merge.specs.Log.{has_stamp, join}
-use Rattle.field_merge.specs.Kept.{IsIndex}
+use Rattle.field_merge.specs.Messages.{IsMessage}
+use Rattle.field_merge.specs.Log.{IsByField, has_stamp, join, latest}
 
--- the timestamps that came, the index from each field to its latest message, and whether a want of memory has spoilt them
+-- the timestamps that came, messages among which are the latest ones, and whether a want of memory has spoilt them
 pub record LatestState : Type 0 where
   pub stamps : List Stamp
-  pub index : List (FieldNames × Message)
+  pub messages : List Message
   pub spent : Bool
 
--- nothing but the messages ms came: these are their timestamps, and the latest messages of their join
+-- nothing but the messages ms came: these are their timestamps, and the messages are some of their join, the latest one of each field among them
 pub record CameFrom (ms : List Message) (l : LatestState) : Type 0 where
   pub stamps : (s : Stamp) → list_any (λ t. is_eq (stamp_cmp s t)) l.stamps ≡ list_any (has_stamp s) ms
-  pub latest : IsIndex (join [] ms) l.index
+  pub some : (m : Message) → Contains l.messages m → Contains (join [] ms) m
+  pub latest : (m : Message) → latest (join [] ms) m.field ≡ Some m → Contains l.messages m
+
+-- messages by field, those of one field from the latest on
+abbrev pub latest_first : Message → Message → Ordering
+latest_first m n = ordering_then (names_cmp m.field n.field) (stamp_cmp n.stamp m.stamp)
+
+-- `new` has one message for each field of `old`, and none of the field in `old` is later
+pub record KeepsLatest (old new : List Message) : Type 0 where
+  pub in_order : IsByField new
+  pub some : (m : Message) → Contains new m → Contains old m
+  pub covers : (m : Message) → Contains old m → (n : Message) × (Contains new n × (n.field ≡ m.field) × (is_lt (stamp_cmp n.stamp m.stamp) ≡ false))
+
+-- a valid message, and the names of its field
+pub record IsArrival (key : FieldNames) (m : Message) : Type 0 where
+  pub own : key ≡ m.field
+  pub valid : IsMessage m
+
+-- it is an order
+pub latest_first_total : IsTotalOrder latest_first
+latest_first_total =
+    then_total
+    (then_total (on_total (λ (m : Message). m.field.dataset) nat_list_cmp_total)
+    (then_total (on_total (λ (m : Message). m.field.row) nat_list_cmp_total) (on_total (λ (m : Message). m.field.column) nat_list_cmp_total)))
+    (back_total
+    (then_total (on_total (λ (m : Message). m.stamp.millis) nat_cmp_total)
+    (then_total (on_total (λ (m : Message). m.stamp.counter) nat_cmp_total) (on_total (λ (m : Message). m.stamp.node) nat_list_cmp_total))))

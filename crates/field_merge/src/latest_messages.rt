@@ -2,61 +2,51 @@
 ghost use Rattle.std.specs.Prelude.{◌≡◌, ◌∷◌, ◌++◌, [], List, IfOk, OnOk, OnErr, false, true};
 ghost use Rattle.field_merge.specs.declared.message.Message.{Message};
 ghost use Rattle.field_merge.specs.Messages.{IsMessage};
-ghost use Rattle.field_merge.specs.Log.{fields, join};
-ghost use Rattle.field_merge.specs.Kept.{Notes};
-ghost use Rattle.field_merge.specs.Latest.{CameFrom};
+ghost use Rattle.field_merge.specs.Log.{IsByField, fields, join};
+ghost use Rattle.field_merge.specs.Latest.{CameFrom, KeepsLatest};
 
+use crate::arrival::Arrival;
 use crate::message::Message;
 use crate::pieces::FieldLines;
-use crate::valid::ValidMessage;
-use field_values::{FieldKey, NoMemory};
+use field_values::NoMemory;
 use hybrid_clock::Stamp;
 use std::alloc::Global;
-use std::collections::btree_map::Entry;
-use std::collections::{BTreeMap, HashSet};
+use std::collections::HashSet;
 use std::marker::Model;
-
-/// The latest message of each field.
-type LatestIndex = BTreeMap<FieldKey, ValidMessage>;
 
 /// The latest message of each field, for those who want no older ones, in whatever order messages come and however often.
 ///
-/// It takes less memory than a `Log`: of an older message it keeps the timestamp alone, by which a later message with that
-/// timestamp is passed over. After `NoMemory` it is spent.
+/// It takes less memory than a `Log`, and less time: of older messages it keeps the timestamps alone, by which a later message
+/// with one of them is passed over. After `NoMemory` it is spent.
 #[derive(Drop)]
 pub struct LatestMessages {
     alloc: Global,
     stamps: HashSet<Stamp>,
-    index: LatestIndex,
+    /// Messages among which are the latest ones. From time to time they are sorted by field, and the older ones go.
+    came: Vec<Arrival>,
+    /// How many of them are kept before that is done again.
+    most: usize,
     spent: bool,
 }
+
+/// So many messages are kept before older ones are looked for: about as many as the processor's nearer caches hold.
+const FEW: usize = 1 << 11;
 
 impl Model for LatestMessages {
     ghost use Rattle.field_merge.specs.Latest.{LatestState};
 
     ghost Value = { LatestState };
 
-    ghost view = { λ l. record { stamps = l.stamps.keys; index = l.index.entries; spent = l.spent } };
+    ghost view = { λ l. record { stamps = l.stamps.keys; messages = l.came.items; spent = l.spent } };
 }
 
-/// Enters a message where it is later than the one of its field, and says whether it is.
-fn enter_latest(index: &mut LatestIndex, message: ValidMessage) -> Result<bool, NoMemory>
-    ensures { IfOk result (λ wins. Notes index.old.entries index.new.entries message wins) }
+/// Sorts messages by field, and keeps the latest of each field.
+fn keep_latest(came: &mut Vec<Arrival>) -> Result<(), NoMemory>
+    ensures { OnOk result (KeepsLatest came.old.items came.new.items) }
 {
-    let key = FieldKey::of(&message.message().field)?;
-    match index.entry(key)? {
-        Entry::Vacant(place) => {
-            place.insert(message);
-            Ok(true)
-        }
-        Entry::Occupied(mut place) => {
-            let is_later = place.get().message().stamp < message.message().stamp;
-            if is_later {
-                place.insert(message.with_names_of(place.key().field())?);
-            }
-            Ok(is_later)
-        }
-    }
+    came.sort()?;
+    came.dedup_by(|next, kept| next.is_of_field_of(kept));
+    Ok(())
 }
 
 impl LatestMessages {
@@ -68,7 +58,8 @@ impl LatestMessages {
         Ok(LatestMessages {
             alloc,
             stamps: HashSet::new(alloc),
-            index: BTreeMap::new(alloc),
+            came: Vec::new(alloc),
+            most: FEW,
             spent: false,
         })
     }
@@ -80,6 +71,21 @@ impl LatestMessages {
         self.spent
     }
 
+    /// Sorts what came, and lets older messages go.
+    fn tidy(&mut self) -> Result<(), NoMemory>
+        requires { self.old.spent ≡ false }
+        ensures came { OnOk result ((ms : List Message) → CameFrom ms self.old → CameFrom ms self.new) }
+        ensures in_order { OnOk result (IsByField self.new.messages) }
+        ensures kept { OnOk result (self.new.spent ≡ false) }
+        ensures spent { OnErr result (self.new.spent ≡ true) }
+    {
+        self.spent = true;
+        keep_latest(&mut self.came)?;
+        self.most = self.came.len().saturating_mul(2).max(FEW);
+        self.spent = false;
+        Ok(())
+    }
+
     /// Takes one message more. Where its timestamp came before, it is passed over.
     pub fn add(&mut self, message: Message) -> Result<(), NoMemory>
         requires live { self.old.spent ≡ false }
@@ -88,19 +94,35 @@ impl LatestMessages {
         ensures kept { OnOk result (self.new.spent ≡ false) }
         ensures spent { OnErr result (self.new.spent ≡ true) }
     {
+        self.gather(message)?;
+        if self.came.len() < self.most {
+            return Ok(());
+        }
+        self.tidy()
+    }
+
+    /// Takes one message more, and lets none go.
+    fn gather(&mut self, message: Message) -> Result<(), NoMemory>
+        requires live { self.old.spent ≡ false }
+        requires valid { IsMessage message }
+        ensures came { OnOk result ((ms : List Message) → CameFrom ms self.old → CameFrom (ms ++ message ∷ []) self.new) }
+        ensures kept { OnOk result (self.new.spent ≡ false) }
+        ensures spent { OnErr result (self.new.spent ≡ true) }
+    {
         self.spent = true;
         if self.stamps.insert(message.stamp)? {
-            enter_latest(&mut self.index, ValidMessage::new(message))?;
+            self.came.push(Arrival::new(message)?)?;
         }
         self.spent = false;
         Ok(())
     }
 
     /// The latest message of each field, by dataset, row and column, whose lines are then given piece by piece.
-    pub fn lines_by_field(&self) -> FieldLines<'_>
-        requires { self.now.spent ≡ false }
-        ensures { (ms : List Message) → CameFrom ms self.now → result ≡ fields (join [] ms) }
+    pub fn lines_by_field(&mut self) -> Result<FieldLines<'_>, NoMemory>
+        requires { self.old.spent ≡ false }
+        ensures lines { IfOk result (λ lines. (ms : List Message) → CameFrom ms self.old → lines ≡ fields (join [] ms)) }
     {
-        FieldLines::new(self.alloc, self.index.values())
+        self.tidy()?;
+        Ok(FieldLines::new(self.alloc, self.came.iter()))
     }
 }

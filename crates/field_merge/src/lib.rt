@@ -1,6 +1,7 @@
 //! Field messages: their lines, and the log that merges them.
 #![tactic(auto)]
 
+mod arrival;
 mod escape;
 mod index;
 mod later;
@@ -11,7 +12,6 @@ mod log;
 mod message;
 mod pieces;
 mod shared;
-mod valid;
 
 pub use escape::{bad_escape, push_escaped, unescape};
 pub use latest_messages::LatestMessages;

@@ -1,16 +1,17 @@
 //! The lines of the latest messages, given piece by piece.
 ghost use Rattle.std.specs.Prelude.{◌≡◌, ◌++◌, ◌<◌, ◌≤◌, List, [], length, IfOk, OnOk, IsTrue, MatchBool, MatchOption, string_bytes};
 ghost use Rattle.std.specs.List.{flat_map};
+ghost use Rattle.std.specs.Slice.Iter.{iter_rest};
 ghost use Rattle.field_merge.specs.Messages.{IsMessage};
 ghost use Rattle.field_merge.specs.Log.{ended_line};
 
+use crate::arrival::Arrival;
 use crate::line::push_line;
 use crate::message::Message;
-use crate::valid::ValidMessage;
-use field_values::{FieldKey, NoMemory, Txt};
+use field_values::{NoMemory, Txt};
 use std::alloc::Global;
-use std::collections::btree_map::Values;
 use std::marker::Model;
+use std::slice::Iter;
 
 /// A piece ends with the line by which it has so many bytes.
 const ENOUGH: usize = 1 << 16;
@@ -22,16 +23,17 @@ const ROOM: usize = ENOUGH + (1 << 12);
 #[derive(Drop)]
 pub struct FieldLines<'a> {
     alloc: Global,
-    left: Values<'a, FieldKey, ValidMessage>,
+    left: Iter<'a, Arrival>,
 }
 
 impl<'a> Model for FieldLines<'a> {
     ghost use Rattle.std.specs.Prelude.{List};
+    ghost use Rattle.std.specs.Slice.Iter.{iter_rest};
     ghost use Rattle.field_merge.specs.declared.message.Message.{Message};
 
     ghost Value = { List Message };
 
-    ghost view = { λ l. l.left };
+    ghost view = { λ l. iter_rest l.left };
 }
 
 /// Writes the line of a message and a line feed after a text.
@@ -52,11 +54,11 @@ pub(crate) fn push_ended(
 fn push_first(
     alloc: Global,
     text: &mut String,
-    left: &mut Values<'_, FieldKey, ValidMessage>,
+    left: &mut Iter<'_, Arrival>,
 ) -> Result<bool, NoMemory>
-    ensures lines { OnOk result (string_bytes text.new ++ flat_map ended_line left.new ≡ string_bytes text.old ++ flat_map ended_line left.old) }
-    ensures fewer { length left.new ≤ length left.old }
-    ensures some { IfOk result (λ some. MatchBool some (length left.new < length left.old) (left.old ≡ [])) }
+    ensures lines { OnOk result (string_bytes text.new ++ flat_map ended_line (iter_rest left.new) ≡ string_bytes text.old ++ flat_map ended_line (iter_rest left.old)) }
+    ensures fewer { length (iter_rest left.new) ≤ length (iter_rest left.old) }
+    ensures some { IfOk result (λ some. MatchBool some (length (iter_rest left.new) < length (iter_rest left.old)) (iter_rest left.old ≡ [])) }
 {
     let Some(message) = left.next() else {
         return Ok(false);
@@ -66,8 +68,8 @@ fn push_first(
 }
 
 impl<'a> FieldLines<'a> {
-    pub(crate) fn new(alloc: Global, left: Values<'a, FieldKey, ValidMessage>) -> FieldLines<'a>
-        ensures { result ≡ left.entry }
+    pub(crate) fn new(alloc: Global, left: Iter<'a, Arrival>) -> FieldLines<'a>
+        ensures { result ≡ iter_rest left.entry }
     {
         FieldLines { alloc, left }
     }

@@ -1,36 +1,5 @@
-use Rattle.std.proofs.Common.{◌≡◌, [], ◌∷◌, ◌++◌, ◌∙◌, sym, ap, refl, not, true, false, Bool, subst}
-use Rattle.std.specs.Bool.{OnFalse}
-use Rattle.std.specs.Ordering.{is_eq}
-use Rattle.hybrid_clock.specs.declared.stamp.Stamp.{Stamp}
-use Rattle.hybrid_clock.specs.Order.{stamp_cmp}
-use Rattle.field_merge.specs.declared.message.Message.{Message}
-use Rattle.field_merge.specs.Kept.{Notes}
-use Rattle.field_merge.specs.Latest.{CameFrom, LatestState}
-use Rattle.field_merge.proofs.Orders.{stamps_alike}
-use Rattle.field_merge.proofs.Coming.{came_again, came_new, has_in_set, has_more}
+use Rattle.std.proofs.lemmas.Result.{on_ok_weaker}
 use Rattle.field_merge.proofs.latest_messages.LatestMessages.add.Goals as goal
-use Rattle.field_merge.proofs.latest_messages.LatestMessages.add.Goals.{then-branch+in_ok-enter_latest, else-branch}
-
-not_back : (b c : Bool) → b ≡ not c → c ≡ not b
-not_back true true h = h
-not_back true false h = refl
-not_back false true h = refl
-not_back false false h = h
 
 pub returns-clause-came : goal.returns-clause-came
-returns-clause-came c ms came =
-    let before : CameFrom ms (record { stamps = c.self.inside.stamps.keys; index = c.self.inside.index.entries; spent = c.self.inside.spent }) =
-    subst (λ (l : LatestState). CameFrom ms l) (sym c.self.view_is) came in
-    elim c.if-branch.branch [
-      | then-branch+in_ok-enter_latest w ↦
-          rw w.self-inside-is
-          (came_new ms c.args.message _ _ w.in_ok-enter_latest.field-0 before
-          (sym (has_in_set _ stamps_alike c.args.message.stamp c.self.inside.stamps.keys) ∙ not_back _ _ (c.in_ok-insert.ensures.added) ∙ ap not w.if-branch.true)
-          (has_more _ stamps_alike c.args.message c.self.inside.stamps.keys c.insert.new.self.keys (λ s. c.in_ok-insert.ensures.updates.0 s))
-          (subst (λ (m : Message). Notes c.self.inside.index.entries w.enter_latest.new.index.entries m w.in_ok-enter_latest.field-0) w.new.ensures w.in_ok-enter_latest.ensures))
-      | else-branch w ↦
-          rw w.self-inside-is
-          (came_again ms c.args.message _ _ before
-          (sym (has_in_set _ stamps_alike c.args.message.stamp c.self.inside.stamps.keys) ∙ not_back _ _ (c.in_ok-insert.ensures.added) ∙ ap not w.if-branch.false)
-          (subst (λ (b : Bool). OnFalse b (c.insert.new.self.keys ≡ c.self.inside.stamps.keys)) w.if-branch.false c.in_ok-insert.ensures.unchanged) refl)
-    ]
+returns-clause-came c = on_ok_weaker c.tidy.result (λ more ms came. more _ (c.in_ok-gather.ensures.came ms came)) c.tidy.ensures.came

@@ -1,11 +1,11 @@
-use Rattle.std.proofs.Common.{[], ◌∙◌, sym, subst}
-use Rattle.field_merge.specs.Log.{join}
-use Rattle.field_merge.specs.Kept.{IsIndex}
+use Rattle.std.proofs.Common.{◌∙◌, ap}
 use Rattle.field_merge.specs.Latest.{LatestState}
-use Rattle.field_merge.proofs.Listed.{listed}
+use Rattle.field_merge.proofs.Coming.{listed_latest}
 use Rattle.field_merge.proofs.latest_messages.LatestMessages.lines_by_field.Goals as goal
 
 pub returns : goal.returns
-returns c ms came =
-    c.new.ensures ∙ c.values.ensures.rest
-    ∙ listed (join [] ms) c.self.inside.index.entries (subst (λ (l : LatestState). IsIndex (join [] ms) l.index) (sym c.self.view_is) came.latest) c.values.ensures.ordered
+returns c = record {
+  lines = λ ms came.
+      c.new.ensures ∙ c.iter.ensures.rest ∙ c.deref.ensures.value ∙ ap (λ (l : LatestState). l.messages) c.self.view_is
+      ∙ listed_latest ms c.tidy.new.self (c.in_ok-tidy.ensures.came ms came) c.in_ok-tidy.ensures.in_order;
+}
