@@ -2,7 +2,7 @@ ghost use Rattle.std.specs.Prelude.{◌≡◌, IfOk, OnOk, false};
 ghost use Rattle.field_merge.specs.Messages.{IsMessage};
 ghost use Rattle.field_values.specs.Names.{AreNames};
 
-use crate::{Log, Message};
+use crate::{LatestMessages, Log, Message};
 use field_values::{Field, Txt, Value};
 use hybrid_clock::Stamp;
 use std::alloc::Global;
@@ -66,6 +66,26 @@ fn is_new(alloc: Global, log: &mut Log, one: Told) -> Result<bool, Fail>
     Ok(log.add(told(alloc, (one.0, "t", "N:7"))?)?)
 }
 
+/// Whether these are the lines of the latest messages, all in one piece.
+fn gives(latest: &mut LatestMessages, lines: &str) -> Result<bool, Fail>
+    requires { latest.old.spent ≡ false }
+{
+    let mut left = latest.lines_by_field()?;
+    let Some(text) = left.next_piece()? else {
+        return Ok(false);
+    };
+    Ok(text.as_str() == lines && left.next_piece()?.is_none())
+}
+
+/// Whether three messages, one after the other, leave these lines.
+fn leaves(alloc: Global, messages: (Told, Told, Told), lines: &str) -> Result<bool, Fail> {
+    let mut latest = LatestMessages::new(alloc)?;
+    latest.add(told(alloc, messages.0)?)?;
+    latest.add(told(alloc, messages.1)?)?;
+    latest.add(told(alloc, messages.2)?)?;
+    gives(&mut latest, lines)
+}
+
 /// One message is added, then a batch of two is joined: how many were new, how many fields changed, and the lines.
 fn tells(
     alloc: Global,
@@ -77,7 +97,7 @@ fn tells(
     let mut log = log_of(alloc, messages.0)?;
     let counts = join_two(alloc, &mut log, messages.1, messages.2)?;
     let is_right = counts == (added, changed) && log.field_lines()?.as_str() == lines;
-    Ok(is_right && !is_new(alloc, &mut log, messages.0)?)
+    Ok(is_right && leaves(alloc, messages, lines)? && !is_new(alloc, &mut log, messages.0)?)
 }
 
 #[test]
@@ -171,5 +191,23 @@ fn answers(rt: HostRuntime) -> Result<(), Fail> {
         assert_eq!(rt; log.since(text.as_bytes())?.len(), count, "{text}");
     }
     assert!(rt; log.winner(&field(alloc, "s")?).is_none());
+    Ok(())
+}
+
+/// So many writes of one field that the older ones are let go more than once, the latest in the middle.
+#[test]
+fn lets_go(rt: HostRuntime) -> Result<(), Fail> {
+    let alloc = rt.alloc();
+    let mut latest = LatestMessages::new(alloc)?;
+    for millis in 0..5000 {
+        let message = message(alloc, FIRST, "r", "N:1")?;
+        let stamp = Stamp {
+            millis: millis * 7 % 5000,
+            ..message.stamp
+        };
+        latest.add(Message { stamp, ..message })?;
+    }
+    let lines = "1970-01-01T00:00:04.999Z-0000-00000000000000aa\tnotes\tr\tnote\tN:1\n";
+    assert!(rt; gives(&mut latest, lines)?);
     Ok(())
 }
