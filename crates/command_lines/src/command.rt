@@ -156,6 +156,10 @@ fn command_of(alloc: Global, name: &str, words: &mut Words<'_>) -> Result<Comman
 }
 
 /// The command of a line, which stands without its end. The words are judged from left to right.
+///
+/// # Errors
+///
+/// `BadCommand` for the first word that is not of its form, and at 0 for a line above 1,048,576 bytes.
 pub fn read_command(alloc: Global, line: &Txt) -> Result<Command, CommandFault>
     ensures read { IsRead (command line.now) result }
     ensures valid { IfOk result IsCommand }

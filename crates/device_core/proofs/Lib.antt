@@ -7,3 +7,4 @@ pub mod Starting
 pub mod Keeping
 pub mod Writing
 pub mod Tracking
+pub mod ReadBack

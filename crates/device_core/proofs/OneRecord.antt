@@ -1,15 +1,14 @@
 -- What a keeper's records are with one more: those of its group, and all other places.
-use Rattle.std.proofs.Common.{◌≡◌, ◌≢◌, ◌<◌, Bool, true, false, ◌&&◌, cond, List, [], ◌∷◌, map, filter, length, None, Some, is_some, refl, sym, ap, ap₂, ◌∙◌, inl, inr, arith, true≢false, Ordering, Less, Equal, Greater}
-use Rattle.std.specs.Prelude.{T}
+use Rattle.std.proofs.Common.{◌≡◌, ◌≢◌, ◌<◌, Bool, true, false, ◌&&◌, cond, List, [], ◌∷◌, map, filter, length, None, Some, is_some, refl, sym, ap, ap₂, ◌∙◌, inl, inr, arith, Ordering, Less, Equal, Greater}
 use Rattle.std.specs.Ordering.{is_eq, is_lt, ordering_then, ordering_reverse}
 use Rattle.std.specs.Cmp.{tied_itself}
-use Rattle.std.proofs.lemmas.Bool.{and_parts, cases_Bool}
-use Rattle.std.specs.FinMap.{FinMap, find, put, is_sorted, entries, entries_sorted, entries-insert, get, get-entries, get-insert, contains_key, insert}
+use Rattle.std.proofs.lemmas.Bool.{cases_Bool}
+use Rattle.std.specs.FinMap.{FinMap, find, put, entries, entries_sorted, entries-insert, get, get-entries, get-insert, contains_key, insert}
 use Rattle.std.specs.FinMap.Entries.{by_order}
 use Rattle.budget_ports.specs.declared.keeper.Kept.{Kept}
 use Rattle.budget_ports.specs.Contents.{Text, text_cmp, Place, place_cmp, is_in, of_entry, records_of_after, with_record}
 use Rattle.budget_ports.proofs.Maps.{IsRising}
-use Rattle.budget_ports.proofs.Rising.{less_is, is_true, in_order}
+use Rattle.budget_ports.proofs.Rising.{is_true, in_order}
 use Rattle.budget_ports.proofs.Places.{text_total, text_same, place_total, place_same}
 use Rattle.budget_ports.proofs.Scans.{of_group, Above}
 use Rattle.field_merge.proofs.Ordered.{equal}

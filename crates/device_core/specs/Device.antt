@@ -109,11 +109,11 @@ receiving s ns reading (Some stamp) = joined s ns (receive s.clock reading stamp
 abbrev pub received : State → List Message → ℕ → Result Accepted LineRefusal
 received s ns reading = receiving s ns reading (greatest_of ns)
 
--- the clock's time and counter are at least the timestamp's
+-- the clock is not behind the timestamp: its time is later, or the same with at least its counter
 abbrev pub IsUpTo : Stamp → Stamp → Type 0
 IsUpTo clock s = (s.millis < clock.millis) ⊎ ((s.millis ≡ clock.millis) × (s.counter ≤ clock.counter))
 
--- at least those of each message
+-- the clock is not behind a message
 abbrev pub IsAhead : Stamp → List Message → Type 0
 IsAhead clock = AllByRecursion (λ m. IsUpTo clock m.stamp)
 

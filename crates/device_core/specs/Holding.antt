@@ -1,5 +1,5 @@
 -- What a keeper holds of a message set: the records of one group.
-use Rattle.std.specs.Prelude.{◌≡◌, ◌≢◌, ℕ, List, [], map, Ok}
+use Rattle.std.specs.Prelude.{◌≡◌, ◌≢◌, List, [], map, Ok}
 use Rattle.std.specs.FinMap.{get}
 use Rattle.budget_ports.specs.Contents.{Contents, Text, Place, records_after, appended}
 use Rattle.field_merge.specs.declared.message.Message.{Message}

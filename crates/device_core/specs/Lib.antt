@@ -2,3 +2,4 @@ pub mod Records
 pub mod Edits
 pub mod Device
 pub mod Holding
+pub mod ReadBack

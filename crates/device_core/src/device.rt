@@ -74,6 +74,10 @@ impl Device {
     /// A device with this node that begins with the messages that records keep, in any order.
     ///
     /// Its clock goes on after the last of them, and nothing is pending.
+    ///
+    /// # Errors
+    ///
+    /// `BadRecord` for the first record that keeps no message.
     pub fn start(alloc: Global, node: Node, items: &[Kept]) -> Result<Device, StartFault>
         requires { IsNode node }
         ensures messages { IfOk result (λ d. kept_set items.now ≡ Ok d.state.messages) }
@@ -93,7 +97,8 @@ impl Device {
         })
     }
 
-    /// Makes an edit at a reading of the wall clock, and answers how many writes it was.
+    /// Makes an edit at a reading of the wall clock, in milliseconds since 1970, and answers how many
+    /// writes it was. What was pending has to be kept before (`commit`).
     ///
     /// The writes become messages under timestamps in a row, whose records are then pending. An edit
     /// without writes draws no timestamp. The counter of steps counts nothing yet.
@@ -203,7 +208,8 @@ impl Device {
         Ok(())
     }
 
-    /// Receives messages at a reading of the wall clock, and answers how many were new.
+    /// Receives messages at a reading of the wall clock, in milliseconds since 1970, and answers how
+    /// many were new. What was pending has to be kept before (`commit`).
     ///
     /// The clock receives once, by the greatest timestamp. The records of the new messages are then
     /// pending. The counter of steps counts nothing yet.

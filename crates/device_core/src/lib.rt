@@ -10,7 +10,7 @@ mod record;
 
 pub use device::{Device, StartFault};
 pub use edit::{BookEdit, Edit, EditFault, LineRefusal, Write};
-pub use laws::batches_are_kept;
+pub use laws::{batches_are_kept, edits_read_back};
 pub use record::records_read_back;
 
 #[cfg(test)]
