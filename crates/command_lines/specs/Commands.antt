@@ -49,6 +49,7 @@ abbrev pub set_words : Wanted
 set_words = word (λ dataset. word (λ row. word (λ column. word (λ value.
     no_more (Edit (Book (Set dataset row column (value_of value))))))))
 
+-- the message of a timestamp, three names and a value text
 abbrev pub message_of : Stamp → List ℕ → List ℕ → List ℕ → List ℕ → Message
 message_of stamp dataset row column value = record { stamp = stamp; field = field_of dataset row column; value = value_of value }
 
@@ -56,6 +57,7 @@ abbrev pub receive_words : Wanted
 receive_words = stamp_word (λ stamp. name_word Dataset (λ dataset. name_word Row (λ row. name_word Column (λ column. word (λ value.
     no_more (Receive (message_of stamp dataset row column value)))))))
 
+-- `fields`
 abbrev pub fields_words : Wanted
 fields_words = no_more Fields
 
@@ -65,6 +67,7 @@ messages_words = word (λ since. no_more (Messages since))
 abbrev pub value_words : Wanted
 value_words = word (λ dataset. word (λ row. word (λ column. no_more (Value dataset row column))))
 
+-- `trie`
 abbrev pub trie_words : Wanted
 trie_words = no_more Trie
 

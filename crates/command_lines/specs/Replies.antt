@@ -36,6 +36,7 @@ refused_clock (Drift logical reading) = Refused 26 (codes "clock-drift") (decima
 refused_clock (Overflow counter) = Refused 27 (codes "clock-overflow") (decimal counter)
 refused_clock (Beyond reading) = Refused 28 (codes "clock-beyond") (decimal reading)
 
+-- a line that was refused; a want of memory has no reply
 abbrev pub refused : LineRefusal → Option Reply
 refused (Edit fault) = refused_edit fault
 refused (Clock fault) = Some (refused_clock fault)

@@ -68,6 +68,7 @@ stamped s (w ∷ ws) = record { stamp = s; field = w.field; value = w.value } �
 abbrev pub first_of : Stamp → ℕ → Stamp
 first_of clock n = record clock { counter = clock.counter - (n - 1) }
 
+-- writes under the timestamp that the clock drew, or its refusal
 abbrev pub written : State → List Write → Result Stamp ClockFault → Result Accepted LineRefusal
 written s ws (Err fault) = Err (OfClock fault)
 written s ws (Ok clock) = Ok (record { device = with_messages s.messages (stamped (first_of clock (length ws)) ws) clock; count = length ws })
@@ -93,14 +94,17 @@ abbrev pub greatest : Stamp → List Message → Stamp
 greatest s [] = s
 greatest s (m ∷ ms) = greatest (later_of s m.stamp) ms
 
+-- of no messages there is none
 abbrev pub greatest_of : List Message → Option Stamp
 greatest_of [] = None
 greatest_of (m ∷ ms) = Some (greatest m.stamp ms)
 
+-- messages joined where the clock took their greatest timestamp, or its refusal
 abbrev pub joined : State → List Message → Result Stamp ClockFault → Result Accepted LineRefusal
 joined s ns (Err fault) = Err (OfClock fault)
 joined s ns (Ok clock) = Ok (record { device = with_messages s.messages ns clock; count = length (new_in s.messages ns) })
 
+-- messages with this greatest timestamp are received; where there are none, the clock stays as it is
 abbrev pub receiving : State → List Message → ℕ → Option Stamp → Result Accepted LineRefusal
 receiving s ns reading None = Ok (record { device = at_rest s; count = 0 })
 receiving s ns reading (Some stamp) = joined s ns (receive s.clock reading stamp)

@@ -37,5 +37,6 @@ abbrev pub set_of : Result (List Message) ℕ → Result (List Message) ℕ
 set_of (Ok ms) = Ok (join [] ms)
 set_of (Err index) = Err index
 
+-- the message set that records keep, or the place of the first that keeps no message
 abbrev pub kept_set : List Kept → Result (List Message) ℕ
 kept_set rs = set_of (messages_in rs)
