@@ -18,15 +18,17 @@ use std::marker::Model;
 /// the key of a map of many fields.
 #[derive(Debug, Drop)]
 pub struct FieldKey {
-    dataset_head: u128,
-    row_head: u128,
-    row_second: u128,
-    row_third: u128,
-    column_head: u128,
     field: Field,
     dataset_len: u8,
     row_len: u8,
     column_len: u8,
+    dataset_head: u128,
+    row_head: u128,
+    /// The head of the row's bytes from 16 on.
+    row_second: u128,
+    /// The head of the row's bytes from 32 on.
+    row_third: u128,
+    column_head: u128,
 }
 
 /// How many bytes of a text its head has.
@@ -120,15 +122,15 @@ impl FieldKey {
         let column = field.column().as_bytes();
         let copy = field.copy()?;
         Ok(FieldKey {
-            dataset_head: head(dataset),
-            row_head: head(row),
-            row_second: head_at(row, 16),
-            row_third: head_at(row, 32),
-            column_head: head(column),
             field: copy,
             dataset_len: short_len(dataset),
             row_len: short_len(row),
             column_len: short_len(column),
+            dataset_head: head(dataset),
+            row_head: head(row),
+            row_second: head_at(row, HEAD_BYTES),
+            row_third: head_at(row, 2 * HEAD_BYTES),
+            column_head: head(column),
         })
     }
 
