@@ -1,5 +1,6 @@
 -- The head of a text: its first 16 bytes as a number, by which most texts are ordered.
 use Rattle.std.specs.Prelude.{◌≡◌, ℕ, zero, suc, ◌+◌, ◌*◌, ◌<◌, List, [], ◌∷◌, length, drop, slice_index}
+use Rattle.field_values.specs.Names.{FieldNames}
 
 -- the number that n bytes spell after k, the greatest first: the list's, and 0 for each that it does not have
 abbrev pub head_from : ℕ → ℕ → List ℕ → ℕ
@@ -31,6 +32,12 @@ pub record AreHeads (one two three len : ℕ) (text : List ℕ) : Type 0 where
   pub third : three ≡ head_of (drop 32 text)
   pub length : IsShortLength len text
   pub bytes : AreBytes text
+
+-- what a key keeps beside its field: of the dataset, of the row and of the column
+pub record IsKey (dataset dataset_len one two three row_len column column_len : ℕ) (names : FieldNames) : Type 0 where
+  pub of_dataset : IsHead dataset dataset_len names.dataset
+  pub of_row : AreHeads one two three row_len names.row
+  pub of_column : IsHead column column_len names.column
 
 -- the numbers that n bytes spell are below it
 abbrev pub bound : ℕ → ℕ

@@ -45,15 +45,14 @@ const LONG: u8 = 255;
 
 impl Model for FieldKey {
     ghost use Rattle.field_values.specs.Names.{FieldNames};
-    ghost use Rattle.field_values.specs.Heads.{IsHead, AreHeads};
+    ghost use Rattle.field_values.specs.Heads.{IsKey};
 
     ghost Value = { FieldNames };
 
     ghost view = { λ k. k.field };
 
-    ghost invariant = { λ k. IsHead k.dataset_head k.dataset_len k.field.dataset
-        × AreHeads k.row_head k.row_second k.row_third k.row_len k.field.row
-        × IsHead k.column_head k.column_len k.field.column };
+    ghost invariant = { λ k. IsKey k.dataset_head k.dataset_len k.row_head k.row_second k.row_third k.row_len
+        k.column_head k.column_len k.field };
 }
 
 /// The byte at a place, or 0 past the end.
