@@ -177,6 +177,7 @@ by_later m x y xs ys r p q b d same h e =
 -- the answer where the first n bytes tell all
 in_first : (n l m : ℕ) (xs ys : List ℕ) → AreBytes xs → AreBytes ys → head_from n 0 xs ≡ head_from n 0 ys → IsShortLength l xs → IsShortLength m ys → l ≡ m → l ≤ n → n < 255
     → Equal ≡ slice_cmp nat_cmp xs ys
+unfolding IsShortLength
 in_first n l m xs ys b d e long wide f short few =
     let left = long (omega arith) in
     let right = wide (omega arith) in

@@ -16,7 +16,7 @@ abbrev pub AreBytes : List ℕ → Type 0
 AreBytes xs = (k : ℕ) → slice_index xs k < 256
 
 -- a length that a byte keeps: below 255 it is the text's
-abbrev pub IsShortLength : ℕ → List ℕ → Type 0
+unfoldable pub IsShortLength : ℕ → List ℕ → Type 0
 IsShortLength n xs = n < 255 → n ≡ length xs
 
 -- what a key keeps of a text
