@@ -6,7 +6,8 @@ use Rattle.std.specs.Cmp.{nat_cmp_is, ranks}
 use Rattle.std.specs.Cmp.Lexicographic.{slice_cmp}
 use Rattle.std.specs.declared.cmp.Ordering.{Ordering}
 use Rattle.std.specs.declared.cmp.Ordering.TheVariants.{Less, Equal, Greater}
-use Rattle.field_values.specs.Heads.{head_from, head_of, AreBytes, bound}
+use Rattle.std.proofs.Math.Seq.{drop-nil}
+use Rattle.field_values.specs.Heads.{head_from, head_of, AreBytes, bound, IsShortLength, IsHead, AreHeads}
 
 less : (x y : ℕ) → x < y → nat_cmp x y ≡ Less
 less x y h = sym (nat_cmp_is x y Less h)
@@ -120,18 +121,90 @@ level : (xs : List ℕ) → slice_cmp nat_cmp xs xs ≡ Equal
 level [] = refl
 level (x ∷ xs) = rw (equal x x refl) (level xs)
 
--- the answer by heads that differ
-pub by_heads : (x y : ℕ) (xs ys : List ℕ) (r : Ordering) → x ≡ head_of xs → y ≡ head_of ys → AreBytes xs → AreBytes ys → x ≢ y → r ≡ nat_cmp x y → r ≡ slice_cmp nat_cmp xs ys
-by_heads x y xs ys r p q b d h e =
-    let apart : head_of xs ≢ head_of ys = λ same. h (p ∙ same ∙ sym q) in
-    e ∙ ap (λ (w : ℕ). nat_cmp w y) p ∙ ap (λ (w : ℕ). nat_cmp (head_of xs) w) q ∙ sym (ordered 16 0 xs ys b d apart)
+-- m bytes and n more are spelled one after the other
+split : (m n k : ℕ) (xs : List ℕ) → head_from (m + n) k xs ≡ head_from n (head_from m k xs) (drop m xs)
+split zero n k xs = ap (λ (w : ℕ). head_from w k xs) (omega arith)
+split (suc m) n k [] =
+    let one : suc m + n ≡ suc (m + n) = omega arith in
+    rw one (subst (λ (zs : List ℕ). head_from (m + n) (k * 256) [] ≡ head_from n (head_from m (k * 256) []) zs) (drop-nil m) (split m n (k * 256) []))
+split (suc m) n k (x ∷ xs) =
+    let one : suc m + n ≡ suc (m + n) = omega arith in
+    rw one (split m n (k * 256 + x) xs)
 
--- the answer where the heads tell all
-pub in_heads : (x y m n : ℕ) (xs ys : List ℕ) → x ≡ head_of xs → y ≡ head_of ys → AreBytes xs → AreBytes ys → x ≡ y → m ≡ length xs → n ≡ length ys → m ≡ n → m ≤ 16
+-- what is spelled before stands above what n bytes spell
+shift : (n k : ℕ) (xs : List ℕ) → head_from n k xs ≡ k * bound n + head_from n 0 xs
+shift zero k xs = omega arith
+shift (suc n) k [] =
+    let all = shift n (k * 256) [] in
+    omega arith
+shift (suc n) k (x ∷ xs) =
+    let all = shift n (k * 256 + x) xs in
+    let own = shift n (0 * 256 + x) xs in
+    omega arith
+
+-- m bytes and a head after them
+joined : (m : ℕ) (xs : List ℕ) → head_from (m + 16) 0 xs ≡ head_from m 0 xs * bound 16 + head_of (drop m xs)
+joined m xs = split m 16 0 xs ∙ shift 16 (head_from m 0 xs) (drop m xs)
+
+-- numbers that stand as far above two others are ordered as these
+moved : (c x y a b : ℕ) → x ≡ c + a → y ≡ c + b → (o : Ordering) → MatchOrdering o (a < b) (a ≡ b) (b < a) → nat_cmp x y ≡ o
+moved c x y a b p q Less m = let under : a < b = m in less x y (omega arith)
+moved c x y a b p q Equal m = let as_high : a ≡ b = m in equal x y (omega arith)
+moved c x y a b p q Greater m = let over : b < a = m in greater x y (omega arith)
+
+-- where the first m bytes are the same and the heads after them differ, these are ordered as the lists
+later : (m : ℕ) (xs ys : List ℕ) → AreBytes xs → AreBytes ys → head_from m 0 xs ≡ head_from m 0 ys → head_of (drop m xs) ≢ head_of (drop m ys)
+    → slice_cmp nat_cmp xs ys ≡ nat_cmp (head_of (drop m xs)) (head_of (drop m ys))
+later m xs ys b d e apart =
+    let left = joined m xs in
+    let right = joined m ys ∙ ap (λ (w : ℕ). w * bound 16 + head_of (drop m ys)) (sym e) in
+    let differ : head_from (m + 16) 0 xs ≢ head_from (m + 16) 0 ys = λ f. apart (omega (arith, f)) in
+    ordered (m + 16) 0 xs ys b d differ
+    ∙ moved (head_from m 0 xs * bound 16) _ _ (head_of (drop m xs)) (head_of (drop m ys)) left right (nat_cmp (head_of (drop m xs)) (head_of (drop m ys))) (ranks (head_of (drop m xs)) (head_of (drop m ys)))
+
+-- where the first m bytes are the same and the heads after them too, so are the first m + 16
+longer : (m : ℕ) (xs ys : List ℕ) → head_from m 0 xs ≡ head_from m 0 ys → head_of (drop m xs) ≡ head_of (drop m ys) → head_from (m + 16) 0 xs ≡ head_from (m + 16) 0 ys
+longer m xs ys e f =
+    joined m xs ∙ ap (λ (w : ℕ). w * bound 16 + head_of (drop m xs)) e ∙ ap (λ (w : ℕ). head_from m 0 ys * bound 16 + w) f ∙ sym (joined m ys)
+
+-- the answer by heads that differ after m bytes that are the same
+by_later : (m x y : ℕ) (xs ys : List ℕ) (r : Ordering) → x ≡ head_of (drop m xs) → y ≡ head_of (drop m ys) → AreBytes xs → AreBytes ys → head_from m 0 xs ≡ head_from m 0 ys → x ≢ y → r ≡ nat_cmp x y
+    → r ≡ slice_cmp nat_cmp xs ys
+by_later m x y xs ys r p q b d same h e =
+    let apart : head_of (drop m xs) ≢ head_of (drop m ys) = λ f. h (p ∙ f ∙ sym q) in
+    e ∙ ap (λ (w : ℕ). nat_cmp w y) p ∙ ap (λ (w : ℕ). nat_cmp (head_of (drop m xs)) w) q ∙ sym (later m xs ys b d same apart)
+
+-- the answer where the first n bytes tell all
+in_first : (n l m : ℕ) (xs ys : List ℕ) → AreBytes xs → AreBytes ys → head_from n 0 xs ≡ head_from n 0 ys → IsShortLength l xs → IsShortLength m ys → l ≡ m → l ≤ n → n < 255
     → Equal ≡ slice_cmp nat_cmp xs ys
-in_heads x y m n xs ys p q b d e f g long short =
-    let both = same 16 0 0 xs ys b d (sym f ∙ long ∙ g) (omega arith) (sym p ∙ e ∙ q) in
+unfolding IsShortLength
+in_first n l m xs ys b d e long wide f short few =
+    let left = long (omega arith) in
+    let right = wide (omega arith) in
+    let both = same n 0 0 xs ys b d (omega arith) (omega arith) e in
     subst (λ (zs : List ℕ). Equal ≡ slice_cmp nat_cmp xs zs) both.1 (sym (level xs))
+
+pub by_head : {x y l m : ℕ} {xs ys : List ℕ} {r : Ordering} → IsHead x l xs → IsHead y m ys → x ≢ y → r ≡ nat_cmp x y → r ≡ slice_cmp nat_cmp xs ys
+by_head h g apart e = by_later 0 _ _ _ _ _ h.head g.head h.bytes g.bytes refl apart e
+
+pub in_head : {x y l m : ℕ} {xs ys : List ℕ} → IsHead x l xs → IsHead y m ys → x ≡ y → l ≡ m → l ≤ 16 → Equal ≡ slice_cmp nat_cmp xs ys
+in_head h g e long short = in_first 16 _ _ _ _ h.bytes g.bytes (sym h.head ∙ e ∙ g.head) h.length g.length long short (omega arith)
+
+pub by_one : {x y z u v w l m : ℕ} {xs ys : List ℕ} {r : Ordering} → AreHeads x y z l xs → AreHeads u v w m ys → x ≢ u → r ≡ nat_cmp x u → r ≡ slice_cmp nat_cmp xs ys
+by_one h g apart e = by_later 0 _ _ _ _ _ h.first g.first h.bytes g.bytes refl apart e
+
+pub by_two : {x y z u v w l m : ℕ} {xs ys : List ℕ} {r : Ordering} → AreHeads x y z l xs → AreHeads u v w m ys → x ≡ u → y ≢ v → r ≡ nat_cmp y v → r ≡ slice_cmp nat_cmp xs ys
+by_two h g one apart e = by_later 16 _ _ _ _ _ h.second g.second h.bytes g.bytes (sym h.first ∙ one ∙ g.first) apart e
+
+two_same : {x y z u v w l m : ℕ} {xs ys : List ℕ} → AreHeads x y z l xs → AreHeads u v w m ys → x ≡ u → y ≡ v → head_from 32 0 xs ≡ head_from 32 0 ys
+two_same {xs = xs} {ys = ys} h g one two = longer 16 xs ys (sym h.first ∙ one ∙ g.first) (sym h.second ∙ two ∙ g.second)
+
+pub by_three : {x y z u v w l m : ℕ} {xs ys : List ℕ} {r : Ordering} → AreHeads x y z l xs → AreHeads u v w m ys → x ≡ u → y ≡ v → z ≢ w → r ≡ nat_cmp z w → r ≡ slice_cmp nat_cmp xs ys
+by_three h g one two apart e = by_later 32 _ _ _ _ _ h.third g.third h.bytes g.bytes (two_same h g one two) apart e
+
+pub in_three : {x y z u v w l m : ℕ} {xs ys : List ℕ} → AreHeads x y z l xs → AreHeads u v w m ys → x ≡ u → y ≡ v → z ≡ w → l ≡ m → l ≤ 48 → Equal ≡ slice_cmp nat_cmp xs ys
+in_three {xs = xs} {ys = ys} h g one two three long short =
+    in_first 48 _ _ _ _ h.bytes g.bytes (longer 32 xs ys (two_same h g one two) (sym h.third ∙ three ∙ g.third)) h.length g.length long short (omega arith)
 
 -- the number that n bytes from place i on spell after k
 abbrev pub spelled : ℕ → ℕ → ℕ → List ℕ → ℕ

@@ -1,8 +1,8 @@
 //! A field as the key of a map.
-ghost use Rattle.std.specs.Prelude.{◌≡◌, ◌≤◌, length, slice_index, IfOk};
+ghost use Rattle.std.specs.Prelude.{◌≡◌, ◌≤◌, length, drop, slice_index, IfOk};
 ghost use Rattle.std.specs.Ordering.{as_partial_cmp, nat_cmp};
 ghost use Rattle.std.specs.Cmp.Lexicographic.{slice_cmp};
-ghost use Rattle.field_values.specs.Heads.{head_of, AreBytes};
+ghost use Rattle.field_values.specs.Heads.{head_of, AreBytes, IsShortLength};
 ghost use Rattle.std.proofs.Common.{rules};
 ghost use Rattle.std.specs.Cmp.Rules.{comparing};
 ghost use Rattle.std.specs.Cmp.{partial_order_from_own_ties};
@@ -13,28 +13,46 @@ use crate::memory::NoMemory;
 use std::cmp::Ordering;
 use std::marker::Model;
 
-/// A field with the beginnings of its dataset and its row beside it, by which most fields are ordered without a look at their
-/// names. It is equal to another, and ordered, as its field is: the key of a map of many fields.
+/// A field with the beginnings of its names beside it, by which most fields are ordered without a look at the names: the first
+/// 16 bytes of the dataset and of the column, and the first 48 of the row. It is equal to another, and ordered, as its field is:
+/// the key of a map of many fields.
 #[derive(Debug, Drop)]
 pub struct FieldKey {
+    field: Field,
+    dataset_len: u8,
+    row_len: u8,
+    column_len: u8,
     dataset_head: u128,
     row_head: u128,
-    dataset_len: usize,
-    field: Field,
+    /// The head of the row's bytes from 16 on.
+    row_second: u128,
+    /// The head of the row's bytes from 32 on.
+    row_third: u128,
+    column_head: u128,
 }
 
 /// How many bytes of a text its head has.
 const HEAD_BYTES: usize = 16;
 
+/// The greatest length that a head tells.
+const HEAD_LEN: u8 = 16;
+
+/// The greatest length that the three heads of a row tell.
+const ROW_LEN: u8 = 48;
+
+/// Stands for each length from 255 on.
+const LONG: u8 = 255;
+
 impl Model for FieldKey {
     ghost use Rattle.field_values.specs.Names.{FieldNames};
-    ghost use Rattle.field_values.specs.Heads.{AreHeads};
+    ghost use Rattle.field_values.specs.Heads.{IsKey};
 
     ghost Value = { FieldNames };
 
     ghost view = { λ k. k.field };
 
-    ghost invariant = { λ k. AreHeads k.dataset_head k.row_head k.dataset_len k.field.dataset k.field.row };
+    ghost invariant = { λ k. IsKey k.dataset_head k.dataset_len k.row_head k.row_second k.row_third k.row_len
+        k.column_head k.column_len k.field };
 }
 
 /// The byte at a place, or 0 past the end.
@@ -71,20 +89,47 @@ fn head(bytes: &[u8]) -> u128
     head
 }
 
+/// The head of what stands from a place on.
+fn head_at(bytes: &[u8], at: usize) -> u128
+    ensures { result ≡ head_of (drop at bytes.now) }
+{
+    if bytes.len() <= at {
+        0
+    } else {
+        head(&bytes[at..])
+    }
+}
+
+/// The length, or 255 where it is greater.
+fn short_len(bytes: &[u8]) -> u8
+    ensures { IsShortLength result bytes.now }
+{
+    if bytes.len() < LONG as usize {
+        bytes.len() as u8
+    } else {
+        LONG
+    }
+}
+
 impl FieldKey {
     /// The key of a field, whose names it shares.
     pub fn of(field: &Field) -> Result<FieldKey, NoMemory>
         ensures { IfOk result (λ k. k ≡ field.now) }
     {
-        let dataset_head = head(field.dataset().as_bytes());
-        let row_head = head(field.row().as_bytes());
-        let dataset_len = field.dataset().len();
-        let field = field.copy()?;
+        let dataset = field.dataset().as_bytes();
+        let row = field.row().as_bytes();
+        let column = field.column().as_bytes();
+        let copy = field.copy()?;
         Ok(FieldKey {
-            dataset_head,
-            row_head,
-            dataset_len,
-            field,
+            field: copy,
+            dataset_len: short_len(dataset),
+            row_len: short_len(row),
+            column_len: short_len(column),
+            dataset_head: head(dataset),
+            row_head: head(row),
+            row_second: head_at(row, HEAD_BYTES),
+            row_third: head_at(row, 2 * HEAD_BYTES),
+            column_head: head(column),
         })
     }
 
@@ -102,20 +147,42 @@ impl FieldKey {
         if self.dataset_head != other.dataset_head {
             return self.dataset_head.cmp(&other.dataset_head);
         }
-        if self.dataset_len == other.dataset_len && self.dataset_len <= HEAD_BYTES {
+        if self.dataset_len == other.dataset_len && self.dataset_len <= HEAD_LEN {
             return Ordering::Equal;
         }
         self.field.dataset().cmp(other.field.dataset())
     }
 
-    /// How the rows are ordered. A pointer has to be followed only where their heads are equal.
+    /// How the rows are ordered. A pointer has to be followed only where one is longer than 48 bytes and their first 48 are the same.
     fn row_cmp(&self, other: &FieldKey) -> Ordering
         ensures { result ≡ slice_cmp nat_cmp self.now.row other.now.row }
     {
         if self.row_head != other.row_head {
             return self.row_head.cmp(&other.row_head);
         }
+        if self.row_second != other.row_second {
+            return self.row_second.cmp(&other.row_second);
+        }
+        if self.row_third != other.row_third {
+            return self.row_third.cmp(&other.row_third);
+        }
+        if self.row_len == other.row_len && self.row_len <= ROW_LEN {
+            return Ordering::Equal;
+        }
         self.field.row().cmp(other.field.row())
+    }
+
+    /// How the columns are ordered. Mostly no pointer has to be followed.
+    fn column_cmp(&self, other: &FieldKey) -> Ordering
+        ensures { result ≡ slice_cmp nat_cmp self.now.column other.now.column }
+    {
+        if self.column_head != other.column_head {
+            return self.column_head.cmp(&other.column_head);
+        }
+        if self.column_len == other.column_len && self.column_len <= HEAD_LEN {
+            return Ordering::Equal;
+        }
+        self.field.column().cmp(other.field.column())
     }
 }
 
@@ -125,7 +192,7 @@ impl PartialEq for FieldKey {
     ghost laws = { Prim.search (comparing, rules) };
 
     fn eq(&self, other: &FieldKey) -> bool {
-        self.field == other.field
+        self.cmp(other).is_eq()
     }
 }
 
@@ -145,7 +212,7 @@ impl Ord for FieldKey {
     fn cmp(&self, other: &FieldKey) -> Ordering {
         self.dataset_cmp(other)
             .then_with(|| self.row_cmp(other))
-            .then_with(|| self.field.column().cmp(other.field.column()))
+            .then_with(|| self.column_cmp(other))
     }
 }
 
