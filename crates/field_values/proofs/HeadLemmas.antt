@@ -7,7 +7,8 @@ use Rattle.std.specs.Cmp.Lexicographic.{slice_cmp}
 use Rattle.std.specs.declared.cmp.Ordering.{Ordering}
 use Rattle.std.specs.declared.cmp.Ordering.TheVariants.{Less, Equal, Greater}
 use Rattle.std.proofs.Math.Seq.{drop-nil}
-use Rattle.field_values.specs.Heads.{head_from, head_of, AreBytes, bound, IsShortLength, IsHead, AreHeads}
+use Rattle.field_values.specs.Names.{FieldNames}
+use Rattle.field_values.specs.Heads.{head_from, head_of, AreBytes, bound, IsShortLength, IsHead, AreHeads, IsKey, KeepsHeads}
 
 less : (x y : ℕ) → x < y → nat_cmp x y ≡ Less
 less x y h = sym (nat_cmp_is x y Less h)
@@ -183,6 +184,10 @@ in_first n l m xs ys b d e long wide f short few =
     let right = wide (omega arith) in
     let both = same n 0 0 xs ys b d (omega arith) (omega arith) e in
     subst (λ (zs : List ℕ). Equal ≡ slice_cmp nat_cmp xs zs) both.1 (sym (level xs))
+
+pub opened : {d dl x y z l e el : ℕ} {names : FieldNames} → KeepsHeads d dl x y z l e el names → IsKey d dl x y z l e el names
+unfolding KeepsHeads
+opened h = h
 
 pub by_head : {x y l m : ℕ} {xs ys : List ℕ} {r : Ordering} → IsHead x l xs → IsHead y m ys → x ≢ y → r ≡ nat_cmp x y → r ≡ slice_cmp nat_cmp xs ys
 by_head h g apart e = by_later 0 _ _ _ _ _ h.head g.head h.bytes g.bytes refl apart e

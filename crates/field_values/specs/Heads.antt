@@ -39,6 +39,10 @@ pub record IsKey (dataset dataset_len one two three row_len column column_len : 
   pub of_row : AreHeads one two three row_len names.row
   pub of_column : IsHead column column_len names.column
 
+-- the same, which is not unfolded in the crates above
+unfoldable pub KeepsHeads : (dataset dataset_len one two three row_len column column_len : ℕ) → FieldNames → Type 0
+KeepsHeads dataset dataset_len one two three row_len column column_len names = IsKey dataset dataset_len one two three row_len column column_len names
+
 -- the numbers that n bytes spell are below it
 abbrev pub bound : ℕ → ℕ
 bound zero = 1

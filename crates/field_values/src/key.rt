@@ -45,13 +45,13 @@ const LONG: u8 = 255;
 
 impl Model for FieldKey {
     ghost use Rattle.field_values.specs.Names.{FieldNames};
-    ghost use Rattle.field_values.specs.Heads.{IsKey};
+    ghost use Rattle.field_values.specs.Heads.{KeepsHeads};
 
     ghost Value = { FieldNames };
 
     ghost view = { λ k. k.field };
 
-    ghost invariant = { λ k. IsKey k.dataset_head k.dataset_len k.row_head k.row_second k.row_third k.row_len
+    ghost invariant = { λ k. KeepsHeads k.dataset_head k.dataset_len k.row_head k.row_second k.row_third k.row_len
         k.column_head k.column_len k.field };
 }
 
