@@ -1,6 +1,6 @@
 -- What one message more makes of what is kept of those that came.
-use Rattle.std.proofs.Common.{◌≡◌, ◌≢◌, ℕ, zero, suc, ◌+◌, ◌<◌, ◌≤◌, length, List, [], ◌∷◌, ◌++◌, Bool, true, false, ◌||◌, ◌&&◌, ◌⊎◌, inl, inr, cond, Option, None, Some, map, refl, sym, ap, ◌∙◌, subst, arith}
-use Rattle.std.specs.Ordering.{is_eq, is_gt, is_lt, ordering_then}
+use Rattle.std.proofs.Common.{◌≡◌, List, [], ◌∷◌, ◌++◌, Bool, true, false, ◌||◌, ◌&&◌, inl, inr, cond, Option, None, Some, refl, sym, ap, ◌∙◌, subst}
+use Rattle.std.specs.Ordering.{is_eq, is_gt, is_lt}
 use Rattle.std.specs.Option.{is_some, option_or}
 use Rattle.std.specs.Cmp.{tied_itself}
 use Rattle.std.specs.declared.cmp.Ordering.{Ordering}
@@ -11,10 +11,9 @@ use Rattle.field_values.specs.Names.{FieldNames, names_cmp}
 use Rattle.hybrid_clock.specs.declared.stamp.Stamp.{Stamp}
 use Rattle.hybrid_clock.specs.Order.{stamp_cmp}
 use Rattle.field_merge.specs.declared.message.Message.{Message}
-use Rattle.field_merge.specs.Joining.{IsJoin}
 use Rattle.field_merge.specs.Log.{IsByField, IsRising, at_stamp, by_stamp, fields, has_field, has_stamp, join, join_one, latest, placed}
 use Rattle.field_merge.specs.Latest.{CameFrom, KeepsLatest, LatestState}
-use Rattle.field_merge.proofs.Joining.{found, in_turn, is_join, rising, stamp_of}
+use Rattle.field_merge.proofs.Joining.{found, in_turn, rising, stamp_of}
 use Rattle.field_merge.proofs.Kept.{flips, join-fresh, join-there, marked-more}
 use Rattle.field_merge.proofs.Entering.{latest-placed, wins}
 use Rattle.field_merge.proofs.Fields.{field_of, fields_in_order, find-fields}

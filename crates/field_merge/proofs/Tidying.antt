@@ -1,16 +1,15 @@
 -- Sorted by field, and those of one field from the latest on, messages of which the first of each field is kept.
-use Rattle.std.proofs.Common.{◌≡◌, ℕ, zero, suc, ◌+◌, ◌<◌, ◌≤◌, length, get_or, List, [], ◌∷◌, Bool, true, false, cond, ◌⊎◌, inl, inr, map, refl, sym, ap, ◌∙◌, subst, arith}
-use Rattle.std.specs.Ordering.{eq_by_cmp, is_eq, is_lt, ordering_then}
+use Rattle.std.proofs.Common.{◌≡◌, ℕ, zero, suc, ◌+◌, get_or, List, [], ◌∷◌, Bool, true, false, cond, ◌⊎◌, inl, inr, map, refl, sym, ap, ◌∙◌, subst, arith}
+use Rattle.std.specs.Ordering.{is_lt, ordering_then}
 use Rattle.std.specs.Cmp.{IsTotalOrder, tied_itself}
 use Rattle.std.specs.List.{AllByRecursion, Contains, dedup, dedup_from}
-use Rattle.std.specs.List.Sorted.{IsPermutation, IsSorted, IsSortedBy, IsStrictlySortedBy}
+use Rattle.std.specs.List.Sorted.{IsPermutation, IsSorted, IsStrictlySortedBy}
 use Rattle.std.specs.declared.cmp.Ordering.{Ordering}
 use Rattle.std.specs.declared.cmp.Ordering.TheVariants.{Less, Equal, Greater}
 use Rattle.std.proofs.lemmas.Cmp.{back_total, on_total, then_total}
 use Rattle.std.proofs.lemmas.List.Kept.{Contains-from_dedup, IsStrictlySortedBy-dedup}
 use Rattle.std.proofs.lemmas.List.Sorted.{Contains-permutation, IsPermutation-sym, ranks_by, sorted_far}
-use Rattle.field_values.specs.Names.{FieldNames, names_cmp, names_eq}
-use Rattle.hybrid_clock.specs.declared.stamp.Stamp.{Stamp}
+use Rattle.field_values.specs.Names.{names_cmp, names_eq}
 use Rattle.hybrid_clock.specs.Order.{stamp_cmp}
 use Rattle.field_merge.specs.declared.message.Message.{Message}
 use Rattle.field_merge.specs.Log.{IsByField, by_field}
