@@ -1,6 +1,6 @@
 //! The source of the program. It is the edge of what is proved: what the system gives is not told,
 //! but each failure raises a count.
-ghost use Rattle.std.specs.Prelude.{◌≡◌, ◌≤◌, None};
+ghost use Rattle.std.specs.Prelude.{◌≡◌, ◌≤◌, None, OnOk};
 ghost use Rattle.std.specs.Io.{ReadsAtMost};
 ghost use Rattle.std.specs.Io.KnownBytes.{ReadConsumes};
 ghost use Rattle.budget_ports.specs.Faults.{HasCause, Rose};
@@ -47,6 +47,7 @@ impl<R: Read> Source for StdinSource<R> {
         ensures cause { HasCause self.old.faults self.new.faults result }
 
         // what this one does
+        ensures counts { OnOk result (self.new.faults ≡ self.old.faults) }
         ensures reader { ReadConsumes (R.remaining self.old.reader) (R.remaining self.new.reader) result buffer.new }
     {
         match self.reader.read(buffer) {

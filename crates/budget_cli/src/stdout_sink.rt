@@ -1,6 +1,6 @@
 //! The sink of the program. It is the edge of what is proved: what the system takes is not told, but
 //! each failure raises a count.
-ghost use Rattle.std.specs.Prelude.{◌≡◌, ◌≤◌, ◌<◌, length, None, IfOk};
+ghost use Rattle.std.specs.Prelude.{◌≡◌, ◌≤◌, ◌<◌, length, None, IfOk, OnOk};
 ghost use Rattle.std.specs.Io.{WritesAtMost};
 ghost use Rattle.std.specs.Io.KnownBytes.{Keeps, WriteAppends};
 ghost use Rattle.budget_ports.specs.Faults.{HasCause, Rose};
@@ -50,6 +50,7 @@ impl<W: Write> Sink for StdoutSink<W> {
         ensures cause { HasCause self.old.faults self.new.faults result }
 
         // what this one does
+        ensures counts { OnOk result (self.new.faults ≡ self.old.faults) }
         ensures writer { WriteAppends (W.contents self.old.writer) (W.contents self.new.writer) result bytes.now }
     {
         match self.writer.write(bytes) {
@@ -63,6 +64,7 @@ impl<W: Write> Sink for StdoutSink<W> {
         ensures cause { HasCause self.old.faults self.new.faults result }
 
         // what this one does
+        ensures counts { OnOk result (self.new.faults ≡ self.old.faults) }
         ensures writer { Keeps (W.contents self.old.writer) (W.contents self.new.writer) }
     {
         match self.writer.flush() {
