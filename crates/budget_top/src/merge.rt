@@ -170,7 +170,8 @@ impl Merge {
         ensures cause { IsErrOf result Stop.Sink → Rose (W.faults sink.old) (W.faults sink.new) }
     {
         self.end_last(alloc, sink)?;
-        write_lines(sink, self.latest.lines_by_field()?)?;
+        self.latest.tidy()?;
+        write_lines(sink, self.latest.lines_by_field())?;
         sink.flush()?;
         Ok(self.has_bad)
     }

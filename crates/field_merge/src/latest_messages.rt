@@ -71,21 +71,6 @@ impl LatestMessages {
         self.spent
     }
 
-    /// Sorts what came, and lets older messages go.
-    fn tidy(&mut self) -> Result<(), NoMemory>
-        requires { self.old.spent ≡ false }
-        ensures came { OnOk result ((ms : List Message) → CameFrom ms self.old → CameFrom ms self.new) }
-        ensures in_order { OnOk result (IsByField self.new.messages) }
-        ensures kept { OnOk result (self.new.spent ≡ false) }
-        ensures spent { OnErr result (self.new.spent ≡ true) }
-    {
-        self.spent = true;
-        keep_latest(&mut self.came)?;
-        self.most = self.came.len().saturating_mul(2).max(FEW);
-        self.spent = false;
-        Ok(())
-    }
-
     /// Takes one message more. Where its timestamp came before, it is passed over.
     pub fn add(&mut self, message: Message) -> Result<(), NoMemory>
         requires live { self.old.spent ≡ false }
@@ -117,12 +102,28 @@ impl LatestMessages {
         Ok(())
     }
 
-    /// The latest message of each field, by dataset, row and column, whose lines are then given piece by piece.
-    pub fn lines_by_field(&mut self) -> Result<FieldLines<'_>, NoMemory>
-        requires { self.old.spent ≡ false }
-        ensures lines { IfOk result (λ lines. (ms : List Message) → CameFrom ms self.old → lines ≡ fields (join [] ms)) }
+    /// Sorts what came by field, and lets older messages go. It costs time that grows with the messages that are kept.
+    pub fn tidy(&mut self) -> Result<(), NoMemory>
+        requires live { self.old.spent ≡ false }
+        ensures came { OnOk result ((ms : List Message) → CameFrom ms self.old → CameFrom ms self.new) }
+        ensures tidy { OnOk result (IsByField self.new.messages) }
+        ensures kept { OnOk result (self.new.spent ≡ false) }
+        ensures spent { OnErr result (self.new.spent ≡ true) }
     {
-        self.tidy()?;
-        Ok(FieldLines::new(self.alloc, self.came.iter()))
+        self.spent = true;
+        keep_latest(&mut self.came)?;
+        self.most = self.came.len().saturating_mul(2).max(FEW);
+        self.spent = false;
+        Ok(())
+    }
+
+    /// The latest message of each field, by dataset, row and column, whose lines are then given piece by piece. The messages
+    /// have to be tidy.
+    pub fn lines_by_field(&self) -> FieldLines<'_>
+        requires live { self.now.spent ≡ false }
+        requires tidy { IsByField self.now.messages }
+        ensures { (ms : List Message) → CameFrom ms self.now → result ≡ fields (join [] ms) }
+    {
+        FieldLines::new(self.alloc, self.came.iter())
     }
 }

@@ -70,7 +70,8 @@ fn is_new(alloc: Global, log: &mut Log, one: Told) -> Result<bool, Fail>
 fn gives(latest: &mut LatestMessages, lines: &str) -> Result<bool, Fail>
     requires { latest.old.spent ≡ false }
 {
-    let mut left = latest.lines_by_field()?;
+    latest.tidy()?;
+    let mut left = latest.lines_by_field();
     let Some(text) = left.next_piece()? else {
         return Ok(false);
     };

@@ -4,8 +4,6 @@ use Rattle.field_merge.proofs.Coming.{listed_latest}
 use Rattle.field_merge.proofs.latest_messages.LatestMessages.lines_by_field.Goals as goal
 
 pub returns : goal.returns
-returns c = record {
-  lines = λ ms came.
-      c.new.ensures ∙ c.iter.ensures.rest ∙ c.deref.ensures.value ∙ ap (λ (l : LatestState). l.messages) c.self.view_is
-      ∙ listed_latest ms c.tidy.new.self (c.in_ok-tidy.ensures.came ms came) c.in_ok-tidy.ensures.in_order;
-}
+returns c ms came =
+    c.new.ensures ∙ c.iter.ensures.rest ∙ c.deref.ensures.value ∙ ap (λ (l : LatestState). l.messages) c.self.view_is
+    ∙ listed_latest ms c.args.self.now came c.requires.tidy
