@@ -20,7 +20,7 @@ use Rattle.budget_top.specs.declared.session.DeviceStop.{DeviceStop}
 use Rattle.budget_top.specs.declared.session.DeviceStop.TheVariants.{Memory, Keeper, Sink}
 use Rattle.budget_top.specs.Lines.{IsWithinLine, FirstEnd, whole_lines, last_piece, all_lines, line_if_some}
 use Rattle.budget_top.specs.Kept.{kept, kept_with}
-use Rattle.budget_top.specs.Verdicts.{longest_line}
+use Rattle.command_lines.specs.Commands.{longest_line}
 use Rattle.budget_top.specs.Fronts.{AppendsFront}
 use Rattle.budget_top.specs.Session.{Input, asked, asked_kept, obeyed, step, after, replies, some_refused, is_refused}
 use Rattle.budget_top.specs.Seen.{Seen, Holds}

@@ -1,7 +1,8 @@
 -- What is kept of a line that has begun.
 use Rattle.std.specs.Prelude.{ℕ, nat_lt, if◌then◌else◌, List, ◌++◌, length, Option, None, Some, Err}
 use Rattle.budget_top.specs.declared.verdict.Word.TheVariants.{Long}
-use Rattle.budget_top.specs.Verdicts.{Verdict, longest_line, judged_short}
+use Rattle.command_lines.specs.Commands.{longest_line}
+use Rattle.budget_top.specs.Verdicts.{Verdict, judged_short}
 
 -- all of it, or nothing where it is too long
 abbrev pub kept : List ℕ → Option (List ℕ)

@@ -9,13 +9,10 @@ use Rattle.field_merge.specs.declared.line.LineFault.{LineFault}
 use Rattle.field_merge.specs.declared.line.LineFault.TheVariants.{Columns as BadColumns, Escape as BadEscape, Stamp as BadStamp, Name as BadName, NoMemory}
 use Rattle.field_merge.specs.Lines.{reading}
 use Rattle.field_merge.specs.Log.{join, field_text}
+use Rattle.command_lines.specs.Commands.{longest_line}
 use Rattle.budget_top.specs.declared.verdict.Word.{Word}
 use Rattle.budget_top.specs.declared.verdict.Word.TheVariants.{Long, Utf8, Columns, Escape, Stamp, Name}
 use Rattle.budget_top.specs.Lines.{all_lines}
-
--- the most bytes that a line may have
-abbrev pub longest_line : ℕ
-longest_line = 1_048_576
 
 -- a message, or the word for what is wrong with a line
 abbrev pub Verdict : Type 0

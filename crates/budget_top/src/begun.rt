@@ -4,13 +4,11 @@ ghost use Rattle.field_merge.specs.Messages.{IsMessage};
 ghost use Rattle.budget_top.specs.Kept.{judged_kept, kept_with};
 
 use crate::verdict::{Word, judge};
+use command_lines::LONGEST_LINE;
 use field_merge::Message;
 use field_values::NoMemory;
 use std::alloc::Global;
 use std::marker::Model;
-
-/// The most bytes that a line may have.
-const LONGEST: usize = 1_048_576;
 
 /// What was read of a line. A contract sees its bytes, or none where it is too long: then they are
 /// not kept.
@@ -22,12 +20,13 @@ pub struct Begun {
 
 impl Model for Begun {
     ghost use Rattle.std.specs.Prelude.{ℕ, ◌≤◌, List, Option, None, Some, if◌then◌else◌, vec_len};
+    ghost use Rattle.command_lines.specs.Commands.{longest_line};
 
     ghost Value = { Option (List ℕ) };
 
     ghost view = { λ b. if b.is_long then None else Some b.bytes.items };
 
-    ghost invariant = { λ b. vec_len b.bytes ≤ 1_048_576 };
+    ghost invariant = { λ b. vec_len b.bytes ≤ longest_line };
 }
 
 impl Begun {
@@ -48,7 +47,7 @@ impl Begun {
         if self.is_long {
             return Ok(());
         }
-        if bytes.len() > LONGEST - self.bytes.len() {
+        if bytes.len() > LONGEST_LINE - self.bytes.len() {
             self.bytes.clear();
             self.is_long = true;
             return Ok(());

@@ -101,9 +101,13 @@ abbrev pub of_words : List (List ℕ) → Result Command ℕ
 of_words [] = Err 0
 of_words (name ∷ ws) = command_of (line_words name) 0 ws
 
--- the command of a line, or the index of the first of its words that is not of its form: 0 for a line above 1 MiB
+-- the most bytes that a line may have
+abbrev pub longest_line : ℕ
+longest_line = 1_048_576
+
+-- the command of a line, or the index of the first of its words that is not of its form: 0 for a line that is too long
 abbrev pub command : List ℕ → Result Command ℕ
-command line = if nat_lt 1_048_576 (length line) then Err 0 else of_words (parts line)
+command line = if nat_lt longest_line (length line) then Err 0 else of_words (parts line)
 
 -- memory ran out, or this is the index
 abbrev pub IsFault : Result Command ℕ → CommandFault → Type 0

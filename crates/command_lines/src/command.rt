@@ -47,7 +47,7 @@ impl From<NoMemory> for CommandFault {
     }
 }
 
-/// The most bytes that a line has.
+/// The most bytes that a line may have, without its line feed: a line of a device, and a message line that is merged.
 pub const LONGEST_LINE: usize = 1_048_576;
 
 /// The words behind `set`. Its names are judged by the edit.
