@@ -1,17 +1,17 @@
 -- What the calls of a keeper do.
-use Rattle.std.specs.Prelude.{◌≡◌, ◌⊎◌, ℕ, ◌<◌, ◌≤◌, List, [], ◌∷◌, length, Result, IsErrOf}
+use Rattle.std.specs.Prelude.{◌≡◌, ◌⊎◌, ◌<◌, List, [], ◌∷◌, length, Bool, true, false, Result, Ok, Err}
 use Rattle.std.specs.List.{AllByRecursion}
 use Rattle.std.specs.declared.cmp.Ordering.TheVariants.{Less}
-use Rattle.budget_ports.specs.Faults.{Rose}
 use Rattle.budget_ports.specs.declared.keeper.PortFault.{PortFault}
-use Rattle.budget_ports.specs.declared.keeper.PortFault.TheVariants.{Failed}
+use Rattle.budget_ports.specs.declared.keeper.PortFault.TheVariants.{Failed, NoMemory}
 use Rattle.budget_ports.specs.declared.keeper.Kept.{Kept}
 use Rattle.budget_ports.specs.Contents.{Contents, text_cmp}
 
--- the count did not fall, and `Failed` comes only where it rose
-pub record FailsFrom {T : Type 0} (before now : ℕ) (result : Result T PortFault) : Type 0 where
-  pub later : before ≤ now
-  pub failed : IsErrOf result Failed → Rose before now
+-- whether the outside failed: a want of memory is no failure of it
+abbrev pub has_failed : {T : Type 0} → Result T PortFault → Bool
+has_failed (Ok value) = false
+has_failed (Err Failed) = true
+has_failed (Err NoMemory) = false
 
 -- each key has at least one byte
 abbrev pub HaveKeys : List Kept → Type 0

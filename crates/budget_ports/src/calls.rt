@@ -1,6 +1,7 @@
 //! The count of calls that the objects in memory share.
 ghost use Rattle.std.specs.Prelude.{◌≡◌, ◌↔◌, ◌||◌, not, IsTrue, IsErr, OnOk, OnErr};
-ghost use Rattle.budget_ports.specs.Faults.{HasCause};
+ghost use Rattle.std.specs.Result.{is_err};
+ghost use Rattle.budget_ports.specs.Faults.{count_after};
 ghost use Rattle.budget_ports.specs.Calls.{no_calls, is_listed, answered, failed};
 
 use crate::stream::Failed;
@@ -41,7 +42,7 @@ impl Calls {
         ensures fails { IsErr result ↔ IsTrue (is_listed self.old || not possible) }
         ensures ok { OnOk result (self.new ≡ answered self.old) }
         ensures err { OnErr result (self.new ≡ failed self.old) }
-        ensures cause { HasCause self.old.faults self.new.faults result }
+        ensures count { self.new.faults ≡ count_after (is_err result) self.old.faults }
     {
         let fails = self.listed.contains(&self.made) || !possible;
         self.made = self.made.saturating_add(1);

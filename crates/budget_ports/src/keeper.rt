@@ -1,8 +1,9 @@
 //! Where records and texts are kept.
 ghost use Rattle.std.specs.Prelude.{◌≡◌, ℕ, IfOk, OnOk, OnErr};
 ghost use Rattle.std.specs.FinMap as map;
+ghost use Rattle.budget_ports.specs.Faults.{count_after};
 ghost use Rattle.budget_ports.specs.Contents.{Contents, records_after, appended, with_text};
-ghost use Rattle.budget_ports.specs.Keeper.{FailsFrom, Commits, LeavesNoMore, Only, Rise, HaveKeys};
+ghost use Rattle.budget_ports.specs.Keeper.{has_failed, Commits, LeavesNoMore, Only, Rise, HaveKeys};
 ghost use Rattle.budget_ports.specs.declared.keeper.PortFault.TheVariants.{Failed as HasFailed, NoMemory as OutOfMemory};
 
 use crate::stream::Failed;
@@ -74,7 +75,7 @@ pub trait Keeper {
     /// The contents that a stop at this moment may leave.
     ghost left: { Self → Contents → Type 0 };
 
-    /// How often a call has failed. The count never falls.
+    /// How often a call has answered `Failed`: such a call counts once, and any other not.
     ghost faults: { Self → ℕ };
 
     /// Adds to a group the records whose key is not there. Of several with one key the first counts.
@@ -88,7 +89,7 @@ pub trait Keeper {
         ensures err { tells self.new → OnErr result (contents self.new ≡ contents self.old) }
         ensures left { Commits (left self.old) (left self.new) (appended (contents self.old) group.now batch.now) }
         ensures alone { tells self.new → OnOk result (Only (contents self.new) (left self.new)) }
-        ensures cause { FailsFrom (faults self.old) (faults self.new) result };
+        ensures count { faults self.new ≡ count_after (has_failed result) (faults self.old) };
 
     /// The records of a group whose key is above `after`, by key.
     ///
@@ -100,7 +101,7 @@ pub trait Keeper {
         ensures rise { IfOk result Rise }
         ensures same { tells self.new → contents self.new ≡ contents self.old }
         ensures left { LeavesNoMore (left self.old) (left self.new) }
-        ensures cause { FailsFrom (faults self.old) (faults self.new) result };
+        ensures count { faults self.new ≡ count_after (has_failed result) (faults self.old) };
 
     /// Puts a text under a name, in place of the one that was there.
     ///
@@ -111,7 +112,7 @@ pub trait Keeper {
         ensures err { tells self.new → OnErr result (contents self.new ≡ contents self.old) }
         ensures left { Commits (left self.old) (left self.new) (with_text (contents self.old) name.now text.now) }
         ensures alone { tells self.new → OnOk result (Only (contents self.new) (left self.new)) }
-        ensures cause { FailsFrom (faults self.old) (faults self.new) result };
+        ensures count { faults self.new ≡ count_after (has_failed result) (faults self.old) };
 
     /// The text under a name, if there is one.
     fn get(&mut self, name: &Txt) -> Result<Option<Txt>, PortFault>
@@ -119,7 +120,7 @@ pub trait Keeper {
         ensures text { tells self.new → IfOk result (λ text. text ≡ map.get (contents self.old).texts name.now) }
         ensures same { tells self.new → contents self.new ≡ contents self.old }
         ensures left { LeavesNoMore (left self.old) (left self.new) }
-        ensures cause { FailsFrom (faults self.old) (faults self.new) result };
+        ensures count { faults self.new ≡ count_after (has_failed result) (faults self.old) };
 
     /// The names that have a text, byte by byte in order.
     fn names(&mut self) -> Result<Items<Txt>, PortFault>
@@ -127,5 +128,5 @@ pub trait Keeper {
         ensures names { tells self.new → IfOk result (λ names. names ≡ map.keys (contents self.old).texts) }
         ensures same { tells self.new → contents self.new ≡ contents self.old }
         ensures left { LeavesNoMore (left self.old) (left self.new) }
-        ensures cause { FailsFrom (faults self.old) (faults self.new) result };
+        ensures count { faults self.new ≡ count_after (has_failed result) (faults self.old) };
 }

@@ -1,9 +1,10 @@
 //! A keeper in memory, for tests.
 ghost use Rattle.std.specs.Prelude.{◌≡◌, ◌↔◌, [], IsTrue, IsErrOf, IfOk, OnOk, OnErr};
 ghost use Rattle.std.specs.FinMap as map;
+ghost use Rattle.budget_ports.specs.Faults.{count_after};
 ghost use Rattle.budget_ports.specs.Calls.{no_calls, is_listed};
 ghost use Rattle.budget_ports.specs.Contents.{Contents, nothing, records_after, appended, with_text};
-ghost use Rattle.budget_ports.specs.Keeper.{FailsFrom, Commits, LeavesNoMore, Only, Rise, HaveKeys};
+ghost use Rattle.budget_ports.specs.Keeper.{has_failed, Commits, LeavesNoMore, Only, Rise, HaveKeys};
 ghost use Rattle.budget_ports.specs.KeeperState.{counted, holds};
 ghost use Rattle.budget_ports.specs.declared.keeper.PortFault.TheVariants.{Failed as HasFailed};
 
@@ -73,7 +74,7 @@ impl Keeper for MemoryKeeper {
         ensures err { OnErr result (self.new.contents ≡ self.old.contents) }
         ensures left { Commits (holds self.old) (holds self.new) (appended self.old.contents group.now batch.now) }
         ensures alone { OnOk result (Only self.new.contents (holds self.new)) }
-        ensures cause { FailsFrom self.old.calls.faults self.new.calls.faults result }
+        ensures count { self.new.calls.faults ≡ count_after (has_failed result) self.old.calls.faults }
 
         // what this one does
         ensures fails { IsErrOf result HasFailed ↔ IsTrue (is_listed self.old.calls) }
@@ -91,7 +92,7 @@ impl Keeper for MemoryKeeper {
         ensures rise { IfOk result Rise }
         ensures same { self.new.contents ≡ self.old.contents }
         ensures left { LeavesNoMore (holds self.old) (holds self.new) }
-        ensures cause { FailsFrom self.old.calls.faults self.new.calls.faults result }
+        ensures count { self.new.calls.faults ≡ count_after (has_failed result) self.old.calls.faults }
 
         // what this one does
         ensures fails { IsErrOf result HasFailed ↔ IsTrue (is_listed self.old.calls) }
@@ -108,7 +109,7 @@ impl Keeper for MemoryKeeper {
         ensures err { OnErr result (self.new.contents ≡ self.old.contents) }
         ensures left { Commits (holds self.old) (holds self.new) (with_text self.old.contents name.now text.now) }
         ensures alone { OnOk result (Only self.new.contents (holds self.new)) }
-        ensures cause { FailsFrom self.old.calls.faults self.new.calls.faults result }
+        ensures count { self.new.calls.faults ≡ count_after (has_failed result) self.old.calls.faults }
 
         // what this one does
         ensures fails { IsErrOf result HasFailed ↔ IsTrue (is_listed self.old.calls) }
@@ -125,7 +126,7 @@ impl Keeper for MemoryKeeper {
         ensures text { IfOk result (λ text. text ≡ map.get self.old.contents.texts name.now) }
         ensures same { self.new.contents ≡ self.old.contents }
         ensures left { LeavesNoMore (holds self.old) (holds self.new) }
-        ensures cause { FailsFrom self.old.calls.faults self.new.calls.faults result }
+        ensures count { self.new.calls.faults ≡ count_after (has_failed result) self.old.calls.faults }
 
         // what this one does
         ensures fails { IsErrOf result HasFailed ↔ IsTrue (is_listed self.old.calls) }
@@ -141,7 +142,7 @@ impl Keeper for MemoryKeeper {
         ensures names { IfOk result (λ names. names ≡ map.keys self.old.contents.texts) }
         ensures same { self.new.contents ≡ self.old.contents }
         ensures left { LeavesNoMore (holds self.old) (holds self.new) }
-        ensures cause { FailsFrom self.old.calls.faults self.new.calls.faults result }
+        ensures count { self.new.calls.faults ≡ count_after (has_failed result) self.old.calls.faults }
 
         // what this one does
         ensures fails { IsErrOf result HasFailed ↔ IsTrue (is_listed self.old.calls) }

@@ -2,7 +2,8 @@
 ghost use Rattle.std.specs.Prelude.{◌≡◌, ◌↔◌, ◌<◌, [], length, IsTrue, IsErr, IsSome, IfOk, OnOk, OnErr, Some};
 ghost use Rattle.std.specs.Io.{WritesAtMost};
 ghost use Rattle.std.specs.Io.KnownBytes.{WriteAppends, Keeps};
-ghost use Rattle.budget_ports.specs.Faults.{HasCause};
+ghost use Rattle.std.specs.Result.{is_err};
+ghost use Rattle.budget_ports.specs.Faults.{count_after};
 ghost use Rattle.budget_ports.specs.Calls.{no_calls, is_listed};
 ghost use Rattle.budget_ports.specs.Memory.{failed_sink, flushed, refuses, with_taken};
 
@@ -74,7 +75,7 @@ impl Sink for MemorySink {
         ensures some { IfOk result (λ n. 0 < length bytes.now → 0 < n) }
         ensures bytes { WriteAppends (Some self.old.taken) (Some self.new.taken) result bytes.now }
         ensures told { IsSome (Some self.new.taken) → IsSome (Some self.old.taken) }
-        ensures cause { HasCause self.old.calls.faults self.new.calls.faults result }
+        ensures count { self.new.calls.faults ≡ count_after (is_err result) self.old.calls.faults }
 
         // what this one does
         ensures fails { IsErr result ↔ IsTrue (refuses self.old bytes.now) }
@@ -93,7 +94,7 @@ impl Sink for MemorySink {
         // what each sink promises
         ensures bytes { Keeps (Some self.old.taken) (Some self.new.taken) }
         ensures told { IsSome (Some self.new.taken) → IsSome (Some self.old.taken) }
-        ensures cause { HasCause self.old.calls.faults self.new.calls.faults result }
+        ensures count { self.new.calls.faults ≡ count_after (is_err result) self.old.calls.faults }
 
         // what this one does
         ensures fails { IsErr result ↔ IsTrue (is_listed self.old.calls) }

@@ -2,7 +2,8 @@
 ghost use Rattle.std.specs.Prelude.{◌≡◌, ◌↔◌, ◌<◌, [], length, IsTrue, IsErr, IsSome, IfOk, OnErr, Some};
 ghost use Rattle.std.specs.Io.{ReadsAtMost};
 ghost use Rattle.std.specs.Io.KnownBytes.{ReadConsumes};
-ghost use Rattle.budget_ports.specs.Faults.{HasCause};
+ghost use Rattle.std.specs.Result.{is_err};
+ghost use Rattle.budget_ports.specs.Faults.{count_after};
 ghost use Rattle.budget_ports.specs.Calls.{no_calls, is_listed};
 ghost use Rattle.budget_ports.specs.Memory.{GivesFront, failed_source};
 
@@ -64,7 +65,7 @@ impl Source for MemorySource {
         ensures bound { ReadsAtMost result buffer.new }
         ensures bytes { ReadConsumes (Some self.old.left) (Some self.new.left) result buffer.new }
         ensures told { IsSome (Some self.new.left) → IsSome (Some self.old.left) }
-        ensures cause { HasCause self.old.calls.faults self.new.calls.faults result }
+        ensures count { self.new.calls.faults ≡ count_after (is_err result) self.old.calls.faults }
 
         // what this one does
         ensures fails { IsErr result ↔ IsTrue (is_listed self.old.calls) }
