@@ -1,9 +1,10 @@
 //! The source of the program. It is the edge of what is proved: what the system gives is not told,
 //! but each failure raises a count.
-ghost use Rattle.std.specs.Prelude.{◌≡◌, ◌≤◌, None, OnOk};
+ghost use Rattle.std.specs.Prelude.{◌≡◌, None};
+ghost use Rattle.std.specs.Result.{is_err};
 ghost use Rattle.std.specs.Io.{ReadsAtMost};
 ghost use Rattle.std.specs.Io.KnownBytes.{ReadConsumes};
-ghost use Rattle.budget_ports.specs.Faults.{HasCause, Rose};
+ghost use Rattle.budget_ports.specs.Faults.{risen, count_after};
 
 use budget_ports::{Failed, Source};
 use std::io::Read;
@@ -26,8 +27,7 @@ impl<R: Read> StdinSource<R> {
 
     /// Counts a failure. The reader stays as it is.
     fn fail(&mut self) -> Failed
-        ensures later { self.old.faults ≤ self.new.faults }
-        ensures rose { Rose self.old.faults self.new.faults }
+        ensures count { self.new.faults ≡ risen self.old.faults }
         ensures reader { self.new.reader ≡ self.old.reader }
     {
         self.faults = self.faults.saturating_add(1);
@@ -44,10 +44,9 @@ impl<R: Read> Source for StdinSource<R> {
     fn read(&mut self, buffer: &mut [u8]) -> Result<usize, Failed>
         // what each source promises
         ensures bound { ReadsAtMost result buffer.new }
-        ensures cause { HasCause self.old.faults self.new.faults result }
+        ensures count { self.new.faults ≡ count_after (is_err result) self.old.faults }
 
         // what this one does
-        ensures counts { OnOk result (self.new.faults ≡ self.old.faults) }
         ensures reader { ReadConsumes (R.remaining self.old.reader) (R.remaining self.new.reader) result buffer.new }
     {
         match self.reader.read(buffer) {

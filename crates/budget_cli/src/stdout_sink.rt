@@ -1,9 +1,10 @@
 //! The sink of the program. It is the edge of what is proved: what the system takes is not told, but
 //! each failure raises a count.
-ghost use Rattle.std.specs.Prelude.{◌≡◌, ◌≤◌, ◌<◌, length, None, IfOk, OnOk};
+ghost use Rattle.std.specs.Prelude.{◌≡◌, ◌<◌, length, None, IfOk};
+ghost use Rattle.std.specs.Result.{is_err};
 ghost use Rattle.std.specs.Io.{WritesAtMost};
 ghost use Rattle.std.specs.Io.KnownBytes.{Keeps, WriteAppends};
-ghost use Rattle.budget_ports.specs.Faults.{HasCause, Rose};
+ghost use Rattle.budget_ports.specs.Faults.{risen, count_after};
 
 use budget_ports::{Failed, Sink};
 use std::io::Write;
@@ -27,8 +28,7 @@ impl<W: Write> StdoutSink<W> {
 
     /// Counts a failure. The writer stays as it is.
     fn fail(&mut self) -> Failed
-        ensures later { self.old.faults ≤ self.new.faults }
-        ensures rose { Rose self.old.faults self.new.faults }
+        ensures count { self.new.faults ≡ risen self.old.faults }
         ensures writer { self.new.writer ≡ self.old.writer }
     {
         self.faults = self.faults.saturating_add(1);
@@ -47,10 +47,9 @@ impl<W: Write> Sink for StdoutSink<W> {
         // what each sink promises
         ensures bound { WritesAtMost result bytes.now }
         ensures some { IfOk result (λ n. 0 < length bytes.now → 0 < n) }
-        ensures cause { HasCause self.old.faults self.new.faults result }
+        ensures count { self.new.faults ≡ count_after (is_err result) self.old.faults }
 
         // what this one does
-        ensures counts { OnOk result (self.new.faults ≡ self.old.faults) }
         ensures writer { WriteAppends (W.contents self.old.writer) (W.contents self.new.writer) result bytes.now }
     {
         match self.writer.write(bytes) {
@@ -61,10 +60,9 @@ impl<W: Write> Sink for StdoutSink<W> {
 
     fn flush(&mut self) -> Result<(), Failed>
         // what each sink promises
-        ensures cause { HasCause self.old.faults self.new.faults result }
+        ensures count { self.new.faults ≡ count_after (is_err result) self.old.faults }
 
         // what this one does
-        ensures counts { OnOk result (self.new.faults ≡ self.old.faults) }
         ensures writer { Keeps (W.contents self.old.writer) (W.contents self.new.writer) }
     {
         match self.writer.flush() {

@@ -3,25 +3,28 @@ use Rattle.std.proofs.Common.{◌≡◌, ℕ, ◌+◌, ◌-◌, ◌<◌, ◌≤�
 use Rattle.std.proofs.KnownBytes.{Consumes-trans, Consumes-kept, Consumes-nil, Appends-nil}
 use Rattle.std.proofs.lemmas.Bool.{lt-ltb, le-ltb, cases_lt, cond-true, cond-false}
 use Rattle.std.specs.Io.KnownBytes.{Appends, Consumes, Keeps, IsAtEnd}
+use Rattle.std.specs.Result.{is_err}
+use Rattle.budget_ports.specs.Faults.{count_after}
 use Rattle.budget_ports.specs.Contents.{Contents}
 use Rattle.budget_ports.specs.Keeper.{Only, LeavesNoMore}
 use Rattle.budget_ports.specs.Readings.{Readings, Takes}
 use Rattle.device_core.specs.Device.{DeviceState, begun}
 use Rattle.budget_top.specs.declared.session.Session.{Session}
-use Rattle.budget_top.specs.declared.session.DeviceStop.{DeviceStop}
-use Rattle.budget_top.specs.declared.session.DeviceStop.TheVariants.{Memory, Keeper, Sink}
+use Rattle.budget_top.specs.declared.stop.DeviceStop.{DeviceStop}
+use Rattle.budget_top.specs.declared.stop.DeviceStop.TheVariants.{Run, Keeper}
+use Rattle.budget_top.specs.declared.stop.Stop.TheVariants.{Memory, Sink}
 use Rattle.budget_top.specs.Lines.{whole_lines, all_lines, line_if_some, last_piece}
 use Rattle.budget_top.specs.Limits.{most_input, HasRead, lines_due}
 use Rattle.budget_top.specs.Seen.{device_group, Seen, Holds}
 use Rattle.budget_top.specs.Acting.{IsOpened}
-use Rattle.budget_top.specs.DeviceStops.{stop_status}
+use Rattle.budget_top.specs.Stops.{device_stop_status}
 use Rattle.budget_top.specs.Standing.{Entry, AreFirst, Handles, IsReady, Stands, Ended, BreaksAs}
-use Rattle.budget_top.specs.DeviceRun.{HandlesAll, HandlesTaken, HandlesLimit, Answers, entry}
+use Rattle.budget_top.specs.DeviceRun.{HandlesAll, HandlesTaken, HandlesLimit, Answers, TellsBadRecord, bad_record_text, entry}
 use Rattle.budget_ports.specs.declared.stream.Failed.{Failed}
 use Rattle.budget_top.specs.Fronts.{AppendsFront}
 use Rattle.budget_top.proofs.Standing.{appends_as, front_as}
 use Rattle.budget_top.proofs.Folding.{takes_none}
-use Rattle.budget_top.proofs.SoFar.{all_of, front_alone}
+use Rattle.budget_top.proofs.Reading.{all_of, front_alone}
 use Rattle.budget_top.proofs.Serving.{breaks_from}
 
 -- reading
@@ -35,30 +38,6 @@ pub record ReadSoFar (left new_left : Option (List ℕ)) (count : ℕ) (old : Se
 
 pub nothing_read : (left : Option (List ℕ)) (old : Session) (before : Seen) → ReadSoFar left left 0 old before old before
 nothing_read left old before = record { read = []; reads = Consumes-nil left; many = refl; stands = λ e s. s }
-
--- no more bytes came
-pub read_kept : (left mid new : Option (List ℕ)) (read : List ℕ) (taken : ℕ) → length read ≡ taken → taken ≤ most_input → Consumes left mid read → Keeps mid new → HasRead left new read
-read_kept left mid new read taken many within reads kept = record { reads = Consumes-kept left mid new read reads kept; asked = omega arith }
-
-pub read_none : (left mid new : Option (List ℕ)) (read buffer : List ℕ) (taken count : ℕ) → length read ≡ taken → taken ≤ most_input → Consumes left mid read → count ≡ 0 → Consumes mid new (take count buffer) → HasRead left new read
-read_none left mid new read buffer taken count many within reads none more =
-    let P : List ℕ → Type 0 = λ xs. Consumes left new xs in
-    let Q : ℕ → Type 0 = λ n. Consumes mid new (take n buffer) in
-    record { reads = subst P (append-nil read) (Consumes-trans left mid new read [] reads (subst Q none more)); asked = omega arith }
-
--- more bytes came
-pub read_more : (left mid new : Option (List ℕ)) (read buffer : List ℕ) (taken count : ℕ) → length read ≡ taken → Consumes left mid read → Consumes mid new (take count buffer) → count ≤ length buffer → taken + count ≤ most_input + 1 → HasRead left new (read ++ take count buffer)
-read_more left mid new read buffer taken count many reads more inside asked = record {
-  reads = Consumes-trans left mid new read (take count buffer) reads more;
-  asked = simp (length-append, length-take) (omega arith);
-}
-
--- all of them are within the limit
-pub whole_taken : (most : ℕ) (read buffer rest : List ℕ) (taken count m : ℕ) → count ≤ most - taken → count ≤ length buffer → m ≡ min count (most - taken) → read ++ take m (buffer ++ rest) ≡ read ++ take count buffer
-whole_taken most read buffer rest taken count m fits inside least =
-    let is : m ≡ count = omega arith in
-    let alone : take count (buffer ++ rest) ≡ take count buffer = front_alone count buffer rest inside in
-    ap (λ k. read ++ take k (buffer ++ rest)) is ∙ ap (λ xs. read ++ xs) alone
 
 pub stands_along : (e : Entry) (xs ys : List ℕ) (session : Session) (now : Seen) → xs ≡ ys → Stands e xs session now → Stands e ys session now
 stands_along e xs ys session now same s = let P : List ℕ → Type 0 = λ bs. Stands e bs session now in subst P same s
@@ -151,11 +130,11 @@ answers_limit left new_left e alone now read has_read h = record {
   too_much = λ x. h;
 }
 
-pub answers_stop : (stop : DeviceStop) (status : ℕ) (left new_left : Option (List ℕ)) (e : Entry) (alone : Type 0) (now : Seen) (read : List ℕ) → status ≡ stop_status stop → HasRead left new_left read → BreaksAs stop e alone (lines_due read) now → Answers status left new_left e alone now
+pub answers_stop : (stop : DeviceStop) (status : ℕ) (left new_left : Option (List ℕ)) (e : Entry) (alone : Type 0) (now : Seen) (read : List ℕ) → status ≡ device_stop_status stop → HasRead left new_left read → BreaksAs stop e alone (lines_due read) now → Answers status left new_left e alone now
 answers_stop stop status left new_left e alone now read is has_read h = let P : ℕ → Type 0 = λ n. Answers n left new_left e alone now in subst P (sym is) (by stop h)
   where
-    by : (x : DeviceStop) → BreaksAs x e alone (lines_due read) now → Answers (stop_status x) left new_left e alone now
-    by Memory breaks = record {
+    by : (x : DeviceStop) → BreaksAs x e alone (lines_due read) now → Answers (device_stop_status x) left new_left e alone now
+    by (Run Memory) breaks = record {
       read = read;
       has_read = has_read;
       known = refl;
@@ -179,7 +158,7 @@ answers_stop stop status left new_left e alone now read is has_read h = let P : 
       no_memory = λ x. absurd (omega arith);
       too_much = λ x. absurd (omega arith);
     }
-    by Sink breaks = record {
+    by (Run Sink) breaks = record {
       read = read;
       has_read = has_read;
       known = refl;
@@ -203,28 +182,11 @@ answers_from status left new_left e alone before now f h =
       all_good = λ x. all false (h.all_good x);
       some_refused = λ x. all true (h.some_refused x);
       source_failed = λ x. let k = h.source_failed x in record { within = k.within; handled = k.handled; stops = λ t y. k.stops t (f t y) };
-      sink_failed = λ x. breaks_from Sink e alone before (lines_due h.read) now f (h.sink_failed x);
+      sink_failed = λ x. breaks_from (Run Sink) e alone before (lines_due h.read) now f (h.sink_failed x);
       keeper_failed = λ x. breaks_from Keeper e alone before (lines_due h.read) now f (h.keeper_failed x);
-      no_memory = λ x. breaks_from Memory e alone before (lines_due h.read) now f (h.no_memory x);
+      no_memory = λ x. breaks_from (Run Memory) e alone before (lines_due h.read) now f (h.no_memory x);
       too_much = λ x. let k = h.too_much x in record { past = k.past; handled = k.handled; stops = λ t y. k.stops t (f t y) };
     }
-
--- the causes of a status
-
-pub sink_of : (stop : DeviceStop) (status : ℕ) → status ≡ stop_status stop → status ≡ 5 → stop ≡ Sink
-sink_of Memory status is x = absurd (omega arith)
-sink_of Keeper status is x = absurd (omega arith)
-sink_of Sink status is x = refl
-
-pub keeper_of : (stop : DeviceStop) (status : ℕ) → status ≡ stop_status stop → status ≡ 6 → stop ≡ Keeper
-keeper_of Memory status is x = absurd (omega arith)
-keeper_of Keeper status is x = refl
-keeper_of Sink status is x = absurd (omega arith)
-
-pub source_of : {X : Type 0} (stop : DeviceStop) (status : ℕ) → status ≡ stop_status stop → status ≡ 4 → X
-source_of Memory status is x = absurd (omega arith)
-source_of Keeper status is x = absurd (omega arith)
-source_of Sink status is x = absurd (omega arith)
 
 -- the opening
 
@@ -252,6 +214,7 @@ pub only_same : (old now : Contents) (left new_left : Contents → Type 0) → n
 only_same old now left new_left same fewer only = λ k h. only k (fewer k h) ∙ sym same
 
 -- a text was written, or the sink failed at it
-pub told_or_cut : (result : Result (Unit {0}) Failed) (rose : Type 0) (a b : Option (List ℕ)) (xs ys : List ℕ) → xs ≡ ys → OnOk result (Appends a b xs) → OnErr result (AppendsFront a b xs) → OnErr result rose → Appends a b ys ⊎ rose × AppendsFront a b ys
-told_or_cut (Ok done) rose a b xs ys same all front cause = inl (appends_as a b xs ys same all)
-told_or_cut (Err fault) rose a b xs ys same all front cause = inr (cause, front_as a b xs ys same front)
+pub told_or_cut : (result : Result (Unit {0}) Failed) (index : ℕ) (taken new_taken : Option (List ℕ)) (faults new_faults : ℕ) (text : List ℕ) → text ≡ bad_record_text index
+    → OnOk result (Appends taken new_taken text) → OnErr result (AppendsFront taken new_taken text) → new_faults ≡ count_after (is_err result) faults → TellsBadRecord index taken new_taken faults new_faults
+told_or_cut (Ok done) index taken new_taken faults new_faults text same all front count = inl (count, appends_as taken new_taken _ _ same all)
+told_or_cut (Err fault) index taken new_taken faults new_faults text same all front count = inr (count, front_as taken new_taken _ _ same front)

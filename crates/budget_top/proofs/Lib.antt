@@ -2,7 +2,7 @@ pub mod Cutting
 pub mod Counting
 pub mod Writing
 pub mod Standing
-pub mod SoFar
+pub mod Reading
 pub mod Feeding
 pub mod Ending
 pub mod Pieces

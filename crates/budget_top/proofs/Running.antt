@@ -2,7 +2,7 @@
 use Rattle.std.proofs.Common.{◌≡◌, ℕ, ◌+◌, ◌≤◌, List, [], ◌++◌, refl, sym, subst, Option, length, take, drop, arith}
 use Rattle.std.proofs.lemmas.List.{take-append-drop}
 use Rattle.std.proofs.KnownBytes.{Consumes-nil}
-use Rattle.std.specs.Io.KnownBytes.{Appends}
+use Rattle.std.specs.Io.KnownBytes.{Appends, Consumes}
 use Rattle.budget_top.specs.declared.stop.Stop.{Stop}
 use Rattle.budget_top.specs.declared.stop.Stop.TheVariants.{Memory, Sink}
 use Rattle.budget_top.specs.Lines.{whole_lines}
@@ -10,8 +10,17 @@ use Rattle.budget_top.specs.Verdicts.{bad_lines, merge_text}
 use Rattle.budget_top.specs.Fronts.{IsFront, AppendsFront}
 use Rattle.budget_top.specs.Limits.{most_input, HasRead}
 use Rattle.budget_top.specs.MergeRun.{MergeRun, BreaksOff}
-use Rattle.budget_top.specs.Stops.{status_of}
+use Rattle.budget_top.specs.declared.merge.Merge.{Merge}
+use Rattle.budget_top.specs.Stops.{stop_status}
+use Rattle.budget_top.specs.Steps.{Stands}
 use Rattle.budget_top.proofs.Standing.{part_of_more, part_of_merge, front_none}
+
+-- so many bytes were read and dealt with
+pub record ReadSoFar (left new_left entry now : Option (List ℕ)) (count : ℕ) (m : Merge) : Type 0 where
+  pub read : List ℕ
+  pub reads : Consumes left new_left read
+  pub many : length read ≡ count
+  pub stands : Stands entry now read m
 
 -- the bytes before the limit, and those after it
 limit_parts : (read : List ℕ) → take most_input read ++ drop most_input read ≡ read
@@ -33,7 +42,7 @@ run_too_much left new_left taken new_taken read h past writes = record {
   too_much = λ e. record { past = omega arith; text = refl };
 }
 
-run_broken : (left new_left taken new_taken : Option (List ℕ)) (read : List ℕ) (stop : Stop) (written : List ℕ) → HasRead left new_left read → Appends taken new_taken written → BreaksOff read written → MergeRun (status_of stop) left new_left taken new_taken
+run_broken : (left new_left taken new_taken : Option (List ℕ)) (read : List ℕ) (stop : Stop) (written : List ℕ) → HasRead left new_left read → Appends taken new_taken written → BreaksOff read written → MergeRun (stop_status stop) left new_left taken new_taken
 run_broken left new_left taken new_taken read Memory written h writes breaks = record {
   read = read;
   written = written;
@@ -63,11 +72,11 @@ run_broken left new_left taken new_taken read Sink written h writes breaks = rec
   too_much = λ e. absurd (omega arith);
 }
 
-as_status : (status : ℕ) (stop : Stop) (left new_left taken new_taken : Option (List ℕ)) → status ≡ status_of stop → MergeRun (status_of stop) left new_left taken new_taken → MergeRun status left new_left taken new_taken
+as_status : (status : ℕ) (stop : Stop) (left new_left taken new_taken : Option (List ℕ)) → status ≡ stop_status stop → MergeRun (stop_status stop) left new_left taken new_taken → MergeRun status left new_left taken new_taken
 as_status status stop left new_left taken new_taken is h = let P : ℕ → Type 0 = λ s. MergeRun s left new_left taken new_taken in subst P (sym is) h
 
 -- it broke off among the lines before the limit
-pub run_stopped : (left new_left taken new_taken : Option (List ℕ)) (read : List ℕ) (stop : Stop) (status : ℕ) → status ≡ status_of stop → HasRead left new_left read → AppendsFront taken new_taken (bad_lines (whole_lines (take most_input read))) → MergeRun status left new_left taken new_taken
+pub run_stopped : (left new_left taken new_taken : Option (List ℕ)) (read : List ℕ) (stop : Stop) (status : ℕ) → status ≡ stop_status stop → HasRead left new_left read → AppendsFront taken new_taken (bad_lines (whole_lines (take most_input read))) → MergeRun status left new_left taken new_taken
 run_stopped left new_left taken new_taken read stop status is h f =
     let P : List ℕ → Type 0 = λ xs. IsFront f.front (bad_lines (whole_lines xs)) in
     let whole : IsFront f.front (bad_lines (whole_lines read)) = subst P (limit_parts read) (part_of_more f.front (take most_input read) (drop most_input read) f.of) in
@@ -75,7 +84,7 @@ run_stopped left new_left taken new_taken read stop status is h f =
     (run_broken left new_left taken new_taken read stop f.front h f.written (record { front = part_of_merge f.front read whole; limited = λ past. f.of }))
 
 -- it broke off at the end of the input
-pub run_unfinished : (left new_left taken new_taken : Option (List ℕ)) (read : List ℕ) (stop : Stop) (status : ℕ) → status ≡ status_of stop → HasRead left new_left read → length read ≤ most_input → AppendsFront taken new_taken (merge_text read) → MergeRun status left new_left taken new_taken
+pub run_unfinished : (left new_left taken new_taken : Option (List ℕ)) (read : List ℕ) (stop : Stop) (status : ℕ) → status ≡ stop_status stop → HasRead left new_left read → length read ≤ most_input → AppendsFront taken new_taken (merge_text read) → MergeRun status left new_left taken new_taken
 run_unfinished left new_left taken new_taken read stop status is h within f =
     as_status status stop left new_left taken new_taken is
     (run_broken left new_left taken new_taken read stop f.front h f.written (record { front = f.of; limited = λ past. absurd (omega arith) }))

@@ -16,8 +16,9 @@ use Rattle.command_lines.specs.declared.reply.Reply.{Reply}
 use Rattle.command_lines.specs.Commands.{of_words}
 use Rattle.command_lines.specs.Replies.{reply_text_of}
 use Rattle.budget_top.specs.declared.session.Session.{Session}
-use Rattle.budget_top.specs.declared.session.DeviceStop.{DeviceStop}
-use Rattle.budget_top.specs.declared.session.DeviceStop.TheVariants.{Memory, Keeper, Sink}
+use Rattle.budget_top.specs.declared.stop.DeviceStop.{DeviceStop}
+use Rattle.budget_top.specs.declared.stop.DeviceStop.TheVariants.{Run, Keeper}
+use Rattle.budget_top.specs.declared.stop.Stop.TheVariants.{Memory, Sink}
 use Rattle.budget_top.specs.Lines.{IsWithinLine, FirstEnd, whole_lines, last_piece, all_lines, line_if_some}
 use Rattle.budget_top.specs.Kept.{kept, kept_with}
 use Rattle.command_lines.specs.Commands.{longest_line}
@@ -25,7 +26,7 @@ use Rattle.budget_top.specs.Fronts.{AppendsFront}
 use Rattle.budget_top.specs.Session.{Input, asked, asked_kept, obeyed, step, after, replies, some_refused, is_refused}
 use Rattle.budget_top.specs.Seen.{Seen, Holds}
 use Rattle.budget_top.specs.Acting.{Acts, Carries, CarriesEither, HoldsEither}
-use Rattle.budget_top.specs.DeviceStops.{stop_of}
+use Rattle.budget_top.specs.Stops.{stop_of}
 use Rattle.budget_top.specs.Standing.{Entry, lines_of, readings_of, AreFirst, Stands, Ended, Halts, Cuts, BreaksAs}
 use Rattle.budget_top.proofs.Cutting.{whole_lines-within, last_piece-within, whole_lines-end, last_piece-end, whole_lines-append}
 use Rattle.budget_top.proofs.Standing.{appends_as, kept-append}
@@ -133,17 +134,17 @@ module _ (e : Entry) (read : List ℕ) (old : Session) (before now : Seen) (s : 
   }
 
   -- the line got no reply
-  pub halts_end : now.taken ≡ before.taken → (now.tells → CarriesEither old.device.state.messages (done old reading).0.messages before.contents now.contents)
+  pub halts_end : now.taken ≡ before.taken → (now.tells → now.contents ≡ before.contents)
       → (now.tells → Only before.contents before.left → (c : Contents) → now.left c → CarriesEither old.device.state.messages (done old reading).0.messages before.contents c)
       → Halts e (Only before.contents before.left) (whole_lines (read ++ 10 ∷ [])) now
-  halts_end taken carries stops = record {
+  halts_end taken same stops = record {
     inputs = had;
     in_hand = in_hand read reading ∷ [];
     one = omega arith;
     first = first_now;
     took = took_now;
     written = let P : Option (List ℕ) → Type 0 = λ t. Appends e.taken t (replies e.start had) in subst P (sym taken) s.handled.written;
-    keeper = λ t. either_now t now.contents (carries t);
+    keeper = λ t. let P : Contents → Type 0 = λ k. Holds e.contents k (after e.start had).messages in subst P (sym (same t)) (s.handled.keeper (told t));
     stops = λ t alone c left. either_now t c (stops t alone c left);
   }
 
@@ -201,7 +202,7 @@ halts_between e read old now s =
       first = ([], append-nil _ ∙ ap lines_of (sym all) ∙ s.handled.lines);
       took = let P : List Input → Type 0 = λ is. Takes e.readings now.readings (readings_of is) in subst P all s.handled.took;
       written = s.handled.written;
-      keeper = λ t. here t now.contents (s.handled.keeper t);
+      keeper = s.handled.keeper;
       stops = λ t alone c left.
           let P : Contents → Type 0 = λ d. Holds e.contents d (after e.start s.handled.inputs).messages in
           here t c (subst P (sym (alone c left)) (s.handled.keeper t));
@@ -213,15 +214,15 @@ first_more : (xs ys zs : List (List ℕ)) → AreFirst xs ys → AreFirst ys zs 
 first_more xs ys zs h k = (h.0 ++ k.0, sym (append_assoc xs h.0 k.0) ∙ ap (λ ls. ls ++ k.0) h.1 ∙ k.1)
 
 pub breaks_more : (stop : DeviceStop) (e : Entry) (alone : Type 0) (due more : List (List ℕ)) (now : Seen) → AreFirst due more → BreaksAs stop e alone due now → BreaksAs stop e alone more now
-breaks_more Memory e alone due more now first h = record { inputs = h.inputs; in_hand = h.in_hand; one = h.one; first = first_more _ due more h.first first; took = h.took; written = h.written; keeper = h.keeper; stops = h.stops }
+breaks_more (Run Memory) e alone due more now first h = record { inputs = h.inputs; in_hand = h.in_hand; one = h.one; first = first_more _ due more h.first first; took = h.took; written = h.written; keeper = h.keeper; stops = h.stops }
 breaks_more Keeper e alone due more now first h = record { inputs = h.inputs; in_hand = h.in_hand; one = h.one; first = first_more _ due more h.first first; took = h.took; written = h.written; keeper = h.keeper; stops = h.stops }
-breaks_more Sink e alone due more now first h = record { inputs = h.inputs; last = h.last; part = h.part; of = h.of; first = first_more _ due more h.first first; took = h.took; written = h.written; keeper = h.keeper; stops = h.stops }
+breaks_more (Run Sink) e alone due more now first h = record { inputs = h.inputs; last = h.last; part = h.part; of = h.of; first = first_more _ due more h.first first; took = h.took; written = h.written; keeper = h.keeper; stops = h.stops }
 
 -- what a stop could leave is known from further before
 pub breaks_from : (stop : DeviceStop) (e : Entry) (alone before : Type 0) (due : List (List ℕ)) (now : Seen) → (now.tells → before → alone) → BreaksAs stop e alone due now → BreaksAs stop e before due now
-breaks_from Memory e alone before due now f h = record { inputs = h.inputs; in_hand = h.in_hand; one = h.one; first = h.first; took = h.took; written = h.written; keeper = h.keeper; stops = λ t b. h.stops t (f t b) }
+breaks_from (Run Memory) e alone before due now f h = record { inputs = h.inputs; in_hand = h.in_hand; one = h.one; first = h.first; took = h.took; written = h.written; keeper = h.keeper; stops = λ t b. h.stops t (f t b) }
 breaks_from Keeper e alone before due now f h = record { inputs = h.inputs; in_hand = h.in_hand; one = h.one; first = h.first; took = h.took; written = h.written; keeper = h.keeper; stops = λ t b. h.stops t (f t b) }
-breaks_from Sink e alone before due now f h = record { inputs = h.inputs; last = h.last; part = h.part; of = h.of; first = h.first; took = h.took; written = h.written; keeper = h.keeper; stops = λ t b. h.stops t (f t b) }
+breaks_from (Run Sink) e alone before due now f h = record { inputs = h.inputs; last = h.last; part = h.part; of = h.of; first = h.first; took = h.took; written = h.written; keeper = h.keeper; stops = λ t b. h.stops t (f t b) }
 
 -- the whole lines of the first bytes come first
 pub first_lines : (xs ys : List ℕ) → AreFirst (whole_lines xs) (whole_lines (xs ++ ys))

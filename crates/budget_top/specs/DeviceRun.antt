@@ -3,13 +3,15 @@ use Rattle.std.specs.Prelude.{◌≡◌, ◌⊎◌, ℕ, ◌<◌, ◌≤◌, ◌
 use Rattle.std.specs.List.{list_any}
 use Rattle.std.specs.Fmt.{decimal}
 use Rattle.std.specs.Io.KnownBytes.{Appends, IsAtEnd}
+use Rattle.budget_ports.specs.Faults.{risen}
 use Rattle.budget_ports.specs.Keeper.{Only, LeavesNoMore}
 use Rattle.field_merge.specs.declared.message.Message.{Message}
 use Rattle.device_core.specs.Records.{kept_set}
 use Rattle.device_core.specs.Device.{State, begun}
 use Rattle.budget_top.specs.declared.session.Session.{Session}
-use Rattle.budget_top.specs.declared.device_run.End.{End as TheEnd}
-use Rattle.budget_top.specs.declared.device_run.End.TheVariants.{AtEnd, SourceFailed, TooMuch, Stopped}
+use Rattle.budget_top.specs.declared.stop.DeviceStop.{DeviceStop}
+use Rattle.budget_top.specs.declared.input.End.{End}
+use Rattle.budget_top.specs.declared.input.End.TheVariants.{AtEnd, SourceFailed, TooMuch, Stopped}
 use Rattle.budget_top.specs.Lines.{whole_lines, all_lines}
 use Rattle.budget_top.specs.Limits.{most_input, HasRead, lines_due}
 use Rattle.budget_top.specs.Fronts.{AppendsFront}
@@ -62,20 +64,25 @@ pub record Answers (status : ℕ) (left new_left : Option (List ℕ)) (e : Entry
 abbrev pub bad_record_text : ℕ → List ℕ
 bad_record_text index = codes "bad-record " ++ decimal index ++ 10 ∷ []
 
--- such a record is the first one. Its line was written, or a front of it, and then the count of the sink rose
-pub record BadRecord (rose : Type 0) (old now : Seen) : Type 0 where
+-- that line was written, or a front of it, where the sink has failed once more than before
+abbrev pub TellsBadRecord : ℕ → Option (List ℕ) → Option (List ℕ) → ℕ → ℕ → Type 0
+TellsBadRecord index taken new_taken faults new_faults =
+    (new_faults ≡ faults) × Appends taken new_taken (bad_record_text index) ⊎ (new_faults ≡ risen faults) × AppendsFront taken new_taken (bad_record_text index)
+
+-- such a record is the first one, and was told
+pub record BadRecord (faults new_faults : ℕ) (old now : Seen) : Type 0 where
   pub index : ℕ
   pub first_bad : now.tells → kept_set (device_records old.contents) ≡ Err index
-  pub written : Appends old.taken now.taken (bad_record_text index) ⊎ rose × AppendsFront old.taken now.taken (bad_record_text index)
+  pub told : TellsBadRecord index old.taken now.taken faults new_faults
 
 -- The group was not opened, and nothing was read. A record of it keeps no message, or the keeper failed or memory ran out
 -- before anything was written
-pub record Unopened (status : ℕ) (left new_left : Option (List ℕ)) (rose : Type 0) (old now : Seen) : Type 0 where
+pub record Unopened (status : ℕ) (left new_left : Option (List ℕ)) (faults new_faults : ℕ) (old now : Seen) : Type 0 where
   pub source : new_left ≡ left
   pub readings : now.readings ≡ old.readings
   pub contents : now.tells → now.contents ≡ old.contents
   pub stops : LeavesNoMore old.left now.left
-  pub how : (status ≡ 3) × BadRecord rose old now ⊎ ((status ≡ 6) ⊎ (status ≡ 7)) × (now.taken ≡ old.taken)
+  pub how : (status ≡ 3) × BadRecord faults new_faults old now ⊎ ((status ≡ 6) ⊎ (status ≡ 7)) × (now.taken ≡ old.taken)
 
 -- the group was opened, and keeps these messages
 pub record Opened (node : List ℕ) (status : ℕ) (left new_left : Option (List ℕ)) (old now : Seen) : Type 0 where
@@ -83,19 +90,19 @@ pub record Opened (node : List ℕ) (status : ℕ) (left new_left : Option (List
   pub has : now.tells → kept_set (device_records old.contents) ≡ Ok first
   pub answers : Answers status left new_left (entry old (begun node first)) (Only old.contents old.left) now
 
--- a run of the device of this node, where `rose` says that the count of the sink rose
-pub record DeviceRun (node : List ℕ) (status : ℕ) (left new_left : Option (List ℕ)) (rose : Type 0) (old now : Seen) : Type 0 where
+-- a run of the device of this node, where the sink had failed so often before it, and has so often after it
+pub record DeviceRun (node : List ℕ) (status : ℕ) (left new_left : Option (List ℕ)) (faults new_faults : ℕ) (old now : Seen) : Type 0 where
   pub told : now.tells → old.tells
-  pub opening : Unopened status left new_left rose old now ⊎ Opened node status left new_left old now
+  pub opening : Unopened status left new_left faults new_faults old now ⊎ Opened node status left new_left old now
 
 -- how reading ended
-abbrev pub EndsAs : TheEnd → Entry → Type 0 → Session → List ℕ → Seen → Type 0
+abbrev pub EndsAs : End DeviceStop → Entry → Type 0 → Session → List ℕ → Seen → Type 0
 EndsAs AtEnd e alone session read now = (length read ≤ most_input) × Stands e read session now
 EndsAs SourceFailed e alone session read now = (length read ≤ most_input) × Handles e (whole_lines read) now
 EndsAs TooMuch e alone session read now = (most_input < length read) × Handles e (whole_lines (take most_input read)) now
 EndsAs (Stopped stop) e alone session read now = BreaksAs stop e alone (whole_lines (take most_input read)) now
 
 -- it ended by itself
-abbrev pub IsWhole : TheEnd → Type 0
+abbrev pub IsWhole : End DeviceStop → Type 0
 IsWhole (Stopped stop) = ⊥
 IsWhole end = Unit {0}

@@ -13,6 +13,5 @@ pub mod Steps
 pub mod Session
 pub mod Seen
 pub mod Acting
-pub mod DeviceStops
 pub mod Standing
 pub mod DeviceRun

@@ -7,8 +7,9 @@ use Rattle.budget_ports.specs.Readings.{Readings, Takes}
 use Rattle.device_core.specs.Device.{State}
 use Rattle.command_lines.specs.Replies.{reply_text_of}
 use Rattle.budget_top.specs.declared.session.Session.{Session}
-use Rattle.budget_top.specs.declared.session.DeviceStop.{DeviceStop}
-use Rattle.budget_top.specs.declared.session.DeviceStop.TheVariants.{Memory, Keeper, Sink}
+use Rattle.budget_top.specs.declared.stop.DeviceStop.{DeviceStop}
+use Rattle.budget_top.specs.declared.stop.DeviceStop.TheVariants.{Run, Keeper}
+use Rattle.budget_top.specs.declared.stop.Stop.TheVariants.{Memory, Sink}
 use Rattle.budget_top.specs.Lines.{whole_lines, last_piece, all_lines}
 use Rattle.budget_top.specs.Kept.{kept}
 use Rattle.budget_top.specs.Fronts.{IsFront}
@@ -60,8 +61,8 @@ pub record Ended (e : Entry) (read : List ℕ) (session : Session) (now : Seen) 
   pub handled : Handles e (all_lines read) now
   pub bad : session.bad ≡ some_refused e.start handled.inputs
 
--- The run broke off between the lines that were due, or in one of them before its reply. That line took its reading;
--- what it made is kept whole or not at all. What a stop may leave is told where it could leave the contents alone before.
+-- The run broke off between the lines that were due, or in one of them before its reply. That line took its reading, and
+-- nothing that it made is kept; but a stop may leave all that it made, where it could leave the contents alone before.
 pub record Halts (e : Entry) (alone : Type 0) (due : List (List ℕ)) (now : Seen) : Type 0 where
   pub inputs : List Input
   pub in_hand : List Input
@@ -69,7 +70,7 @@ pub record Halts (e : Entry) (alone : Type 0) (due : List (List ℕ)) (now : See
   pub first : AreFirst (lines_of (inputs ++ in_hand)) due
   pub took : Takes e.readings now.readings (readings_of (inputs ++ in_hand))
   pub written : Appends e.taken now.taken (replies e.start inputs)
-  pub keeper : now.tells → HoldsEither e.contents now.contents (after e.start inputs).messages (after e.start (inputs ++ in_hand)).messages
+  pub keeper : now.tells → Holds e.contents now.contents (after e.start inputs).messages
   pub stops : now.tells → alone → (c : Contents) → now.left c →
       HoldsEither e.contents c (after e.start inputs).messages (after e.start (inputs ++ in_hand)).messages
 
@@ -87,6 +88,6 @@ pub record Cuts (e : Entry) (alone : Type 0) (due : List (List ℕ)) (now : Seen
 
 -- how it breaks off for this cause
 abbrev pub BreaksAs : DeviceStop → Entry → Type 0 → List (List ℕ) → Seen → Type 0
-BreaksAs Memory e alone due now = Halts e alone due now
+BreaksAs (Run Memory) e alone due now = Halts e alone due now
 BreaksAs Keeper e alone due now = Halts e alone due now
-BreaksAs Sink e alone due now = Cuts e alone due now
+BreaksAs (Run Sink) e alone due now = Cuts e alone due now

@@ -5,8 +5,9 @@ use Rattle.std.specs.Io.KnownBytes.{Appends}
 use Rattle.field_merge.specs.declared.message.Message.{Message}
 use Rattle.field_merge.specs.Latest.{CameFrom}
 use Rattle.budget_top.specs.declared.merge.Merge.{Merge}
-use Rattle.budget_top.specs.declared.merge.End.{End}
-use Rattle.budget_top.specs.declared.merge.End.TheVariants.{AtEnd, SourceFailed, TooMuch, Stopped}
+use Rattle.budget_top.specs.declared.stop.Stop.{Stop}
+use Rattle.budget_top.specs.declared.input.End.{End}
+use Rattle.budget_top.specs.declared.input.End.TheVariants.{AtEnd, SourceFailed, TooMuch, Stopped}
 use Rattle.budget_top.specs.Lines.{whole_lines, last_piece, all_lines}
 use Rattle.budget_top.specs.Verdicts.{Verdict, bad_line, bad_lines, message_in, messages_of, some_bad}
 use Rattle.budget_top.specs.Kept.{kept}
@@ -39,7 +40,7 @@ pub record Ended (entry now : Option (List ℕ)) (read : List ℕ) (m : Merge) :
   pub written : Appends entry now (bad_lines (all_lines read))
 
 -- how reading ended
-abbrev pub EndsReading : End → Option (List ℕ) → Option (List ℕ) → List ℕ → Merge → Type 0
+abbrev pub EndsReading : End Stop → Option (List ℕ) → Option (List ℕ) → List ℕ → Merge → Type 0
 EndsReading AtEnd entry now read m = (length read ≤ most_input) × Stands entry now read m
 EndsReading SourceFailed entry now read m = (length read ≤ most_input) × Appends entry now (bad_lines (whole_lines read))
 EndsReading TooMuch entry now read m = (most_input + 1 ≤ length read) × Appends entry now (bad_lines (whole_lines (take most_input read)))

@@ -1,9 +1,55 @@
--- Why a run breaks off.
-use Rattle.std.specs.Prelude.{ℕ}
+-- Why a run breaks off, and with which status.
+use Rattle.std.specs.Prelude.{ℕ, Result, Ok, Err}
+use Rattle.budget_ports.specs.declared.keeper.PortFault.{PortFault}
+use Rattle.budget_ports.specs.declared.keeper.PortFault.TheVariants.{Failed, NoMemory}
 use Rattle.budget_top.specs.declared.stop.Stop.{Stop}
 use Rattle.budget_top.specs.declared.stop.Stop.TheVariants.{Memory, Sink}
+use Rattle.budget_top.specs.declared.stop.DeviceStop.{DeviceStop}
+use Rattle.budget_top.specs.declared.stop.DeviceStop.TheVariants.{Run, Keeper}
+use Rattle.budget_top.specs.declared.input.End.{End}
+use Rattle.budget_top.specs.declared.input.End.TheVariants.{AtEnd, SourceFailed, TooMuch, Stopped}
+use Rattle.budget_top.specs.declared.opening.OpeningFault.{OpeningFault}
+use Rattle.budget_top.specs.declared.opening.OpeningFault.TheVariants.{Keeper as KeeperFailed, BadRecord, NoMemory as OutOfMemory}
 
 -- the status of a run that stops
-abbrev pub status_of : Stop → ℕ
-status_of Memory = 7
-status_of Sink = 5
+abbrev pub stop_status : Stop → ℕ
+stop_status Memory = 7
+stop_status Sink = 5
+
+abbrev pub device_stop_status : DeviceStop → ℕ
+device_stop_status (Run stop) = stop_status stop
+device_stop_status Keeper = 6
+
+-- a fault of the keeper stops the run for what it is
+abbrev pub stop_of : PortFault → DeviceStop
+stop_of Failed = Keeper
+stop_of NoMemory = Run Memory
+
+-- the status with which a step ends the run, or 0 where the run goes on
+abbrev pub step_status : {T : Type 0} → Result T Stop → ℕ
+step_status (Ok done) = 0
+step_status (Err stop) = stop_status stop
+
+abbrev pub device_step_status : {T : Type 0} → Result T DeviceStop → ℕ
+device_step_status (Ok done) = 0
+device_step_status (Err stop) = device_stop_status stop
+
+-- the same of how reading ended
+abbrev pub end_status : End Stop → ℕ
+end_status AtEnd = 0
+end_status SourceFailed = 4
+end_status TooMuch = 9
+end_status (Stopped stop) = stop_status stop
+
+abbrev pub device_end_status : End DeviceStop → ℕ
+device_end_status AtEnd = 0
+device_end_status SourceFailed = 4
+device_end_status TooMuch = 9
+device_end_status (Stopped stop) = device_stop_status stop
+
+-- the same of a device's opening
+abbrev pub opening_status : {T : Type 0} → Result T OpeningFault → ℕ
+opening_status (Ok device) = 0
+opening_status (Err KeeperFailed) = 6
+opening_status (Err (BadRecord index)) = 3
+opening_status (Err OutOfMemory) = 7

@@ -5,8 +5,9 @@ ghost use Rattle.field_merge.specs.Messages.{IsMessage};
 ghost use Rattle.device_core.specs.Edits.{IsEdit};
 ghost use Rattle.device_core.specs.Device.{edited, received};
 ghost use Rattle.command_lines.specs.Commands.{IsRead, IsCommand};
+ghost use Rattle.budget_ports.specs.Faults.{count_after};
 ghost use Rattle.budget_ports.specs.Contents.{Contents};
-ghost use Rattle.budget_ports.specs.Keeper.{FailsFrom, Only};
+ghost use Rattle.budget_ports.specs.Keeper.{has_failed, Only};
 ghost use Rattle.budget_top.specs.Session.{asked_kept, settled, wrote_all, added_all, obeyed, is_refused};
 ghost use Rattle.budget_top.specs.Seen.{device_group};
 ghost use Rattle.budget_top.specs.Acting.{Acts, Brings, Carries, CarriesEither};
@@ -142,7 +143,7 @@ fn keep<K: Keeper>(device: &mut Device, keeper: &mut K, group: &Txt) -> Result<(
     ensures same { K.tells keeper.new → OnErr result (K.contents keeper.new ≡ K.contents keeper.old) }
     ensures stops { OnErr result (Only (K.contents keeper.old) (K.left keeper.old) → (c : Contents) → K.left keeper.new c → (old : List Message) → Brings old device.old → CarriesEither old device.old.state.messages (K.contents keeper.old) c) }
     ensures told { K.tells keeper.new → K.tells keeper.old }
-    ensures cause { FailsFrom (K.faults keeper.old) (K.faults keeper.new) result }
+    ensures count { K.faults keeper.new ≡ count_after (has_failed result) (K.faults keeper.old) }
 {
     // A device's messages are valid, so the records of the new ones keep them.
     batches_are_kept();
@@ -164,8 +165,8 @@ fn is_refusal(reply: &Reply) -> bool
 /// Does what a line asks at a reading of the wall clock, keeps what it made, and gives its reply.
 ///
 /// The reply's text is made before anything is kept. Where the keeper fails or memory runs out
-/// there is no reply, the device is not to be used any more, and the keeper holds what it held or
-/// that with all that the line made.
+/// there is no reply, the device is not to be used any more, and the keeper holds what it held; a
+/// stop may leave that with all that the line made.
 pub fn act<K: Keeper, G: Ledger>(
     alloc: Global,
     device: &mut Device,
@@ -183,10 +184,10 @@ pub fn act<K: Keeper, G: Ledger>(
     ensures idle { OnOk result (device.new.batch ≡ []) }
     ensures carries { K.tells keeper.new → OnOk result (Carries device.old.state.messages (obeyed device.old.state reading (asked_kept line.now)).0.messages (K.contents keeper.old) (K.contents keeper.new)) }
     ensures alone { K.tells keeper.new → OnOk result (Only (K.contents keeper.old) (K.left keeper.old) → Only (K.contents keeper.new) (K.left keeper.new)) }
-    ensures either { K.tells keeper.new → OnErr result (CarriesEither device.old.state.messages (obeyed device.old.state reading (asked_kept line.now)).0.messages (K.contents keeper.old) (K.contents keeper.new)) }
+    ensures same { K.tells keeper.new → OnErr result (K.contents keeper.new ≡ K.contents keeper.old) }
     ensures stops { K.tells keeper.new → OnErr result (Only (K.contents keeper.old) (K.left keeper.old) → (c : Contents) → K.left keeper.new c → CarriesEither device.old.state.messages (obeyed device.old.state reading (asked_kept line.now)).0.messages (K.contents keeper.old) c) }
     ensures told { K.tells keeper.new → K.tells keeper.old }
-    ensures cause { FailsFrom (K.faults keeper.old) (K.faults keeper.new) result }
+    ensures count { K.faults keeper.new ≡ count_after (has_failed result) (K.faults keeper.old) }
 {
     let reply = reply_to(alloc, device, steps, reading, line)?;
     let text = reply_text(alloc, &reply)?;

@@ -1,6 +1,6 @@
 //! The top call.
-ghost use Rattle.std.specs.Prelude.{◌≡◌, ◌⊎◌, ℕ, List, Some, Ok, IsErr};
-ghost use Rattle.budget_ports.specs.Faults.{Rose};
+ghost use Rattle.std.specs.Prelude.{◌≡◌, ◌≢◌, ◌==◌, ◌⊎◌, ℕ, List, Some, Ok, IsErr};
+ghost use Rattle.budget_ports.specs.Faults.{count_after};
 ghost use Rattle.budget_top.specs.Words.{planned, planned_mode, refusal_status};
 ghost use Rattle.budget_top.specs.MergeRun.{MergeRun};
 ghost use Rattle.budget_top.specs.Seen.{seen};
@@ -73,12 +73,12 @@ pub fn run<S: Source, W: Sink, K: Keeper, C: WallClock, G: Ledger>(
     // modes
     ensures merge { planned_mode words.now ≡ Some Mode.Merge → MergeRun result (S.left source.old) (S.left source.new) (W.taken sink.old) (W.taken sink.new) }
     ensures merge_alone { planned_mode words.now ≡ Some Mode.Merge → (keeper.new ≡ keeper.old) × (clock.new ≡ clock.old) }
-    ensures device { (plan : Plan) (node : List ℕ) → planned words.now ≡ Ok plan → plan.mode ≡ Mode.Device → plan.node ≡ Some node → DeviceRun node result (S.left source.old) (S.left source.new) (Rose (W.faults sink.old) (W.faults sink.new)) (seen (W.taken sink.old) (C.readings clock.old) (K.tells keeper.old) (K.contents keeper.old) (K.left keeper.old)) (seen (W.taken sink.new) (C.readings clock.new) (K.tells keeper.new) (K.contents keeper.new) (K.left keeper.new)) }
+    ensures device { (plan : Plan) (node : List ℕ) → planned words.now ≡ Ok plan → plan.mode ≡ Mode.Device → plan.node ≡ Some node → DeviceRun node result (S.left source.old) (S.left source.new) (W.faults sink.old) (W.faults sink.new) (seen (W.taken sink.old) (C.readings clock.old) (K.tells keeper.old) (K.contents keeper.old) (K.left keeper.old)) (seen (W.taken sink.new) (C.readings clock.new) (K.tells keeper.new) (K.contents keeper.new) (K.left keeper.new)) }
 
     // causes
-    ensures source { result ≡ 4 → Rose (S.faults source.old) (S.faults source.new) }
-    ensures sink { result ≡ 5 → Rose (W.faults sink.old) (W.faults sink.new) }
-    ensures keeper { result ≡ 6 → Rose (K.faults keeper.old) (K.faults keeper.new) }
+    ensures source { S.faults source.new ≡ count_after (result == 4) (S.faults source.old) }
+    ensures sink { result ≢ 3 → W.faults sink.new ≡ count_after (result == 5) (W.faults sink.old) }
+    ensures keeper { K.faults keeper.new ≡ count_after (result == 6) (K.faults keeper.old) }
 {
     match plan(alloc, words) {
         Ok(plan) => match (plan.mode, plan.node) {

@@ -1,10 +1,11 @@
 //! The mode `merge`: joins the messages of the source's lines, and writes the latest message of
 //! each field.
-ghost use Rattle.std.specs.Prelude.{◌≡◌, ◌<◌, ◌≤◌, ◌^◌, List, ℕ, [], false, OnOk, OnErr, IsErrOf};
+ghost use Rattle.std.specs.Prelude.{◌≡◌, ◌==◌, ◌<◌, ◌^◌, List, ℕ, [], false, OnOk, OnErr};
 ghost use Rattle.std.specs.Io.KnownBytes.{Appends, IsAtEnd};
 ghost use Rattle.std.specs.List.{flat_map};
 ghost use Rattle.field_merge.specs.Log.{ended_line};
-ghost use Rattle.budget_ports.specs.Faults.{Rose};
+ghost use Rattle.budget_ports.specs.Faults.{count_after};
+ghost use Rattle.budget_top.specs.Stops.{step_status, end_status};
 ghost use Rattle.budget_top.specs.MergeRun.{MergeRun};
 ghost use Rattle.budget_top.specs.Fronts.{AppendsFront};
 ghost use Rattle.budget_top.specs.Limits.{HasRead};
@@ -12,7 +13,7 @@ ghost use Rattle.budget_top.specs.Steps.{Stands, EndsReading};
 
 use crate::begun::Begun;
 use crate::dispatch::{DONE, NO_MEMORY, SOME_BAD, SOURCE_FAILED, TOO_MUCH};
-use crate::input::{MOST_INPUT, PIECE, line_length};
+use crate::input::{End, PIECE, Piece, line_length, read_piece};
 use crate::stop::Stop;
 use crate::verdict::{Word, bad_line_text};
 use crate::write::write_all;
@@ -33,22 +34,12 @@ pub struct Merge {
     has_bad: bool,
 }
 
-/// How reading ended.
-#[derive(Clone, Copy, Debug, PartialEq, Eq)]
-pub enum End {
-    /// The source has no more bytes.
-    AtEnd,
-    SourceFailed,
-    /// A byte past the limit came.
-    TooMuch,
-    Stopped(Stop),
-}
-
 impl Merge {
-    ghost use Rattle.std.specs.Prelude.{◌≡◌, ◌+◌, ◌<◌, ◌≤◌, ◌^◌, ◌∷◌, [], ◌++◌, List, ℕ, Option, length, false, IfOk, OnOk, OnErr, IsErrOf};
+    ghost use Rattle.std.specs.Prelude.{◌≡◌, ◌==◌, ◌+◌, ◌<◌, ◌≤◌, ◌^◌, ◌∷◌, [], ◌++◌, List, ℕ, Option, length, false, IfOk, OnOk, OnErr};
     ghost use Rattle.std.specs.Io.KnownBytes.{Appends};
     ghost use Rattle.field_merge.specs.Messages.{IsMessage};
-    ghost use Rattle.budget_ports.specs.Faults.{Rose};
+    ghost use Rattle.budget_ports.specs.Faults.{count_after};
+    ghost use Rattle.budget_top.specs.Stops.{step_status};
     ghost use Rattle.budget_top.specs.Lines.{IsWithinLine, whole_lines, all_lines};
     ghost use Rattle.budget_top.specs.Verdicts.{bad_line, bad_lines, merge_text, some_bad};
     ghost use Rattle.budget_top.specs.Fronts.{AppendsFront};
@@ -78,8 +69,7 @@ impl Merge {
         requires valid { IfOk verdict IsMessage }
         ensures ok { OnOk result (Settles self.old self.new (W.taken sink.old) (W.taken sink.new) verdict) }
         ensures err { OnErr result (AppendsFront (W.taken sink.old) (W.taken sink.new) (bad_line (self.old.number + 1) verdict)) }
-        ensures later { W.faults sink.old ≤ W.faults sink.new }
-        ensures cause { IsErrOf result Stop.Sink → Rose (W.faults sink.old) (W.faults sink.new) }
+        ensures count { W.faults sink.new ≡ count_after (step_status result == 5) (W.faults sink.old) }
     {
         match verdict {
             Ok(message) => {
@@ -103,8 +93,7 @@ impl Merge {
         ensures err { OnErr result ((entry : Option (List ℕ)) (read : List ℕ) → Stands entry (W.taken sink.old) read self.old → AppendsFront entry (W.taken sink.new) (bad_lines (whole_lines (read ++ 10 ∷ [])))) }
         ensures live { OnOk result (self.new.latest.spent ≡ false) }
         ensures few { OnOk result (self.new.number ≡ self.old.number + 1) }
-        ensures later { W.faults sink.old ≤ W.faults sink.new }
-        ensures cause { IsErrOf result Stop.Sink → Rose (W.faults sink.old) (W.faults sink.new) }
+        ensures count { W.faults sink.new ≡ count_after (step_status result == 5) (W.faults sink.old) }
     {
         let verdict = self.line.judge(alloc)?;
         self.settle(alloc, sink, verdict)?;
@@ -131,8 +120,7 @@ impl Merge {
         ensures err { OnErr result ((entry : Option (List ℕ)) (read : List ℕ) → Stands entry (W.taken sink.old) read self.old → AppendsFront entry (W.taken sink.new) (bad_lines (whole_lines (read ++ bytes.now)))) }
         ensures live { OnOk result (self.new.latest.spent ≡ false) }
         ensures few { OnOk result (self.new.number ≤ self.old.number + length bytes.now) }
-        ensures later { W.faults sink.old ≤ W.faults sink.new }
-        ensures cause { IsErrOf result Stop.Sink → Rose (W.faults sink.old) (W.faults sink.new) }
+        ensures count { W.faults sink.new ≡ count_after (step_status result == 5) (W.faults sink.old) }
     {
         let mut at = 0;
         'lines: while let Some(length) = line_length(&bytes[at..]) {
@@ -151,8 +139,7 @@ impl Merge {
         ensures ok { OnOk result ((entry : Option (List ℕ)) (read : List ℕ) → Stands entry (W.taken sink.old) read self.old → Ended entry (W.taken sink.new) read self.new) }
         ensures err { OnErr result ((entry : Option (List ℕ)) (read : List ℕ) → Stands entry (W.taken sink.old) read self.old → AppendsFront entry (W.taken sink.new) (bad_lines (all_lines read))) }
         ensures live { OnOk result (self.new.latest.spent ≡ false) }
-        ensures later { W.faults sink.old ≤ W.faults sink.new }
-        ensures cause { IsErrOf result Stop.Sink → Rose (W.faults sink.old) (W.faults sink.new) }
+        ensures count { W.faults sink.new ≡ count_after (step_status result == 5) (W.faults sink.old) }
     {
         if self.line.is_empty() {
             return Ok(());
@@ -166,8 +153,7 @@ impl Merge {
         requires few { self.old.number < 2 ^ 60 }
         ensures ok { IfOk result (λ has_bad. (entry : Option (List ℕ)) (read : List ℕ) → Stands entry (W.taken sink.old) read self.old → (has_bad ≡ some_bad (all_lines read)) × Appends entry (W.taken sink.new) (merge_text read)) }
         ensures err { OnErr result ((entry : Option (List ℕ)) (read : List ℕ) → Stands entry (W.taken sink.old) read self.old → AppendsFront entry (W.taken sink.new) (merge_text read)) }
-        ensures later { W.faults sink.old ≤ W.faults sink.new }
-        ensures cause { IsErrOf result Stop.Sink → Rose (W.faults sink.old) (W.faults sink.new) }
+        ensures count { W.faults sink.new ≡ count_after (step_status result == 5) (W.faults sink.old) }
     {
         self.end_last(alloc, sink)?;
         self.latest.tidy()?;
@@ -181,8 +167,7 @@ impl Merge {
 fn write_lines<W: Sink>(sink: &mut W, lines: FieldLines<'_>) -> Result<(), Stop>
     ensures all { OnOk result (Appends (W.taken sink.old) (W.taken sink.new) (flat_map ended_line lines.entry)) }
     ensures front { OnErr result (AppendsFront (W.taken sink.old) (W.taken sink.new) (flat_map ended_line lines.entry)) }
-    ensures later { W.faults sink.old ≤ W.faults sink.new }
-    ensures cause { IsErrOf result Stop.Sink → Rose (W.faults sink.old) (W.faults sink.new) }
+    ensures count { W.faults sink.new ≡ count_after (step_status result == 5) (W.faults sink.old) }
 {
     let mut left = lines;
     'pieces: while let Some(piece) = left.next_piece()? {
@@ -197,30 +182,27 @@ fn read_all<S: Source, W: Sink>(
     merge: &mut Merge,
     source: &mut S,
     sink: &mut W,
-) -> End
+) -> End<Stop>
     requires fresh { Stands (W.taken sink.old) (W.taken sink.old) [] merge.old }
     ensures ends { (read : List ℕ) × HasRead (S.left source.old) (S.left source.new) read × EndsReading result (W.taken sink.old) (W.taken sink.new) read merge.new }
     ensures at_end { result ≡ End.AtEnd → IsAtEnd (S.left source.new) }
     ensures live { result ≡ End.AtEnd → merge.new.latest.spent ≡ false }
     ensures few { result ≡ End.AtEnd → merge.new.number < 2 ^ 60 }
-    ensures source { result ≡ End.SourceFailed → Rose (S.faults source.old) (S.faults source.new) }
-    ensures sink { result ≡ End.Stopped Stop.Sink → Rose (W.faults sink.old) (W.faults sink.new) }
-    ensures later { W.faults sink.old ≤ W.faults sink.new }
+    ensures source { S.faults source.new ≡ count_after (end_status result == 4) (S.faults source.old) }
+    ensures sink { W.faults sink.new ≡ count_after (end_status result == 5) (W.faults sink.old) }
 {
     let mut buffer = [0u8; PIECE];
     let mut taken = 0;
     'reads: loop {
-        let room = MOST_INPUT - taken;
-        let most = PIECE.min(room + 1);
-        let count = match source.read(&mut buffer[..most]) {
-            Ok(0) => return End::AtEnd,
-            Ok(count) => count,
-            Err(_) => return End::SourceFailed,
+        let (count, past) = match read_piece(source, &mut buffer, taken) {
+            Piece::End => return End::AtEnd,
+            Piece::Failed => return End::SourceFailed,
+            Piece::Bytes { count, past } => (count, past),
         };
-        if let Err(stop) = merge.feed(alloc, sink, &buffer[..count.min(room)]) {
+        if let Err(stop) = merge.feed(alloc, sink, &buffer[..count]) {
             return End::Stopped(stop);
         }
-        if count > room {
+        if past {
             return End::TooMuch;
         }
         taken += count;
@@ -236,8 +218,8 @@ fn merge_lines<S: Source, W: Sink>(
 ) -> u8
     requires fresh { Stands (W.taken sink.old) (W.taken sink.old) [] merge.old }
     ensures run { MergeRun result (S.left source.old) (S.left source.new) (W.taken sink.old) (W.taken sink.new) }
-    ensures source { result ≡ 4 → Rose (S.faults source.old) (S.faults source.new) }
-    ensures sink { result ≡ 5 → Rose (W.faults sink.old) (W.faults sink.new) }
+    ensures source { S.faults source.new ≡ count_after (result == 4) (S.faults source.old) }
+    ensures sink { W.faults sink.new ≡ count_after (result == 5) (W.faults sink.old) }
 {
     match read_all(alloc, merge, source, sink) {
         End::AtEnd => match merge.finish(alloc, sink) {
@@ -256,8 +238,8 @@ fn merge_lines<S: Source, W: Sink>(
 /// The program ends after a run, so what was kept isn't taken apart.
 pub fn run_merge<S: Source, W: Sink>(alloc: Global, source: &mut S, sink: &mut W) -> u8
     ensures run { MergeRun result (S.left source.old) (S.left source.new) (W.taken sink.old) (W.taken sink.new) }
-    ensures source { result ≡ 4 → Rose (S.faults source.old) (S.faults source.new) }
-    ensures sink { result ≡ 5 → Rose (W.faults sink.old) (W.faults sink.new) }
+    ensures source { S.faults source.new ≡ count_after (result == 4) (S.faults source.old) }
+    ensures sink { W.faults sink.new ≡ count_after (result == 5) (W.faults sink.old) }
 {
     let mut merge = match Merge::new(alloc) {
         Ok(merge) => merge,

@@ -1,10 +1,11 @@
 //! The opening of a device's run: what its group keeps.
-ghost use Rattle.std.specs.Prelude.{◌≡◌, ◌≤◌, ℕ, Ok, Err, IfOk};
+ghost use Rattle.std.specs.Prelude.{◌≡◌, ◌==◌, ℕ, Ok, Err, IfOk};
 ghost use Rattle.hybrid_clock.specs.Node.{IsNode};
-ghost use Rattle.budget_ports.specs.Faults.{Rose};
+ghost use Rattle.budget_ports.specs.Faults.{count_after};
 ghost use Rattle.budget_ports.specs.Keeper.{LeavesNoMore};
 ghost use Rattle.device_core.specs.Records.{kept_set};
 ghost use Rattle.budget_top.specs.Seen.{device_group, device_records};
+ghost use Rattle.budget_top.specs.Stops.{opening_status};
 ghost use Rattle.budget_top.specs.Acting.{IsOpened};
 
 use budget_ports::{Keeper, PortFault};
@@ -38,8 +39,7 @@ pub fn open<K: Keeper>(
     ensures same { K.tells keeper.new → K.contents keeper.new ≡ K.contents keeper.old }
     ensures left { LeavesNoMore (K.left keeper.old) (K.left keeper.new) }
     ensures told { K.tells keeper.new → K.tells keeper.old }
-    ensures later { K.faults keeper.old ≤ K.faults keeper.new }
-    ensures cause { result ≡ Err OpeningFault.Keeper → Rose (K.faults keeper.old) (K.faults keeper.new) }
+    ensures count { K.faults keeper.new ≡ count_after (opening_status result == 6) (K.faults keeper.old) }
 {
     let records = match keeper.since(group, &Txt::new(String::new(alloc))) {
         Ok(records) => records,

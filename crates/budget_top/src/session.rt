@@ -1,72 +1,14 @@
 //! A device that takes one line after the other.
-ghost use Rattle.std.specs.Prelude.{◌≡◌};
-ghost use Rattle.budget_top.specs.DeviceStops.{stop_of};
-ghost use Rattle.budget_top.specs.declared.session.DeviceStop.TheVariants.{Memory as OutOfMemory, Sink as SinkFailed};
-
 use crate::answer::act;
 use crate::begun::Begun;
-use crate::dispatch::{KEEPER_FAILED, NO_MEMORY, SINK_FAILED};
 use crate::input::line_length;
+use crate::stop::DeviceStop;
 use crate::write::write_and_flush;
-use budget_ports::{Failed, Keeper, PortFault, Sink, WallClock};
+use budget_ports::{Keeper, Sink, WallClock};
 use device_core::Device;
-use field_values::{NoMemory, Steps, Txt};
+use field_values::{Steps, Txt};
 use std::alloc::Global;
 use std::sync::ledger::Ledger;
-
-/// Why a device's run breaks off among its lines.
-#[derive(Clone, Copy, Debug, PartialEq, Eq)]
-pub enum DeviceStop {
-    /// Memory ran out.
-    Memory,
-    /// The keeper failed.
-    Keeper,
-    /// The sink failed.
-    Sink,
-}
-
-impl From<NoMemory> for DeviceStop {
-    ghost from_gives = { λ _ stop. stop ≡ OutOfMemory };
-
-    fn from(_error: NoMemory) -> DeviceStop {
-        DeviceStop::Memory
-    }
-}
-
-impl From<PortFault> for DeviceStop {
-    ghost from_gives = { λ fault stop. stop ≡ stop_of fault };
-
-    fn from(fault: PortFault) -> DeviceStop {
-        match fault {
-            PortFault::Failed => DeviceStop::Keeper,
-            PortFault::NoMemory => DeviceStop::Memory,
-        }
-    }
-}
-
-impl From<Failed> for DeviceStop {
-    ghost from_gives = { λ _ stop. stop ≡ SinkFailed };
-
-    fn from(_error: Failed) -> DeviceStop {
-        DeviceStop::Sink
-    }
-}
-
-impl DeviceStop {
-    ghost use Rattle.std.specs.Prelude.{◌≡◌};
-    ghost use Rattle.budget_top.specs.DeviceStops.{stop_status};
-
-    /// The status of a run that breaks off so.
-    pub fn status(self) -> u8
-        ensures { result ≡ stop_status self }
-    {
-        match self {
-            DeviceStop::Memory => NO_MEMORY,
-            DeviceStop::Keeper => KEEPER_FAILED,
-            DeviceStop::Sink => SINK_FAILED,
-        }
-    }
-}
 
 /// A device, the name of the group that keeps its messages, the line that has begun, and whether a
 /// line was refused.
@@ -79,9 +21,10 @@ pub struct Session {
 }
 
 impl Session {
-    ghost use Rattle.std.specs.Prelude.{◌≡◌, ◌≤◌, ℕ, List, [], ◌∷◌, ◌++◌, IfErr, OnOk, IsErrOf};
-    ghost use Rattle.budget_ports.specs.Faults.{Rose};
+    ghost use Rattle.std.specs.Prelude.{◌≡◌, ◌==◌, ℕ, List, [], ◌∷◌, ◌++◌, IfErr, OnOk};
+    ghost use Rattle.budget_ports.specs.Faults.{count_after};
     ghost use Rattle.budget_ports.specs.Keeper.{Only};
+    ghost use Rattle.budget_top.specs.Stops.{device_step_status};
     ghost use Rattle.budget_top.specs.Lines.{whole_lines, all_lines};
     ghost use Rattle.budget_top.specs.Seen.{seen};
     ghost use Rattle.budget_top.specs.Standing.{Entry, IsReady, Stands, Ended, BreaksAs};
@@ -101,10 +44,8 @@ impl Session {
         ensures ready { OnOk result (IsReady self.new) }
         ensures alone { K.tells keeper.new → OnOk result (Only (K.contents keeper.old) (K.left keeper.old) → Only (K.contents keeper.new) (K.left keeper.new)) }
         ensures told { K.tells keeper.new → K.tells keeper.old }
-        ensures sink_later { W.faults sink.old ≤ W.faults sink.new }
-        ensures keeper_later { K.faults keeper.old ≤ K.faults keeper.new }
-        ensures sink { IsErrOf result DeviceStop.Sink → Rose (W.faults sink.old) (W.faults sink.new) }
-        ensures keeper { IsErrOf result DeviceStop.Keeper → Rose (K.faults keeper.old) (K.faults keeper.new) }
+        ensures sink { W.faults sink.new ≡ count_after (device_step_status result == 5) (W.faults sink.old) }
+        ensures keeper { K.faults keeper.new ≡ count_after (device_step_status result == 6) (K.faults keeper.old) }
     {
         let reading = clock.now();
         let answer = act(
@@ -138,10 +79,8 @@ impl Session {
         ensures ready { OnOk result (IsReady self.new) }
         ensures alone { K.tells keeper.new → OnOk result (Only (K.contents keeper.old) (K.left keeper.old) → Only (K.contents keeper.new) (K.left keeper.new)) }
         ensures told { K.tells keeper.new → K.tells keeper.old }
-        ensures sink_later { W.faults sink.old ≤ W.faults sink.new }
-        ensures keeper_later { K.faults keeper.old ≤ K.faults keeper.new }
-        ensures sink { IsErrOf result DeviceStop.Sink → Rose (W.faults sink.old) (W.faults sink.new) }
-        ensures keeper { IsErrOf result DeviceStop.Keeper → Rose (K.faults keeper.old) (K.faults keeper.new) }
+        ensures sink { W.faults sink.new ≡ count_after (device_step_status result == 5) (W.faults sink.old) }
+        ensures keeper { K.faults keeper.new ≡ count_after (device_step_status result == 6) (K.faults keeper.old) }
     {
         let mut at = 0;
         'lines: while let Some(length) = line_length(&bytes[at..]) {
@@ -167,10 +106,8 @@ impl Session {
         ensures err { IfErr result (λ stop. (e : Entry) (read : List ℕ) → Stands e read self.old (seen (W.taken sink.old) (C.readings clock.old) (K.tells keeper.old) (K.contents keeper.old) (K.left keeper.old)) → BreaksAs stop e (Only (K.contents keeper.old) (K.left keeper.old)) (all_lines read) (seen (W.taken sink.new) (C.readings clock.new) (K.tells keeper.new) (K.contents keeper.new) (K.left keeper.new))) }
         ensures alone { K.tells keeper.new → OnOk result (Only (K.contents keeper.old) (K.left keeper.old) → Only (K.contents keeper.new) (K.left keeper.new)) }
         ensures told { K.tells keeper.new → K.tells keeper.old }
-        ensures sink_later { W.faults sink.old ≤ W.faults sink.new }
-        ensures keeper_later { K.faults keeper.old ≤ K.faults keeper.new }
-        ensures sink { IsErrOf result DeviceStop.Sink → Rose (W.faults sink.old) (W.faults sink.new) }
-        ensures keeper { IsErrOf result DeviceStop.Keeper → Rose (K.faults keeper.old) (K.faults keeper.new) }
+        ensures sink { W.faults sink.new ≡ count_after (device_step_status result == 5) (W.faults sink.old) }
+        ensures keeper { K.faults keeper.new ≡ count_after (device_step_status result == 6) (K.faults keeper.old) }
     {
         if self.line.is_empty() {
             return Ok(());

@@ -1,7 +1,8 @@
 //! Writes whole texts.
-ghost use Rattle.std.specs.Prelude.{OnOk, OnErr};
+ghost use Rattle.std.specs.Prelude.{◌≡◌, OnOk, OnErr};
+ghost use Rattle.std.specs.Result.{is_err};
 ghost use Rattle.std.specs.Io.KnownBytes.{Appends};
-ghost use Rattle.budget_ports.specs.Faults.{HasCause};
+ghost use Rattle.budget_ports.specs.Faults.{count_after};
 ghost use Rattle.budget_top.specs.Fronts.{AppendsFront};
 
 use budget_ports::{Failed, Sink};
@@ -11,7 +12,7 @@ use budget_ports::{Failed, Sink};
 pub fn write_all<W: Sink>(sink: &mut W, bytes: &[u8]) -> Result<(), Failed>
     ensures all { OnOk result (Appends (W.taken sink.old) (W.taken sink.new) bytes.now) }
     ensures front { OnErr result (AppendsFront (W.taken sink.old) (W.taken sink.new) bytes.now) }
-    ensures cause { HasCause (W.faults sink.old) (W.faults sink.new) result }
+    ensures count { W.faults sink.new ≡ count_after (is_err result) (W.faults sink.old) }
 {
     let mut at = 0;
     while at < bytes.len() {
@@ -25,7 +26,7 @@ pub fn write_all<W: Sink>(sink: &mut W, bytes: &[u8]) -> Result<(), Failed>
 pub fn write_and_flush<W: Sink>(sink: &mut W, bytes: &[u8]) -> Result<(), Failed>
     ensures all { OnOk result (Appends (W.taken sink.old) (W.taken sink.new) bytes.now) }
     ensures front { OnErr result (AppendsFront (W.taken sink.old) (W.taken sink.new) bytes.now) }
-    ensures cause { HasCause (W.faults sink.old) (W.faults sink.new) result }
+    ensures count { W.faults sink.new ≡ count_after (is_err result) (W.faults sink.old) }
 {
     write_all(sink, bytes)?;
     sink.flush()

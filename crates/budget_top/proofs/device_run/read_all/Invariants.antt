@@ -1,4 +1,4 @@
-use Rattle.std.proofs.Common.{◌≤◌, ◌-◌}
+use Rattle.std.proofs.Common.{◌≡◌, ◌≤◌, ◌-◌}
 use Rattle.budget_ports.specs.Keeper.{Only}
 use Rattle.budget_top.specs.Seen.{seen}
 use Rattle.budget_top.specs.Standing.{IsReady}
@@ -14,9 +14,9 @@ invariant-reads g l = record {
   ready : IsReady l.session;
   told : g.K.Keeper.tells l.keeper → g.K.Keeper.tells l.initial.keeper;
   alone : g.K.Keeper.tells l.keeper → Only (g.K.Keeper.contents l.initial.keeper) (g.K.Keeper.left l.initial.keeper) → Only (g.K.Keeper.contents l.keeper) (g.K.Keeper.left l.keeper);
-  source_later : g.S.Source.faults l.initial.source ≤ g.S.Source.faults l.source;
-  sink_later : g.W.Sink.faults l.initial.sink ≤ g.W.Sink.faults l.sink;
-  keeper_later : g.K.Keeper.faults l.initial.keeper ≤ g.K.Keeper.faults l.keeper;
+  source : g.S.Source.faults l.source ≡ g.S.Source.faults l.initial.source;
+  sink : g.W.Sink.faults l.sink ≡ g.W.Sink.faults l.initial.sink;
+  keeper : g.K.Keeper.faults l.keeper ≡ g.K.Keeper.faults l.initial.keeper;
 }
 
 abbrev pub decreases-reads : goal.decreases-reads

@@ -1,15 +1,15 @@
 use Rattle.std.proofs.Common.{◌≡◌, ◌≤◌, ◌-◌, false}
-use Rattle.budget_top.proofs.SoFar.{SoFar}
+use Rattle.budget_top.proofs.Running.{ReadSoFar}
 use Rattle.budget_top.proofs.merge.read_all.Given as goal
 
 abbrev pub invariant-reads : goal.invariant-reads
 invariant-reads g l = record {
-  read : SoFar (g.S.Source.left l.initial.source) (g.S.Source.left l.source) (g.W.Sink.taken l.initial.sink) (g.W.Sink.taken l.sink) l.taken l.merge;
+  read : ReadSoFar (g.S.Source.left l.initial.source) (g.S.Source.left l.source) (g.W.Sink.taken l.initial.sink) (g.W.Sink.taken l.sink) l.taken l.merge;
   live : l.merge.latest.spent ≡ false;
   few : l.merge.number ≤ l.taken;
   within : l.taken ≤ 1_073_741_824;
-  source_later : g.S.Source.faults l.initial.source ≤ g.S.Source.faults l.source;
-  later : g.W.Sink.faults l.initial.sink ≤ g.W.Sink.faults l.sink;
+  source : g.S.Source.faults l.source ≡ g.S.Source.faults l.initial.source;
+  sink : g.W.Sink.faults l.sink ≡ g.W.Sink.faults l.initial.sink;
 }
 
 abbrev pub decreases-reads : goal.decreases-reads

@@ -1,4 +1,4 @@
-use Rattle.std.proofs.Common.{arith}
+use Rattle.std.proofs.Common.{◌∙◌}
 use Rattle.std.proofs.lemmas.Result.{err_from_is_err_and}
 use Rattle.budget_top.proofs.Pieces.{given_in_part, given_next, told_piece}
 use Rattle.budget_top.proofs.merge.write_lines.Goals as goal
@@ -17,5 +17,5 @@ pieces-preserved g c = record {
       c.bytes.result.now c.in-Some.piece c.pieces.invariant.given
       (told_piece c.in_ok-piece.field-0 c.in-Some.piece c.pieces.left c.next_piece.new.self c.in-Some.is c.in_ok-piece.ensures)
       c.bytes.ensures.value c.in_ok-write_all.ensures.all;
-  later = omega (arith, c.pieces.invariant.later, c.in_ok-write_all.ensures.cause.later);
+  faults = c.in_ok-write_all.ensures.count ∙ c.pieces.invariant.faults;
 }

@@ -1,4 +1,4 @@
-use Rattle.std.proofs.Common.{arith, length-take, length-drop, take, drop}
+use Rattle.std.proofs.Common.{◌∙◌, arith, length-take, length-drop, take, drop}
 use Rattle.std.proofs.lemmas.List.{take-append-drop}
 use Rattle.std.proofs.lemmas.Result.{err_from_is_err_and}
 use Rattle.std.proofs.KnownBytes.{Appends-kept}
@@ -18,5 +18,5 @@ pub loop-at-preserved : goal.loop-at-preserved
 loop-at-preserved g c = record {
   within = let b = c.in_ok-at.ensures.bound in omega (arith, simp (length-take, length-drop) at c.in_ok-at.ensures.bound);
   written = after_write _ _ _ c.args.bytes.now c.loop-at.at c.in_ok-at.field-0 c.loop-at.invariant.written c.in_ok-at.ensures.bytes;
-  later = omega (arith, c.loop-at.invariant.later, c.in_ok-at.ensures.cause.later);
+  faults = c.in_ok-at.ensures.count ∙ c.loop-at.invariant.faults;
 }

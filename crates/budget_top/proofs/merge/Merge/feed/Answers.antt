@@ -1,4 +1,4 @@
-use Rattle.std.proofs.Common.{List, ℕ, arith, subst, sym, drop, length-drop}
+use Rattle.std.proofs.Common.{◌∙◌, List, ℕ, arith, subst, sym, drop, length-drop}
 use Rattle.std.proofs.lemmas.Result.{err_from_is_err_and}
 use Rattle.budget_top.specs.Lines.{FirstEnd}
 use Rattle.budget_top.specs.Steps.{Stands}
@@ -36,7 +36,7 @@ lines-preserved g c =
           (c.in_ok-end_line.ensures.ok entry _ (c.in_ok-keep.ensures.ok entry (g.W.Sink.taken c.lines.sink) _ (c.lines.invariant.stands entry read h)));
       live = c.in_ok-end_line.ensures.live;
       few = omega (arith, c.lines.invariant.few, c.in_ok-end_line.ensures.few, c.in_ok-keep.ensures.same.1);
-      later = omega (arith, c.lines.invariant.later, c.in_ok-end_line.ensures.later);
+      faults = ◌∙◌ {b = g.W.Sink.faults c.lines.sink} c.in_ok-end_line.ensures.count c.lines.invariant.faults;
     }
 
 pub keep-requires-2 : goal.keep-requires-2

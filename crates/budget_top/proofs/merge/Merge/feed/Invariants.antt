@@ -8,7 +8,7 @@ invariant-lines g l = record {
   stands : (entry : Option (List ℕ)) (read : List ℕ) → Stands entry (g.W.Sink.taken l.initial.sink) read l.initial.self → Stands entry (g.W.Sink.taken l.sink) (read ++ take l.at l.bytes) l.self;
   live : l.self.latest.spent ≡ false;
   few : l.self.number ≤ l.initial.self.number + l.at;
-  later : g.W.Sink.faults l.initial.sink ≤ g.W.Sink.faults l.sink;
+  faults : g.W.Sink.faults l.sink ≡ g.W.Sink.faults l.initial.sink;
 }
 
 abbrev pub decreases-lines : goal.decreases-lines

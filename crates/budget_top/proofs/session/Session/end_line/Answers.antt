@@ -8,7 +8,7 @@ pub returns-in_err-answer-clause-err : goal.returns-in_err-answer-clause-err
 returns-in_err-answer-clause-err g c =
     let p = err_from_is_err_and c.from_residual.result c.from_residual.ensures.1 in
     rw p.1 (λ e read s. breaks_port _ p.0 p.2 e _ _ _ (
-    halts_end e read c.args.self.now _ _ s c.act.ensures.told c.now-reading.result c.now-reading.ensures.given refl c.in_err-answer.ensures.either c.in_err-answer.ensures.stops))
+    halts_end e read c.args.self.now _ _ s c.act.ensures.told c.now-reading.result c.now-reading.ensures.given refl c.in_err-answer.ensures.same c.in_err-answer.ensures.stops))
 
 pub returns-in_err-write_and_flush-clause-err : goal.returns-in_err-write_and_flush-clause-err
 returns-in_err-write_and_flush-clause-err g c =

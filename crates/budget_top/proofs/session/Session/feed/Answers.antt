@@ -1,7 +1,8 @@
-use Rattle.std.proofs.Common.{refl, arith, sym, drop, length-drop}
+use Rattle.std.proofs.Common.{◌∙◌, refl, arith, sym, drop, length-drop}
 use Rattle.std.proofs.lemmas.Result.{err_from_is_err_and}
 use Rattle.budget_top.specs.Lines.{FirstEnd}
-use Rattle.budget_top.specs.declared.session.DeviceStop.TheVariants.{Memory}
+use Rattle.budget_top.specs.declared.stop.DeviceStop.TheVariants.{Run}
+use Rattle.budget_top.specs.declared.stop.Stop.TheVariants.{Memory}
 use Rattle.budget_top.proofs.Cutting.{first_end, within_none}
 use Rattle.budget_top.proofs.Feeding.{ends_there, line_within}
 use Rattle.budget_top.proofs.Serving.{halts_between, breaks_from, breaks_more, first_taken, first_line, stands_within, stands_line, stands_rest}
@@ -11,8 +12,8 @@ pub returns-in_err-push-clause-err : goal.returns-in_err-push-clause-err
 returns-in_err-push-clause-err g c =
     let p = err_from_is_err_and c.from_residual.result c.from_residual.ensures.1 in
     rw (p.1, p.2) (λ e read s.
-    breaks_from Memory e _ _ _ _ c.lines.invariant.alone
-    (breaks_more Memory e _ _ _ _ (first_taken read c.args.bytes.now c.lines.at) (halts_between e _ c.lines.self _ (c.lines.invariant.stands e read s))))
+    breaks_from (Run Memory) e _ _ _ _ c.lines.invariant.alone
+    (breaks_more (Run Memory) e _ _ _ _ (first_taken read c.args.bytes.now c.lines.at) (halts_between e _ c.lines.self _ (c.lines.invariant.stands e read s))))
 
 pub returns-in_err-end_line-clause-err : goal.returns-in_err-end_line-clause-err
 returns-in_err-end_line-clause-err g c =
@@ -34,16 +35,16 @@ lines-preserved g c =
       ready = c.in_ok-end_line.ensures.ready;
       told = λ t. c.lines.invariant.told (c.end_line.ensures.told t);
       alone = λ t a. c.in_ok-end_line.ensures.alone t (c.lines.invariant.alone (c.end_line.ensures.told t) a);
-      sink_later = omega (arith, c.lines.invariant.sink_later, c.end_line.ensures.sink_later);
-      keeper_later = omega (arith, c.lines.invariant.keeper_later, c.end_line.ensures.keeper_later);
+      sink = ◌∙◌ {b = g.W.Sink.faults c.lines.sink} c.in_ok-end_line.ensures.sink c.lines.invariant.sink;
+      keeper = ◌∙◌ {b = g.K.Keeper.faults c.lines.keeper} c.in_ok-end_line.ensures.keeper c.lines.invariant.keeper;
     }
 
 pub returns-in_err-push-2-clause-err : goal.returns-in_err-push-2-clause-err
 returns-in_err-push-2-clause-err g c =
     let p = err_from_is_err_and c.from_residual-in_err-push-2.result c.from_residual-in_err-push-2.ensures.1 in
     rw (p.1, p.2) (λ e read s.
-    breaks_from Memory e _ _ _ _ c.lines.invariant.alone
-    (breaks_more Memory e _ _ _ _ (first_taken read c.args.bytes.now c.lines.at) (halts_between e _ c.lines.self _ (c.lines.invariant.stands e read s))))
+    breaks_from (Run Memory) e _ _ _ _ c.lines.invariant.alone
+    (breaks_more (Run Memory) e _ _ _ _ (first_taken read c.args.bytes.now c.lines.at) (halts_between e _ c.lines.self _ (c.lines.invariant.stands e read s))))
 
 pub returns-clause-ok : goal.returns-clause-ok
 returns-clause-ok g c = λ e read s.

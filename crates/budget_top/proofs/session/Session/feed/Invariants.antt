@@ -1,4 +1,4 @@
-use Rattle.std.proofs.Common.{◌≤◌, ◌-◌, ◌++◌, List, ℕ, take, length}
+use Rattle.std.proofs.Common.{◌≡◌, ◌≤◌, ◌-◌, ◌++◌, List, ℕ, take, length}
 use Rattle.budget_ports.specs.Keeper.{Only}
 use Rattle.budget_top.specs.Seen.{seen}
 use Rattle.budget_top.specs.Standing.{Entry, IsReady, Stands}
@@ -13,8 +13,8 @@ invariant-lines g l = record {
   ready : IsReady l.self;
   told : g.K.Keeper.tells l.keeper → g.K.Keeper.tells l.initial.keeper;
   alone : g.K.Keeper.tells l.keeper → Only (g.K.Keeper.contents l.initial.keeper) (g.K.Keeper.left l.initial.keeper) → Only (g.K.Keeper.contents l.keeper) (g.K.Keeper.left l.keeper);
-  sink_later : g.W.Sink.faults l.initial.sink ≤ g.W.Sink.faults l.sink;
-  keeper_later : g.K.Keeper.faults l.initial.keeper ≤ g.K.Keeper.faults l.keeper;
+  sink : g.W.Sink.faults l.sink ≡ g.W.Sink.faults l.initial.sink;
+  keeper : g.K.Keeper.faults l.keeper ≡ g.K.Keeper.faults l.initial.keeper;
 }
 
 abbrev pub decreases-lines : goal.decreases-lines
