@@ -1,8 +1,8 @@
 -- A device's run as a whole.
-use Rattle.std.proofs.Common.{◌≡◌, ℕ, ◌+◌, ◌-◌, ◌<◌, ◌≤◌, ◌⊎◌, inl, inr, min, List, [], ◌++◌, refl, ap, sym, ◌∙◌, subst, Bool, true, false, cond, Option, Some, Result, Ok, Err, OnOk, OnErr, length, take, append-nil, length-append, length-take, arith}
-use Rattle.std.proofs.KnownBytes.{Consumes-trans, Consumes-kept, Consumes-nil, Appends-nil}
+use Rattle.std.proofs.Common.{◌≡◌, ℕ, ◌<◌, ◌≤◌, ◌⊎◌, inl, inr, List, [], ◌++◌, refl, ap, sym, ◌∙◌, subst, Bool, true, false, cond, Option, Some, Result, Ok, Err, OnOk, OnErr, length, take, append-nil, arith}
+use Rattle.std.proofs.KnownBytes.{Consumes-nil, Appends-nil}
 use Rattle.std.proofs.lemmas.Bool.{lt-ltb, le-ltb, cases_lt, cond-true, cond-false}
-use Rattle.std.specs.Io.KnownBytes.{Appends, Consumes, Keeps, IsAtEnd}
+use Rattle.std.specs.Io.KnownBytes.{Appends, Consumes, IsAtEnd}
 use Rattle.std.specs.Result.{is_err}
 use Rattle.budget_ports.specs.Faults.{count_after}
 use Rattle.budget_ports.specs.Contents.{Contents}
@@ -24,7 +24,7 @@ use Rattle.budget_ports.specs.declared.stream.Failed.{Failed}
 use Rattle.budget_top.specs.Fronts.{AppendsFront}
 use Rattle.budget_top.proofs.Standing.{appends_as, front_as}
 use Rattle.budget_top.proofs.Folding.{takes_none}
-use Rattle.budget_top.proofs.Reading.{all_of, front_alone}
+use Rattle.budget_top.proofs.Reading.{all_of}
 use Rattle.budget_top.proofs.Serving.{breaks_from}
 
 -- reading

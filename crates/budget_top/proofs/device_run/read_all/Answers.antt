@@ -1,4 +1,4 @@
-use Rattle.std.proofs.Common.{◌≡◌, ◌∙◌, ◌++◌, arith, sym}
+use Rattle.std.proofs.Common.{◌∙◌, ◌++◌, arith, sym}
 use Rattle.budget_top.proofs.Reading.{many_on, same_on}
 use Rattle.budget_top.proofs.Answering.{stands_along, handles_along, breaks_along}
 use Rattle.budget_top.proofs.device_run.read_all.Goals as goal
@@ -19,7 +19,7 @@ returns-in-Err-clause-ends g c = λ e s.
       c.reads.invariant.read.read ++ r.more,
       r.has_read,
       breaks_along c.in-Err.stop e _ _ _ _ _ (sym r.within) (λ t a. c.reads.invariant.alone (c.feed.ensures.told t) a)
-      (c.in-Err.ensures.err e c.reads.invariant.read.read (c.reads.invariant.read.stands e s)),
+          (c.in-Err.ensures.err e c.reads.invariant.read.read (c.reads.invariant.read.stands e s)),
     )
 
 pub returns-then-past-clause-ends : goal.returns-then-past-clause-ends

@@ -1,5 +1,4 @@
-use Rattle.std.proofs.Common.{◌≤◌, ◌+◌, ◌-◌, length, length-take, arith, refl}
-use Rattle.budget_top.specs.Limits.{most_input}
+use Rattle.std.proofs.Common.{length-take, arith, refl}
 use Rattle.budget_top.proofs.Reading.{read_more}
 use Rattle.budget_top.proofs.input.read_piece.Goals as goal
 

@@ -1,4 +1,4 @@
-use Rattle.std.proofs.Common.{◌≡◌, ◌∙◌, ◌++◌, List, ℕ, length-take, arith, ap, sym, subst}
+use Rattle.std.proofs.Common.{◌∙◌, ◌++◌, List, ℕ, length-take, arith, ap, sym, subst}
 use Rattle.budget_top.specs.Lines.{whole_lines}
 use Rattle.budget_top.specs.Verdicts.{bad_lines}
 use Rattle.budget_top.specs.Steps.{Stands}
