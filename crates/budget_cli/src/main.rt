@@ -10,7 +10,7 @@ mod system_clock;
 mod tests;
 
 use budget_ports::{MemoryKeeper, Sink};
-use budget_top::{WordFault, plan, run, status_of};
+use budget_top::{WordFault, plan, refusal_status, run};
 use field_values::{Items, Steps, Txt};
 use std::env;
 use std::io::{BufWriter, ErrorKind, Stdout};
@@ -51,7 +51,7 @@ fn tell(rt: &HostRuntime, fault: WordFault) {
 /// Tells why there is no run, and gives the status.
 fn without_run(rt: &HostRuntime, fault: WordFault) -> ExitCode {
     tell(rt, fault);
-    ExitCode::from(status_of(fault))
+    ExitCode::from(refusal_status(fault))
 }
 
 /// Does what the words ask for over the standard streams, and gives the status. The ledger under the

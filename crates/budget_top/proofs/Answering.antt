@@ -16,10 +16,10 @@ use Rattle.budget_top.specs.declared.stop.Stop.TheVariants.{Memory, Sink}
 use Rattle.budget_top.specs.Lines.{whole_lines, all_lines, line_if_some, last_piece}
 use Rattle.budget_top.specs.Limits.{most_input, HasRead, lines_due}
 use Rattle.budget_top.specs.Seen.{device_group, Seen, Holds}
-use Rattle.budget_top.specs.Acting.{IsOpened}
+use Rattle.budget_top.specs.Handling.{IsOpened}
 use Rattle.budget_top.specs.Stops.{device_stop_status}
 use Rattle.budget_top.specs.Standing.{Entry, AreFirst, Handles, IsReady, Stands, Ended, BreaksAs}
-use Rattle.budget_top.specs.DeviceRun.{HandlesAll, HandlesTaken, HandlesLimit, Answers, TellsBadRecord, bad_record_text, entry}
+use Rattle.budget_top.specs.DeviceRun.{HandlesAll, HandlesTaken, HandlesLimit, HasAnswered, TellsBadRecord, bad_record_text, entry}
 use Rattle.budget_ports.specs.declared.stream.Failed.{Failed}
 use Rattle.budget_top.specs.Fronts.{AppendsFront}
 use Rattle.budget_top.proofs.Standing.{appends_as, front_as}
@@ -69,14 +69,14 @@ all_due read within = ([], append-nil _ ∙ sym (cond-false _ _ _ (le-ltb most_i
 
 -- the answers, by status
 
-pub answers_all : (has_bad : Bool) (status : ℕ) (left new_left : Option (List ℕ)) (e : Entry) (alone : Type 0) (session : Session) (now : Seen) (read : List ℕ) → status ≡ cond has_bad 1 0 → session.bad ≡ has_bad
-    → HasRead left new_left read → length read ≤ most_input → IsAtEnd new_left → Ended e read session now → (now.tells → alone → Only now.contents now.left) → Answers status left new_left e alone now
-answers_all has_bad status left new_left e alone session now read is bad has_read within at_end ended stops = let P : ℕ → Type 0 = λ n. Answers n left new_left e alone now in subst P (sym is) (by has_bad bad)
+pub answered_all : (has_bad : Bool) (status : ℕ) (left new_left : Option (List ℕ)) (e : Entry) (alone : Type 0) (session : Session) (now : Seen) (read : List ℕ) → status ≡ cond has_bad 1 0 → session.bad ≡ has_bad
+    → HasRead left new_left read → length read ≤ most_input → IsAtEnd new_left → Ended e read session now → (now.tells → alone → Only now.contents now.left) → HasAnswered status left new_left e alone now
+answered_all has_bad status left new_left e alone session now read is bad has_read within at_end ended stops = let P : ℕ → Type 0 = λ n. HasAnswered n left new_left e alone now in subst P (sym is) (by has_bad bad)
   where
     handles : (b : Bool) → session.bad ≡ b → HandlesAll b new_left e alone read now
     handles b same = record { within = within; at_end = at_end; handled = ended.handled; bad = sym ended.bad ∙ same; stops = stops }
 
-    by : (b : Bool) → session.bad ≡ b → Answers (cond b 1 0) left new_left e alone now
+    by : (b : Bool) → session.bad ≡ b → HasAnswered (cond b 1 0) left new_left e alone now
     by false same = record {
       read = read;
       has_read = has_read;
@@ -102,8 +102,8 @@ answers_all has_bad status left new_left e alone session now read is bad has_rea
       too_much = λ x. absurd (omega arith);
     }
 
-pub answers_taken : (left new_left : Option (List ℕ)) (e : Entry) (alone : Type 0) (now : Seen) (read : List ℕ) → HasRead left new_left read → HandlesTaken e alone read now → Answers 4 left new_left e alone now
-answers_taken left new_left e alone now read has_read h = record {
+pub answered_taken : (left new_left : Option (List ℕ)) (e : Entry) (alone : Type 0) (now : Seen) (read : List ℕ) → HasRead left new_left read → HandlesTaken e alone read now → HasAnswered 4 left new_left e alone now
+answered_taken left new_left e alone now read has_read h = record {
   read = read;
   has_read = has_read;
   known = refl;
@@ -116,8 +116,8 @@ answers_taken left new_left e alone now read has_read h = record {
   too_much = λ x. absurd (omega arith);
 }
 
-pub answers_limit : (left new_left : Option (List ℕ)) (e : Entry) (alone : Type 0) (now : Seen) (read : List ℕ) → HasRead left new_left read → HandlesLimit e alone read now → Answers 9 left new_left e alone now
-answers_limit left new_left e alone now read has_read h = record {
+pub answered_limit : (left new_left : Option (List ℕ)) (e : Entry) (alone : Type 0) (now : Seen) (read : List ℕ) → HasRead left new_left read → HandlesLimit e alone read now → HasAnswered 9 left new_left e alone now
+answered_limit left new_left e alone now read has_read h = record {
   read = read;
   has_read = has_read;
   known = refl;
@@ -130,10 +130,10 @@ answers_limit left new_left e alone now read has_read h = record {
   too_much = λ x. h;
 }
 
-pub answers_stop : (stop : DeviceStop) (status : ℕ) (left new_left : Option (List ℕ)) (e : Entry) (alone : Type 0) (now : Seen) (read : List ℕ) → status ≡ device_stop_status stop → HasRead left new_left read → BreaksAs stop e alone (lines_due read) now → Answers status left new_left e alone now
-answers_stop stop status left new_left e alone now read is has_read h = let P : ℕ → Type 0 = λ n. Answers n left new_left e alone now in subst P (sym is) (by stop h)
+pub answered_stop : (stop : DeviceStop) (status : ℕ) (left new_left : Option (List ℕ)) (e : Entry) (alone : Type 0) (now : Seen) (read : List ℕ) → status ≡ device_stop_status stop → HasRead left new_left read → BreaksAs stop e alone (lines_due read) now → HasAnswered status left new_left e alone now
+answered_stop stop status left new_left e alone now read is has_read h = let P : ℕ → Type 0 = λ n. HasAnswered n left new_left e alone now in subst P (sym is) (by stop h)
   where
-    by : (x : DeviceStop) → BreaksAs x e alone (lines_due read) now → Answers (device_stop_status x) left new_left e alone now
+    by : (x : DeviceStop) → BreaksAs x e alone (lines_due read) now → HasAnswered (device_stop_status x) left new_left e alone now
     by (Run Memory) breaks = record {
       read = read;
       has_read = has_read;
@@ -172,8 +172,8 @@ answers_stop stop status left new_left e alone now read is has_read h = let P : 
     }
 
 -- what a stop could leave is known from the run's entry
-pub answers_from : (status : ℕ) (left new_left : Option (List ℕ)) (e : Entry) (alone before : Type 0) (now : Seen) → (now.tells → before → alone) → Answers status left new_left e alone now → Answers status left new_left e before now
-answers_from status left new_left e alone before now f h =
+pub answered_from : (status : ℕ) (left new_left : Option (List ℕ)) (e : Entry) (alone before : Type 0) (now : Seen) → (now.tells → before → alone) → HasAnswered status left new_left e alone now → HasAnswered status left new_left e before now
+answered_from status left new_left e alone before now f h =
     let all : (b : Bool) → HandlesAll b new_left e alone h.read now → HandlesAll b new_left e before h.read now = λ b k. record { within = k.within; at_end = k.at_end; handled = k.handled; bad = k.bad; stops = λ t x. k.stops t (f t x) } in
     record {
       read = h.read;

@@ -15,7 +15,7 @@ use Rattle.device_core.specs.Records.{record_of}
 use Rattle.device_core.specs.Device.{DeviceState, new_in}
 use Rattle.device_core.specs.Holding.{BatchesAreKept}
 use Rattle.budget_top.specs.Seen.{Holds, device_group}
-use Rattle.budget_top.specs.Acting.{Brings, Carries, CarriesEither}
+use Rattle.budget_top.specs.Handling.{Brings, Carries, CarriesEither}
 
 -- ---- the new ones of some messages
 

@@ -21,8 +21,8 @@ use Rattle.command_lines.specs.declared.command.CommandFault.{CommandFault}
 use Rattle.command_lines.specs.declared.reply.Reply.{Reply}
 use Rattle.command_lines.specs.Commands.{command, IsRead}
 use Rattle.command_lines.specs.Replies.{refused}
-use Rattle.budget_top.specs.Session.{asked_kept, told, settled}
-use Rattle.budget_top.specs.Acting.{Brings}
+use Rattle.budget_top.specs.Session.{asked_kept, reply_to_refusal, settled}
+use Rattle.budget_top.specs.Handling.{Brings}
 
 -- ---- what is asked
 
@@ -42,7 +42,7 @@ asked_none kept line is h =
 refused_by : (reply : Accepted → Reply) (meant : Result Accepted LineRefusal) (old new : DeviceState) (refusal : LineRefusal) (r : Reply)
     → meant ≡ Err refusal → new ≡ old → refused refusal ≡ Some r → settled old.state reply meant ≡ (new.state, r)
 refused_by reply meant old new refusal r is same by =
-    ap (settled old.state reply) is ∙ ap (λ o. (old.state, told o)) by ∙ ap (λ (d : DeviceState). (d.state, r)) (sym same)
+    ap (settled old.state reply) is ∙ ap (λ o. (old.state, reply_to_refusal o)) by ∙ ap (λ (d : DeviceState). (d.state, r)) (sym same)
 
 -- a refusal that has a reply leaves the device as it was
 pub refused_kept : (meant : Result Accepted LineRefusal) (old new : DeviceState) (refusal : LineRefusal) (r : Reply)

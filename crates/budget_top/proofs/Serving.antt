@@ -25,7 +25,7 @@ use Rattle.command_lines.specs.Commands.{longest_line}
 use Rattle.budget_top.specs.Fronts.{AppendsFront}
 use Rattle.budget_top.specs.Session.{Input, asked, asked_kept, obeyed, step, after, replies, some_refused, is_refused}
 use Rattle.budget_top.specs.Seen.{Seen, Holds}
-use Rattle.budget_top.specs.Acting.{Acts, Carries, CarriesEither, HoldsEither}
+use Rattle.budget_top.specs.Handling.{IsHandled, Carries, CarriesEither, HoldsEither}
 use Rattle.budget_top.specs.Stops.{stop_of}
 use Rattle.budget_top.specs.Standing.{Entry, lines_of, readings_of, AreFirst, Stands, Ended, Halts, Cuts, BreaksAs}
 use Rattle.budget_top.proofs.Cutting.{whole_lines-within, last_piece-within, whole_lines-end, last_piece-end, whole_lines-append}
@@ -113,23 +113,23 @@ module _ (e : Entry) (read : List ℕ) (old : Session) (before now : Seen) (s : 
       either_as e.contents c _ _ _ _ (ap (λ (x : State). x.messages) s.state) (ap (λ (x : State). x.messages) state_now) (carries e.contents (held t))
 
   -- the line was answered
-  pub stands_end : (new : Session) (text : List ℕ) (refused : Bool) → Acts (done old reading) new.device.state text refused → new.line ≡ Some [] → new.bad ≡ (old.bad || refused)
+  pub stands_end : (new : Session) (text : List ℕ) (refused : Bool) → IsHandled (done old reading) new.device.state text refused → new.line ≡ Some [] → new.bad ≡ (old.bad || refused)
       → Appends before.taken now.taken text → (now.tells → Carries old.device.state.messages (done old reading).0.messages before.contents now.contents) → Stands e (read ++ 10 ∷ []) new now
-  stands_end new text refused acts line bad written carries = record {
+  stands_end new text refused handled_line line bad written carries = record {
     handled = record {
       inputs = have;
       lines = lines_now;
       took = took_now;
       written =
           appends_as e.taken now.taken _ _
-          (ap (λ t. replies e.start had ++ t) (acts.is_text ∙ ap reply_text_of reply_now) ∙ sym (replies-last e.start had (in_hand read reading)))
+          (ap (λ t. replies e.start had ++ t) (handled_line.is_text ∙ ap reply_text_of reply_now) ∙ sym (replies-last e.start had (in_hand read reading)))
           (Appends-trans e.taken before.taken now.taken (replies e.start had) text s.handled.written written);
       keeper = λ t. holds_now t now.contents (carries t);
     };
     line = line ∙ ap kept (sym (last_piece-end read));
-    state = acts.state ∙ state_now;
+    state = handled_line.state ∙ state_now;
     bad =
-        bad ∙ ap (λ b. b || refused) s.bad ∙ ap (λ b. some_refused e.start had || b) (acts.is_bad ∙ ap is_refused reply_now)
+        bad ∙ ap (λ b. b || refused) s.bad ∙ ap (λ b. some_refused e.start had || b) (handled_line.is_bad ∙ ap is_refused reply_now)
         ∙ sym (refused-last e.start had (in_hand read reading));
   }
 
@@ -149,14 +149,14 @@ module _ (e : Entry) (read : List ℕ) (old : Session) (before now : Seen) (s : 
   }
 
   -- the reply was cut
-  pub cuts_end : (new : State) (text : List ℕ) (refused : Bool) → Acts (done old reading) new text refused → AppendsFront before.taken now.taken text
+  pub cuts_end : (new : State) (text : List ℕ) (refused : Bool) → IsHandled (done old reading) new text refused → AppendsFront before.taken now.taken text
       → (now.tells → Carries old.device.state.messages (done old reading).0.messages before.contents now.contents)
       → (now.tells → Only before.contents before.left → Only now.contents now.left) → Cuts e (Only before.contents before.left) (whole_lines (read ++ 10 ∷ [])) now
-  cuts_end new text refused acts written carries alone = record {
+  cuts_end new text refused handled_line written carries alone = record {
     inputs = had;
     last = in_hand read reading;
     part = written.front;
-    of = (written.of.0, written.of.1 ∙ acts.is_text ∙ ap reply_text_of reply_now);
+    of = (written.of.0, written.of.1 ∙ handled_line.is_text ∙ ap reply_text_of reply_now);
     first = first_now;
     took = took_now;
     written = Appends-trans e.taken before.taken now.taken (replies e.start had) written.front s.handled.written written.written;

@@ -48,7 +48,7 @@ abbrev pub device_statuses : List ℕ
 device_statuses = 0 ∷ 1 ∷ 4 ∷ 5 ∷ 6 ∷ 7 ∷ 9 ∷ []
 
 -- what was read and done, and how the status follows from it
-pub record Answers (status : ℕ) (left new_left : Option (List ℕ)) (e : Entry) (alone : Type 0) (now : Seen) : Type 0 where
+pub record HasAnswered (status : ℕ) (left new_left : Option (List ℕ)) (e : Entry) (alone : Type 0) (now : Seen) : Type 0 where
   pub read : List ℕ
   pub has_read : HasRead left new_left read
   pub known : IsTrue (list_any (λ s. status == s) device_statuses)
@@ -88,7 +88,7 @@ pub record Unopened (status : ℕ) (left new_left : Option (List ℕ)) (faults n
 pub record Opened (node : List ℕ) (status : ℕ) (left new_left : Option (List ℕ)) (old now : Seen) : Type 0 where
   pub first : List Message
   pub has : now.tells → kept_set (device_records old.contents) ≡ Ok first
-  pub answers : Answers status left new_left (entry old (begun node first)) (Only old.contents old.left) now
+  pub answered : HasAnswered status left new_left (entry old (begun node first)) (Only old.contents old.left) now
 
 -- a run of the device of this node, where the sink had failed so often before it, and has so often after it
 pub record DeviceRun (node : List ℕ) (status : ℕ) (left new_left : Option (List ℕ)) (faults new_faults : ℕ) (old now : Seen) : Type 0 where

@@ -12,6 +12,6 @@ pub mod Stops
 pub mod Steps
 pub mod Session
 pub mod Seen
-pub mod Acting
+pub mod Handling
 pub mod Standing
 pub mod DeviceRun

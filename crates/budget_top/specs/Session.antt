@@ -26,14 +26,14 @@ asked_kept None = Err 0
 asked_kept (Some line) = asked line
 
 -- the reply to a refusal. A want of memory would have none, and no line is refused for that by what it says
-abbrev pub told : Option Reply → Reply
-told None = Done []
-told (Some reply) = reply
+abbrev pub reply_to_refusal : Option Reply → Reply
+reply_to_refusal None = Done []
+reply_to_refusal (Some reply) = reply
 
 -- what an accepted line leaves, with its reply; a refused one leaves all as it is
 abbrev pub settled : State → (Accepted → Reply) → Result Accepted LineRefusal → State × Reply
 settled s reply (Ok accepted) = (accepted.device.state, reply accepted)
-settled s reply (Err refusal) = (s, told (refused refusal))
+settled s reply (Err refusal) = (s, reply_to_refusal (refused refusal))
 
 abbrev pub wrote_all : Accepted → Reply
 wrote_all accepted = wrote accepted.count accepted.device.made

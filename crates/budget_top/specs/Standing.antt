@@ -15,7 +15,7 @@ use Rattle.budget_top.specs.Kept.{kept}
 use Rattle.budget_top.specs.Fronts.{IsFront}
 use Rattle.budget_top.specs.Session.{Input, step, after, replies, some_refused}
 use Rattle.budget_top.specs.Seen.{device_group, Seen, Holds}
-use Rattle.budget_top.specs.Acting.{HoldsEither}
+use Rattle.budget_top.specs.Handling.{HoldsEither}
 
 -- how a run began: what the sink, the clock and the keeper told, and the state that the device had
 pub record Entry : Type 0 where

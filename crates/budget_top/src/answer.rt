@@ -10,7 +10,7 @@ ghost use Rattle.budget_ports.specs.Contents.{Contents};
 ghost use Rattle.budget_ports.specs.Keeper.{has_failed, Only};
 ghost use Rattle.budget_top.specs.Session.{asked_kept, settled, wrote_all, added_all, obeyed, is_refused};
 ghost use Rattle.budget_top.specs.Seen.{device_group};
-ghost use Rattle.budget_top.specs.Acting.{Acts, Brings, Carries, CarriesEither};
+ghost use Rattle.budget_top.specs.Handling.{IsHandled, Brings, Carries, CarriesEither};
 
 use crate::begun::Begun;
 use budget_ports::{Keeper, PortFault};
@@ -167,7 +167,7 @@ fn is_refusal(reply: &Reply) -> bool
 /// The reply's text is made before anything is kept. Where the keeper fails or memory runs out
 /// there is no reply, the device is not to be used any more, and the keeper holds what it held; a
 /// stop may leave that with all that the line made.
-pub fn act<K: Keeper, G: Ledger>(
+pub fn handle_line<K: Keeper, G: Ledger>(
     alloc: Global,
     device: &mut Device,
     keeper: &mut K,
@@ -179,7 +179,7 @@ pub fn act<K: Keeper, G: Ledger>(
     requires live { device.old.spent ≡ false }
     requires idle { device.old.batch ≡ [] }
     requires group { group.now ≡ device_group }
-    ensures ok { IfOk result (λ a. Acts (obeyed device.old.state reading (asked_kept line.now)) device.new.state a.text a.refused) }
+    ensures ok { IfOk result (λ a. IsHandled (obeyed device.old.state reading (asked_kept line.now)) device.new.state a.text a.refused) }
     ensures live { OnOk result (device.new.spent ≡ false) }
     ensures idle { OnOk result (device.new.batch ≡ []) }
     ensures carries { K.tells keeper.new → OnOk result (Carries device.old.state.messages (obeyed device.old.state reading (asked_kept line.now)).0.messages (K.contents keeper.old) (K.contents keeper.new)) }

@@ -40,7 +40,11 @@ impl Begun {
         }
     }
 
-    /// Goes on with the line.
+    /// Goes on with the line. Of a line that gets too long nothing is kept.
+    ///
+    /// # Errors
+    ///
+    /// `NoMemory`; the line is then not to be used any more.
     pub fn push(&mut self, bytes: &[u8]) -> Result<(), NoMemory>
         ensures { OnOk result (self.new ≡ kept_with self.old bytes.now) }
     {
@@ -74,6 +78,10 @@ impl Begun {
     }
 
     /// The message of the line, or the word for what is wrong with it.
+    ///
+    /// # Errors
+    ///
+    /// `NoMemory`. The line stays as it is.
     pub fn judge(&self, alloc: Global) -> Result<Result<Message, Word>, NoMemory>
         ensures verdict { IfOk result (λ verdict. verdict ≡ judged_kept self.now) }
         ensures valid { IfOk result (λ verdict. IfOk verdict IsMessage) }

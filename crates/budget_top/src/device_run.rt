@@ -8,7 +8,7 @@ ghost use Rattle.budget_top.specs.Limits.{HasRead};
 ghost use Rattle.budget_top.specs.Stops.{device_end_status};
 ghost use Rattle.budget_top.specs.Seen.{seen};
 ghost use Rattle.budget_top.specs.Standing.{Entry, IsReady, Stands};
-ghost use Rattle.budget_top.specs.DeviceRun.{Answers, DeviceRun, EndsAs, IsWhole, TellsBadRecord};
+ghost use Rattle.budget_top.specs.DeviceRun.{HasAnswered, DeviceRun, EndsAs, IsWhole, TellsBadRecord};
 
 use crate::begun::Begun;
 use crate::dispatch::{
@@ -78,7 +78,7 @@ fn answer_lines<S: Source, W: Sink, K: Keeper, C: WallClock, G: Ledger>(
     steps: &mut Steps<G>,
 ) -> u8
     requires { IsReady session.old }
-    ensures answers { (e : Entry) → Stands e [] session.old (seen (W.taken sink.old) (C.readings clock.old) (K.tells keeper.old) (K.contents keeper.old) (K.left keeper.old)) → Answers result (S.left source.old) (S.left source.new) e (Only (K.contents keeper.old) (K.left keeper.old)) (seen (W.taken sink.new) (C.readings clock.new) (K.tells keeper.new) (K.contents keeper.new) (K.left keeper.new)) }
+    ensures answers { (e : Entry) → Stands e [] session.old (seen (W.taken sink.old) (C.readings clock.old) (K.tells keeper.old) (K.contents keeper.old) (K.left keeper.old)) → HasAnswered result (S.left source.old) (S.left source.new) e (Only (K.contents keeper.old) (K.left keeper.old)) (seen (W.taken sink.new) (C.readings clock.new) (K.tells keeper.new) (K.contents keeper.new) (K.left keeper.new)) }
     ensures told { K.tells keeper.new → K.tells keeper.old }
     ensures source { S.faults source.new ≡ count_after (result == 4) (S.faults source.old) }
     ensures sink { W.faults sink.new ≡ count_after (result == 5) (W.faults sink.old) }

@@ -1,4 +1,4 @@
-use crate::tests::{joined, uncounted};
+use crate::tests::{FOOD, joined, uncounted};
 use budget_ports::{Keeper, Kept, ListClock, MemoryKeeper, MemorySink, MemorySource, PortFault};
 use field_values::{Items, Txt};
 use std::alloc::Global;
@@ -9,9 +9,6 @@ use std::test::Fail;
 const SET: &str = "set\tcategories\tfood\tname\tS:Food\n";
 
 const WROTE: &str = "ok 1\nwrites 1\n";
-
-const FOOD: &str =
-    "2024-01-05T10:00:00.000Z-0000-00000000000000aa\tcategories\tfood\tname\tS:Food\n";
 
 /// A run: the parts of its input, the calls of the source, the sink and the keeper that fail, the
 /// status, and the parts of its output.

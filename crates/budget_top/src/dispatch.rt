@@ -44,7 +44,7 @@ pub const NO_MEMORY: u8 = 7;
 pub const TOO_MUCH: u8 = 9;
 
 /// The status of a run whose words are refused.
-pub fn status_of(fault: WordFault) -> u8
+pub fn refusal_status(fault: WordFault) -> u8
     ensures { result ≡ refusal_status fault }
 {
     match fault {
@@ -89,6 +89,6 @@ pub fn run<S: Source, W: Sink, K: Keeper, C: WallClock, G: Ledger>(
             // no plan of a device lacks its node
             (Mode::Device, None) => unreachable!(),
         },
-        Err(fault) => status_of(fault),
+        Err(fault) => refusal_status(fault),
     }
 }

@@ -27,7 +27,7 @@ mod write;
 
 pub use dispatch::{
     BAD_RECORD, BAD_WORDS, DONE, KEEPER_FAILED, NO_MEMORY, SINK_FAILED, SOME_BAD, SOURCE_FAILED,
-    TOO_MUCH, run, status_of,
+    TOO_MUCH, refusal_status, run,
 };
 pub use laws::lines_are_written;
 pub use planning::plan;

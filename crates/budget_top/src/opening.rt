@@ -6,7 +6,7 @@ ghost use Rattle.budget_ports.specs.Keeper.{LeavesNoMore};
 ghost use Rattle.device_core.specs.Records.{kept_set};
 ghost use Rattle.budget_top.specs.Seen.{device_group, device_records};
 ghost use Rattle.budget_top.specs.Stops.{opening_status};
-ghost use Rattle.budget_top.specs.Acting.{IsOpened};
+ghost use Rattle.budget_top.specs.Handling.{IsOpened};
 
 use budget_ports::{Keeper, PortFault};
 use device_core::{Device, StartFault};

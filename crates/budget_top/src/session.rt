@@ -1,5 +1,5 @@
 //! A device that takes one line after the other.
-use crate::answer::act;
+use crate::answer::handle_line;
 use crate::begun::Begun;
 use crate::input::line_length;
 use crate::stop::DeviceStop;
@@ -48,7 +48,7 @@ impl Session {
         ensures keeper { K.faults keeper.new ≡ count_after (device_step_status result == 6) (K.faults keeper.old) }
     {
         let reading = clock.now();
-        let answer = act(
+        let answer = handle_line(
             alloc,
             &mut self.device,
             keeper,
@@ -63,7 +63,12 @@ impl Session {
         Ok(())
     }
 
-    /// Deals with the bytes that come next.
+    /// Deals with the bytes that come next: answers each line that ends in them.
+    ///
+    /// # Errors
+    ///
+    /// Why the run breaks off: memory ran out, the keeper failed, or the sink failed at a reply. The
+    /// session is then not to be used any more.
     pub fn feed<W: Sink, K: Keeper, C: WallClock, G: Ledger>(
         &mut self,
         alloc: Global,
@@ -93,6 +98,10 @@ impl Session {
     }
 
     /// Deals with a last line that lacks its line feed, where there is one.
+    ///
+    /// # Errors
+    ///
+    /// As `feed`.
     pub fn end_last<W: Sink, K: Keeper, C: WallClock, G: Ledger>(
         &mut self,
         alloc: Global,

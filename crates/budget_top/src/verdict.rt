@@ -42,6 +42,10 @@ impl Word {
 }
 
 /// The message of a line that is short enough, or the word for what is wrong with it.
+///
+/// # Errors
+///
+/// `NoMemory`.
 #[tactic(auto, unfolding(crate::specs::Verdicts::judged_short))]
 pub fn judge(alloc: Global, line: &[u8]) -> Result<Result<Message, Word>, NoMemory>
     ensures verdict { IfOk result (λ verdict. verdict ≡ judged_short line.now) }

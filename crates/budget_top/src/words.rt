@@ -17,12 +17,15 @@ pub enum Mode {
 /// What the words ask for.
 #[derive(Debug, Drop)]
 pub struct Plan {
+    /// What the run is to do.
     pub mode: Mode,
     /// The path of the store, or none where memory serves.
     pub store: Option<Txt>,
-    /// The node of this device.
+    /// The node of this device; a run of a device has one.
     pub node: Option<Node>,
+    /// The token by which a server knows a device.
     pub token: Txt,
+    /// The file of a household's data that a server keeps, and the file's group.
     pub file: Txt,
     pub group: Txt,
     /// How many connections or messages, from 1 to 1,000,000.

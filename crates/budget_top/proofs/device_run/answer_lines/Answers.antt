@@ -1,37 +1,37 @@
 use Rattle.std.proofs.Common.{true, false, refl}
-use Rattle.budget_top.proofs.Answering.{answers_all, answers_taken, answers_limit, answers_stop, first_due, all_due}
+use Rattle.budget_top.proofs.Answering.{answered_all, answered_taken, answered_limit, answered_stop, first_due, all_due}
 use Rattle.budget_top.proofs.Serving.{breaks_more, breaks_from}
 use Rattle.budget_top.proofs.device_run.answer_lines.Goals as goal
 
 pub returns-then-session-clause-answers : goal.returns-then-session-clause-answers
 returns-then-session-clause-answers g c = λ e s.
     let r = c.in-AtEnd.ensures.ends e s in
-    answers_all true 1 _ _ e _ c.end_last.new.self _ r.0 refl c.if-session.true r.1 r.2.0 (c.in-AtEnd.ensures.at_end refl) (c.in-Ok.ensures.ok e r.0 r.2.1)
+    answered_all true 1 _ _ e _ c.end_last.new.self _ r.0 refl c.if-session.true r.1 r.2.0 (c.in-AtEnd.ensures.at_end refl) (c.in-Ok.ensures.ok e r.0 r.2.1)
     (λ t a. c.in-Ok.ensures.alone t (c.in-AtEnd.ensures.alone tt (c.end_last.ensures.told t) a))
 
 pub returns-else-session-clause-answers : goal.returns-else-session-clause-answers
 returns-else-session-clause-answers g c = λ e s.
     let r = c.in-AtEnd.ensures.ends e s in
-    answers_all false 0 _ _ e _ c.end_last.new.self _ r.0 refl c.if-session.false r.1 r.2.0 (c.in-AtEnd.ensures.at_end refl) (c.in-Ok.ensures.ok e r.0 r.2.1)
+    answered_all false 0 _ _ e _ c.end_last.new.self _ r.0 refl c.if-session.false r.1 r.2.0 (c.in-AtEnd.ensures.at_end refl) (c.in-Ok.ensures.ok e r.0 r.2.1)
     (λ t a. c.in-Ok.ensures.alone t (c.in-AtEnd.ensures.alone tt (c.end_last.ensures.told t) a))
 
 pub returns-in-Err-clause-answers : goal.returns-in-Err-clause-answers
 returns-in-Err-clause-answers g c = λ e s.
     let r = c.in-AtEnd.ensures.ends e s in
-    answers_stop c.in-Err.stop _ _ _ e _ _ r.0 c.status.ensures r.1
+    answered_stop c.in-Err.stop _ _ _ e _ _ r.0 c.status.ensures r.1
     (breaks_more c.in-Err.stop e _ _ _ _ (all_due r.0 r.2.0) (breaks_from c.in-Err.stop e _ _ _ _ (λ t a. c.in-AtEnd.ensures.alone tt (c.end_last.ensures.told t) a) (c.in-Err.ensures.err e r.0 r.2.1)))
 
 pub returns-in-SourceFailed-clause-answers : goal.returns-in-SourceFailed-clause-answers
 returns-in-SourceFailed-clause-answers g c = λ e s.
     let r = c.in-SourceFailed.ensures.ends e s in
-    answers_taken _ _ e _ _ r.0 r.1 (record { within = r.2.0; handled = r.2.1; stops = c.in-SourceFailed.ensures.alone tt })
+    answered_taken _ _ e _ _ r.0 r.1 (record { within = r.2.0; handled = r.2.1; stops = c.in-SourceFailed.ensures.alone tt })
 
 pub returns-in-TooMuch-clause-answers : goal.returns-in-TooMuch-clause-answers
 returns-in-TooMuch-clause-answers g c = λ e s.
     let r = c.in-TooMuch.ensures.ends e s in
-    answers_limit _ _ e _ _ r.0 r.1 (record { past = r.2.0; handled = r.2.1; stops = c.in-TooMuch.ensures.alone tt })
+    answered_limit _ _ e _ _ r.0 r.1 (record { past = r.2.0; handled = r.2.1; stops = c.in-TooMuch.ensures.alone tt })
 
 pub returns-in-Stopped-clause-answers : goal.returns-in-Stopped-clause-answers
 returns-in-Stopped-clause-answers g c = λ e s.
     let r = c.in-Stopped.ensures.ends e s in
-    answers_stop c.in-Stopped.stop _ _ _ e _ _ r.0 c.status-in-Stopped.ensures r.1 (breaks_more c.in-Stopped.stop e _ _ _ _ (first_due r.0) r.2)
+    answered_stop c.in-Stopped.stop _ _ _ e _ _ r.0 c.status-in-Stopped.ensures r.1 (breaks_more c.in-Stopped.stop e _ _ _ _ (first_due r.0) r.2)

@@ -2,7 +2,7 @@ use Rattle.std.proofs.Common.{refl, inr}
 use Rattle.budget_top.specs.Seen.{Seen, seen}
 use Rattle.budget_top.specs.DeviceRun.{entry}
 use Rattle.device_core.specs.Device.{begun}
-use Rattle.budget_top.proofs.Answering.{answers_from, stands_open, only_same}
+use Rattle.budget_top.proofs.Answering.{answered_from, stands_open, only_same}
 use Rattle.budget_top.proofs.device_run.run_device.Goals as goal
 
 pub returns-clause-run : goal.returns-clause-run
@@ -13,7 +13,7 @@ returns-clause-run g c =
       opening = inr (record {
         first = c.in-Ok-open.device.state.messages;
         has = λ t. c.in-Ok-open.ensures.ok.has (c.answer_lines-status.ensures.told t);
-        answers = answers_from _ _ _ _ _ _ _ (λ t a. only_same _ _ _ _ (c.open.ensures.same (c.answer_lines-status.ensures.told t)) c.open.ensures.left a)
+        answered = answered_from _ _ _ _ _ _ _ (λ t a. only_same _ _ _ _ (c.open.ensures.same (c.answer_lines-status.ensures.told t)) c.open.ensures.left a)
             (c.answer_lines-status.ensures.answers (entry old (begun c.args.node c.in-Ok-open.device.state.messages)) (stands_open c.args.node _ old _ c.in-Ok-open.ensures.ok c.new.ensures refl refl refl c.open.ensures.same));
       });
     }

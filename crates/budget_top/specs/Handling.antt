@@ -11,7 +11,7 @@ use Rattle.budget_top.specs.Session.{is_refused}
 use Rattle.budget_top.specs.Seen.{Holds, device_records}
 
 -- a line was done as it should be: the device's new state, the text of the reply, and whether the line was refused
-pub record Acts (done : State × Reply) (new : State) (text : List ℕ) (refused : Bool) : Type 0 where
+pub record IsHandled (done : State × Reply) (new : State) (text : List ℕ) (refused : Bool) : Type 0 where
   pub state : new ≡ done.0
   pub is_text : text ≡ reply_text_of done.1
   pub is_bad : refused ≡ is_refused done.1

@@ -2,7 +2,7 @@ use Rattle.std.proofs.Common.{ap, sym}
 use Rattle.device_core.specs.Device.{State}
 use Rattle.command_lines.specs.declared.reply.Reply.{Reply}
 use Rattle.budget_top.proofs.Keeping.{carries_along}
-use Rattle.budget_top.proofs.answer.act.Goals as goal
+use Rattle.budget_top.proofs.answer.handle_line.Goals as goal
 
 pub returns-clause-carries : goal.returns-clause-carries
 returns-clause-carries g c = λ told.
