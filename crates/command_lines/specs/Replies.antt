@@ -22,7 +22,7 @@ added count = Done ((codes "added " ++ decimal count) ∷ [])
 
 -- a line whose word at this index is the first that is not of its form
 abbrev pub faulty : ℕ → Reply
-faulty part = Refused 30 (codes "bad-command") (decimal part)
+faulty index = Refused 30 (codes "bad-command") (decimal index)
 
 -- an edit that was refused; a want of memory has no reply
 abbrev pub refused_edit : EditFault → Option Reply
