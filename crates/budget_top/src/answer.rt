@@ -39,11 +39,11 @@ fn ask(alloc: Global, line: &Begun) -> Result<Command, CommandFault>
     ensures valid { IfOk result IsCommand }
 {
     let Some(bytes) = line.bytes() else {
-        return Err(CommandFault::BadCommand { part: 0 });
+        return Err(CommandFault::BadCommand { word: 0 });
     };
     match Txt::make(alloc, bytes) {
         Ok(text) => read_command(alloc, &text),
-        Err(TxtFault::NotUtf8 { .. }) => Err(CommandFault::BadCommand { part: 0 }),
+        Err(TxtFault::NotUtf8 { .. }) => Err(CommandFault::BadCommand { word: 0 }),
         Err(TxtFault::NoMemory) => Err(CommandFault::NoMemory),
     }
 }
@@ -128,7 +128,7 @@ fn reply_to<G: Ledger>(
 {
     match ask(alloc, line) {
         Ok(command) => obey(alloc, device, steps, reading, command),
-        Err(CommandFault::BadCommand { part }) => faulty_reply(alloc, part),
+        Err(CommandFault::BadCommand { word }) => faulty_reply(alloc, word),
         Err(CommandFault::NoMemory) => Err(NoMemory),
     }
 }

@@ -37,12 +37,6 @@ pub pieces-cut : (c : ℕ) (bs : List ℕ) (r : Option (Bor (List ℕ) × Bor (L
 pieces-cut c bs None h = pieces-none c bs h
 pieces-cut c bs (Some x) h = ap (pieces c) h.0 ∙ pieces-at c x.0.now x.1.now h.1
 
-pub first_piece : (c : ℕ) (bs : List ℕ) (r : Option (Bor (List ℕ) × Bor (List ℕ))) (w rest : Bor (List ℕ)) → IsCut c bs r → r ≡ Some (w, rest) → pieces c bs ≡ w.now ∷ pieces c rest.now
-first_piece c bs r w rest h e = subst (CutsPieces c bs) e (pieces-cut c bs r h)
-
-pub only_piece : (c : ℕ) (bs : List ℕ) (r : Option (Bor (List ℕ) × Bor (List ℕ))) → IsCut c bs r → r ≡ None → pieces c bs ≡ bs ∷ []
-only_piece c bs r h e = subst (CutsPieces c bs) e (pieces-cut c bs r h)
-
 -- what stands behind a cut is shorter
 pub cut_shorter : (c : ℕ) (bs : List ℕ) (r : Option (Bor (List ℕ) × Bor (List ℕ))) → IsCut c bs r → IfSome r (λ p. length p.1.now < length bs)
 cut_shorter c bs None h = tt

@@ -2,3 +2,5 @@ pub mod Cutting
 pub mod WordLemmas
 pub mod LineLemmas
 pub mod ReadingLemmas
+pub mod ReplyLemmas
+pub mod WrittenLemmas

@@ -111,7 +111,7 @@ command line = if nat_lt longest_line (length line) then Err 0 else of_words (pa
 
 -- memory ran out, or this is the index
 abbrev pub IsFault : Result Command ℕ → CommandFault → Type 0
-IsFault meant (BadCommand part) = meant ≡ Err part
+IsFault meant (BadCommand index) = meant ≡ Err index
 IsFault meant NoMemory = Unit {0}
 
 -- memory ran out, or this is the command or the index

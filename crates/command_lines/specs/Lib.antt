@@ -2,3 +2,5 @@ pub mod Commands
 pub mod Unread
 pub mod Replies
 pub mod Readings
+pub mod ReplyLines
+pub mod Written

@@ -22,7 +22,7 @@ added count = Done ((codes "added " ++ decimal count) ∷ [])
 
 -- a line whose word at this index is the first that is not of its form
 abbrev pub faulty : ℕ → Reply
-faulty part = Refused 30 (codes "bad-command") (decimal part)
+faulty index = Refused 30 (codes "bad-command") (decimal index)
 
 -- an edit that was refused; a want of memory has no reply
 abbrev pub refused_edit : EditFault → Option Reply
@@ -51,7 +51,11 @@ abbrev pub detail_text : List ℕ → List ℕ
 detail_text [] = []
 detail_text (b ∷ bs) = 32 ∷ escaped (b ∷ bs)
 
--- the text of a reply: `ok N` and N lines, or one line `refused En CODE DETAIL`
+-- the lines of a reply: `ok N` and its N lines, or the one line `refused En CODE DETAIL`
+abbrev pub reply_lines : Reply → List (List ℕ)
+reply_lines (Done lines) = (codes "ok " ++ decimal (length lines)) ∷ lines
+reply_lines (Refused number code detail) = (codes "refused E" ++ decimal number ++ 32 ∷ code ++ detail_text detail) ∷ []
+
+-- the text of a reply: these lines, each with its end
 abbrev pub reply_text_of : Reply → List ℕ
-reply_text_of (Done lines) = flat_map ended ((codes "ok " ++ decimal (length lines)) ∷ lines)
-reply_text_of (Refused number code detail) = ended (codes "refused E" ++ decimal number ++ 32 ∷ code ++ detail_text detail)
+reply_text_of reply = flat_map ended (reply_lines reply)

@@ -4,7 +4,7 @@ ghost use Rattle.command_lines.specs.declared.command.CommandFault.TheVariants.{
 ghost use Rattle.command_lines.specs.Commands.{set_words, receive_words, fields_words, messages_words, value_words, trie_words, line_words, command, command_of, IsRead, IsCommand};
 ghost use Rattle.command_lines.specs.Unread.{given};
 
-use crate::words::{Words, cut};
+use crate::words::{Words, cut_word};
 use device_core::{BookEdit, Edit};
 use field_merge::Message;
 use field_values::{Field, NamePart, NoMemory, Txt, Value};
@@ -30,11 +30,11 @@ pub enum Command {
 /// Why a line is no command.
 #[derive(Clone, Copy, Debug, PartialEq, Eq)]
 pub enum CommandFault {
-    /// The word at the index `part`, counted from 0, is the first that is not of its form. A missing
+    /// The word at the index `word`, counted from 0, is the first that is not of its form. A missing
     /// word stands behind the others, so its index is their number, and the first word too many is
     /// at fault at its own. Word 0 is the line's name, which is at fault too where the line is above
     /// 1,048,576 bytes.
-    BadCommand { part: u32 },
+    BadCommand { word: u32 },
     /// Memory ran out.
     NoMemory,
 }
@@ -151,7 +151,7 @@ fn command_of(alloc: Global, name: &str, words: &mut Words<'_>) -> Result<Comman
         "messages" => messages(alloc, words),
         "value" => value(alloc, words),
         "trie" => trie(words),
-        _ => Err(CommandFault::BadCommand { part: 0 }),
+        _ => Err(CommandFault::BadCommand { word: 0 }),
     }
 }
 
@@ -165,9 +165,9 @@ pub fn read_command(alloc: Global, line: &Txt) -> Result<Command, CommandFault>
     ensures valid { IfOk result IsCommand }
 {
     if line.bytes().len() > LONGEST_LINE {
-        return Err(CommandFault::BadCommand { part: 0 });
+        return Err(CommandFault::BadCommand { word: 0 });
     }
-    let (name, rest) = cut(line.as_str());
+    let (name, rest) = cut_word(line.as_str());
     let mut words = Words::new(rest);
     command_of(alloc, name, &mut words)
 }

@@ -75,14 +75,15 @@ pub fn added_reply(alloc: Global, count: u64) -> Result<Reply, NoMemory>
     })
 }
 
-/// The reply to a line whose word at the index `part` is the first that is not of its form.
-pub fn faulty_reply(alloc: Global, part: u32) -> Result<Reply, NoMemory>
-    ensures { IfOk result (λ r. r ≡ faulty part) }
+/// The reply to a line whose word at the index `word` is the first that is not of its form.
+pub fn faulty_reply(alloc: Global, word: u32) -> Result<Reply, NoMemory>
+    ensures { IfOk result (λ r. r ≡ faulty word) }
 {
-    let detail = number_text(alloc, part as u64)?;
+    let detail = number_text(alloc, word as u64)?;
     refusal(alloc, 30, "bad-command", detail)
 }
 
+/// The reply to an edit that was refused, and not for want of memory.
 fn edit_refusal(alloc: Global, fault: &EditFault) -> Result<Reply, NoMemory>
     ensures { IfOk result (λ r. refused_edit fault.now ≡ Some r) }
 {
@@ -95,6 +96,7 @@ fn edit_refusal(alloc: Global, fault: &EditFault) -> Result<Reply, NoMemory>
     }
 }
 
+/// The reply to a timestamp that the clock refused.
 fn clock_refusal(alloc: Global, fault: &ClockFault) -> Result<Reply, NoMemory>
     ensures { IfOk result (λ r. r ≡ refused_clock fault.now) }
 {
@@ -138,6 +140,7 @@ fn push_ended(text: &mut String, line: &str) -> Result<(), NoMemory>
     Ok(())
 }
 
+/// The text of the reply with these lines.
 fn done_text(alloc: Global, lines: &[Txt]) -> Result<String, NoMemory>
     ensures { IfOk result (λ t. string_bytes t ≡ reply_text_of (Done lines.now)) }
 {
@@ -160,6 +163,7 @@ fn push_detail(text: &mut String, detail: &str) -> Result<(), NoMemory>
     push_escaped(text, detail)
 }
 
+/// The text of a refusal.
 fn refused_text(alloc: Global, number: u8, code: &str, detail: &str) -> Result<String, NoMemory>
     ensures { IfOk result (λ t. string_bytes t ≡ reply_text_of (Refused number code.now detail.now)) }
 {

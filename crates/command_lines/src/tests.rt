@@ -13,7 +13,7 @@ use hybrid_clock::{ClockFault, Node};
 use std::alloc::Global;
 use std::test::Fail;
 
-/// Lines, with `>` for each TAB, and the part at which each is refused, where it is no command.
+/// Lines, with `>` for each TAB, and the word at which each is refused, where it is no command.
 const LINES: [(&str, Option<u32>); 30] = [
     ("", Some(0)),
     ("undo>1", Some(0)),
@@ -77,14 +77,14 @@ fn with_tabs(alloc: Global, text: &str) -> Result<Txt, Fail> {
 #[test]
 fn lines_are_judged(rt: HostRuntime) -> Result<(), Fail> {
     let alloc = rt.alloc();
-    for (text, part) in LINES {
+    for (text, word) in LINES {
         let line = with_tabs(alloc, text)?;
         let found = match read_command(alloc, &line) {
             Ok(_) => None,
-            Err(CommandFault::BadCommand { part }) => Some(part),
+            Err(CommandFault::BadCommand { word }) => Some(word),
             Err(CommandFault::NoMemory) => Some(u32::MAX),
         };
-        assert_eq!(rt; found, part, "at {text}");
+        assert_eq!(rt; found, word, "at {text}");
     }
     Ok(())
 }

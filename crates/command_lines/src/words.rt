@@ -10,7 +10,7 @@ ghost use Rattle.command_lines.specs.Commands.{Wanted, word, no_more, stamp_word
 ghost use Rattle.command_lines.specs.Unread.{words_of, given};
 
 use crate::command::CommandFault;
-use field_merge::{bad_escape, unescape};
+use field_merge::{bad_escape, cut_part, unescape};
 use field_values::{NamePart, Txt, check_name};
 use hybrid_clock::Stamp;
 use std::alloc::Global;
@@ -38,10 +38,10 @@ impl<'a> Model for Words<'a> {
 }
 
 /// Cuts the first word off a line, and what stands behind its TAB where it has one.
-pub(crate) fn cut(line: &str) -> (&str, Option<&str>)
+pub(crate) fn cut_word(line: &str) -> (&str, Option<&str>)
     ensures { parts line.now ≡ result.0.now ∷ words_of (option_copied result.1) }
 {
-    match line.split_once('\t') {
+    match cut_part(line) {
         Some((word, rest)) => (word, Some(rest)),
         None => (line, None),
     }
@@ -65,7 +65,7 @@ impl<'a> Words<'a> {
         ensures last { IfSome result (λ _. self.new.last ≡ self.old.last + 1) }
     {
         let rest = self.rest?;
-        let (word, rest) = cut(rest);
+        let (word, rest) = cut_word(rest);
         self.rest = rest;
         self.last += 1;
         Some(word)
@@ -76,7 +76,7 @@ impl<'a> Words<'a> {
         ensures { result ≡ CommandFault.BadCommand (self.now.last + 1) }
     {
         CommandFault::BadCommand {
-            part: self.last + 1,
+            word: self.last + 1,
         }
     }
 
@@ -84,10 +84,10 @@ impl<'a> Words<'a> {
     fn at_last(&self) -> CommandFault
         ensures { result ≡ CommandFault.BadCommand self.now.last }
     {
-        CommandFault::BadCommand { part: self.last }
+        CommandFault::BadCommand { word: self.last }
     }
 
-    /// The text of the next word.
+    /// The text of the next word. It is at fault where it is missing or has a bad escape.
     pub(crate) fn text(&mut self, alloc: Global) -> Result<Txt, CommandFault>
         ensures ok { IfOk result (λ text. (next : List ℕ → Wanted) → given (word next) self.old ≡ given (next text) self.new) }
         ensures err { IfErr result (λ fault. (next : List ℕ → Wanted) → IsFault (given (word next) self.old) fault) }
@@ -102,7 +102,8 @@ impl<'a> Words<'a> {
         Ok(Txt::new(text))
     }
 
-    /// The timestamp whose text the next word is.
+    /// The timestamp whose text the next word is. The word is at fault where it is missing, has a bad
+    /// escape or is no timestamp.
     pub(crate) fn stamp(&mut self, alloc: Global) -> Result<Stamp, CommandFault>
         ensures ok { IfOk result (λ stamp. (next : Stamp → Wanted) → given (stamp_word next) self.old ≡ given (next stamp) self.new) }
         ensures valid { IfOk result IsStamp }
@@ -115,7 +116,8 @@ impl<'a> Words<'a> {
         }
     }
 
-    /// The name that the next word is.
+    /// The name that the next word is. The word is at fault where it is missing, has a bad escape or is
+    /// no name.
     pub(crate) fn name(&mut self, alloc: Global, part: NamePart) -> Result<Txt, CommandFault>
         ensures ok { IfOk result (λ name. (next : List ℕ → Wanted) → given (name_word part next) self.old ≡ given (next name) self.new) }
         ensures good { IfOk result (λ name. name_fault part name ≡ None) }
@@ -128,7 +130,7 @@ impl<'a> Words<'a> {
         }
     }
 
-    /// Whether no word is left.
+    /// Nothing, where no word is left. The next word is one too many, and at fault.
     pub(crate) fn end(&self) -> Result<(), CommandFault>
         ensures ok { OnOk result ((command : Command) → given (no_more command) self.now ≡ Ok command) }
         ensures err { IfErr result (λ fault. (command : Command) → IsFault (given (no_more command) self.now) fault) }

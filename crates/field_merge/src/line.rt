@@ -55,11 +55,12 @@ struct Parts<'a> {
     value: &'a str,
 }
 
-/// Cuts at the first TAB.
-fn cut(text: &str) -> Option<(&str, &str)>
-    ensures { MatchOption result (parts text.now ≡ text.now ∷ []) (λ p. parts text.now ≡ p.0.now ∷ parts p.1.now) }
+/// Cuts a line at its first TAB, which belongs to neither side: before it stands the first part, and
+/// behind it the line of the others. A line without a TAB is one part.
+pub fn cut_part(line: &str) -> Option<(&str, &str)>
+    ensures { MatchOption result (parts line.now ≡ line.now ∷ []) (λ p. parts line.now ≡ p.0.now ∷ parts p.1.now) }
 {
-    text.split_once('\t')
+    line.split_once('\t')
 }
 
 /// The parts of a line that has five.
@@ -67,11 +68,11 @@ fn five_parts(line: &str) -> Option<Parts<'_>>
     ensures { MatchOption result (length (parts line.now) ≢ 5) (λ p. parts line.now
         ≡ p.stamp.now ∷ p.dataset.now ∷ p.row.now ∷ p.column.now ∷ p.value.now ∷ []) }
 {
-    let (stamp, rest) = cut(line)?;
-    let (dataset, rest) = cut(rest)?;
-    let (row, rest) = cut(rest)?;
-    let (column, value) = cut(rest)?;
-    match cut(value) {
+    let (stamp, rest) = cut_part(line)?;
+    let (dataset, rest) = cut_part(rest)?;
+    let (row, rest) = cut_part(rest)?;
+    let (column, value) = cut_part(rest)?;
+    match cut_part(value) {
         Some(_) => None,
         None => Some(Parts {
             stamp,

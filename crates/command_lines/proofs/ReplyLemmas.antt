@@ -1,0 +1,201 @@
+-- The texts of replies have no line feed.
+use Rattle.std.proofs.Common.{◌≡◌, ℕ, zero, suc, ◌+◌, ◌/◌, ◌%◌, Bool, true, false, cond, ◌==◌, eqb, nat_lt, List, [], ◌∷◌, ◌++◌, length, map, Option, None, Some, refl, ap, subst, ◌∙◌, arith, append_assoc}
+use Rattle.std.specs.Prelude.{codes, ℤ, pos, negsuc}
+use Rattle.std.specs.List.{flat_map, list_any}
+use Rattle.std.specs.Int.{w32, cast_signed}
+use Rattle.std.specs.Fmt.{digit_glyph, digits_onto, digits, decimal, signed_decimal}
+use Rattle.std.proofs.lemmas.Bool.{ne_eqb, eqb-false, or_parts}
+use Rattle.field_values.specs.declared.value.Value.{Value as AnyValue}
+use Rattle.field_values.specs.Value.{value_text}
+use Rattle.field_values.specs.Names.{field_of}
+use Rattle.hybrid_clock.specs.declared.clock.ClockFault.{ClockFault}
+use Rattle.hybrid_clock.specs.declared.clock.ClockFault.TheVariants.{Drift, Overflow, Beyond}
+use Rattle.field_merge.specs.declared.message.Message.{Message}
+use Rattle.field_merge.specs.Messages.{message_line}
+use Rattle.field_merge.specs.Log.{fields, later}
+use Rattle.field_merge.proofs.EscapeLemmas.{Lacks, Fails-append, escaped-no_feed}
+use Rattle.minute_trie.specs.declared.key.Digit.{Digit}
+use Rattle.minute_trie.specs.declared.key.Digit.TheVariants.{Zero, One, Two}
+use Rattle.minute_trie.specs.Held.{Held, after, or_zero}
+use Rattle.minute_trie.specs.Trie.{trie_of}
+use Rattle.minute_trie.specs.Json.{hash_text, key_text, object_text, child_text, members_text, trie_text}
+use Rattle.device_core.specs.declared.edit.EditFault.TheVariants.{BadId, TooManyWrites, NoMemory as EditNoMemory}
+use Rattle.device_core.specs.declared.edit.LineRefusal.{LineRefusal}
+use Rattle.device_core.specs.declared.edit.LineRefusal.TheVariants.{Edit as OfEdit, Clock as OfClock, NoMemory}
+use Rattle.device_core.specs.Device.{pairs_of}
+use Rattle.command_lines.specs.declared.command.Command.{Command}
+use Rattle.command_lines.specs.declared.command.Command.TheVariants.{Edit, Receive, Fields, Messages, Value, Trie}
+use Rattle.command_lines.specs.declared.reply.Reply.{Reply}
+use Rattle.command_lines.specs.declared.reply.Reply.TheVariants.{Done, Refused}
+use Rattle.command_lines.specs.Readings.{shown, value_in, answer}
+use Rattle.command_lines.specs.Replies.{ended, detail_text, reply_lines, refused_clock, refused}
+use Rattle.command_lines.specs.ReplyLines.{IsLine, AreLines, IsReply, RepliesAreLines}
+use Rattle.command_lines.proofs.Cutting.{pieces, pieces-at}
+use Rattle.command_lines.proofs.LineLemmas.{OnOneLine}
+
+-- ---- texts without a line feed, by recursion
+
+abbrev Plain : List ℕ → Type 0
+Plain text = Lacks 10 text
+
+both : (xs ys : List ℕ) → Plain xs → Plain ys → Plain (xs ++ ys)
+both xs ys = Fails-append (λ b. b == 10) xs ys
+
+-- a text that is written out is tested
+tested : (text : List ℕ) → list_any (λ b. b == 10) text ≡ false → Plain text
+tested [] h = tt
+tested (b ∷ bs) h = let parts = or_parts (b == 10) (list_any (λ b. b == 10) bs) h in (parts.0, tested bs parts.1)
+
+is_line : (text : List ℕ) → Plain text → IsLine text
+is_line [] h k d l = absurd (omega arith)
+is_line (b ∷ bs) h zero d l = eqb-false b 10 h.0
+is_line (b ∷ bs) h (suc k) d l = is_line bs h.1 k d (omega arith)
+
+plain_of : (text : List ℕ) → IsLine text → Plain text
+plain_of [] h = tt
+plain_of (b ∷ bs) h = (ne_eqb b 10 (h 0 0 (omega arith)), plain_of bs (λ k d l. h (suc k) d (omega arith)))
+
+-- ---- numbers
+
+glyph_plain : (digit : ℕ) (small : Bool) → eqb (cond small (48 + digit) (87 + digit)) 10 ≡ false
+glyph_plain digit true = ne_eqb (48 + digit) 10 (λ e. omega (arith, e))
+glyph_plain digit false = ne_eqb (87 + digit) 10 (λ e. omega (arith, e))
+
+either : (last : Bool) (here on : List ℕ) → Plain here → Plain on → Plain (cond last here on)
+either true here on h k = h
+either false here on h k = k
+
+onto_plain : (k n : ℕ) (text : List ℕ) → Plain text → Plain (digits_onto k 10 false n text)
+onto_plain zero n text h = h
+onto_plain (suc k) n text h =
+    let more : List ℕ = digit_glyph false (n % 10) ∷ text in
+    let plain : Plain more = (glyph_plain (n % 10) (nat_lt (n % 10) 10), h) in
+    either (n / 10 == 0) more (digits_onto k 10 false (n / 10) more) plain (onto_plain k (n / 10) more plain)
+
+number_plain : (n : ℕ) → Plain (decimal n)
+unfolding digits
+number_plain n = onto_plain 64 n [] tt
+
+signed_plain : (z : ℤ) → Plain (signed_decimal z)
+signed_plain (pos n) = number_plain n
+signed_plain (negsuc n) = (refl, number_plain (suc n))
+
+-- ---- the text of a trie
+
+hash_plain : (hash : ℕ) → Plain (hash_text hash)
+hash_plain hash = both (codes "\"hash\":") (signed_decimal (cast_signed w32 hash)) (tested (codes "\"hash\":") refl) (signed_plain (cast_signed w32 hash))
+
+key_plain : (digit : Digit) → Plain (key_text digit)
+key_plain Zero = tested (codes "\"0\":") refl
+key_plain One = tested (codes "\"1\":") refl
+key_plain Two = tested (codes "\"2\":") refl
+
+object_plain : (members : List ℕ) (f : Held) → Plain members → Plain (object_text members f)
+object_plain members f h =
+    (refl, both members (hash_text (or_zero (f [])) ++ codes "}") h (both (hash_text (or_zero (f []))) (codes "}") (hash_plain (or_zero (f []))) (refl, tt)))
+
+child_plain : (digit : Digit) (text : List ℕ) (child : Option ℕ) → Plain text → Plain (child_text digit text child)
+child_plain digit text None h = tt
+child_plain digit text (Some hash) h = both (key_text digit) (text ++ codes ",") (key_plain digit) (both text (codes ",") h (refl, tt))
+
+abbrev member_text : ℕ → Held → Digit → List ℕ
+member_text n f digit = child_text digit (object_text (members_text n (after digit f)) (after digit f)) (f (digit ∷ []))
+
+member_plain : (n : ℕ) (f : Held) (digit : Digit) → Plain (members_text n (after digit f)) → Plain (member_text n f digit)
+member_plain n f digit h =
+    child_plain digit (object_text (members_text n (after digit f)) (after digit f)) (f (digit ∷ [])) (object_plain (members_text n (after digit f)) (after digit f) h)
+
+members_plain : (n : ℕ) (f : Held) → Plain (members_text n f)
+unfolding members_text
+members_plain zero f = tt
+members_plain (suc n) f =
+    both (member_text n f Zero) (member_text n f One ++ member_text n f Two) (member_plain n f Zero (members_plain n (after Zero f)))
+    (both (member_text n f One) (member_text n f Two) (member_plain n f One (members_plain n (after One f))) (member_plain n f Two (members_plain n (after Two f))))
+
+trie_plain : (f : Held) → Plain (trie_text f)
+trie_plain f = object_plain (members_text 16 f) f (members_plain 16 f)
+
+-- ---- the replies
+
+shown_plain : (value : Option AnyValue) → Plain (shown value)
+shown_plain None = tested (codes "none") refl
+shown_plain (Some value) = escaped-no_feed (value_text value)
+
+message_lines_are : OnOneLine → (ms : List Message) → AreLines (map message_line ms)
+message_lines_are law [] = tt
+message_lines_are law (m ∷ ms) = (law m, message_lines_are law ms)
+
+answer_is : OnOneLine → (messages : List Message) (command : Command) → IsReply (answer messages command)
+answer_is law messages Fields = message_lines_are law (fields messages)
+answer_is law messages (Messages since) = message_lines_are law (later since messages)
+answer_is law messages (Value dataset row column) =
+    let value : Option AnyValue = value_in messages (field_of dataset row column) in (is_line (shown value) (shown_plain value), tt)
+answer_is law messages Trie =
+    let f : Held = trie_of (pairs_of messages) in (is_line (trie_text f) (trie_plain f), tt)
+answer_is law messages (Edit edit) = tt
+answer_is law messages (Receive message) = tt
+
+-- a word and a number
+counted : (word : List ℕ) (n : ℕ) → list_any (λ b. b == 10) word ≡ false → IsLine (word ++ decimal n)
+counted word n h = is_line (word ++ decimal n) (both word (decimal n) (tested word h) (number_plain n))
+
+made_are : (made : List (List ℕ)) → AreLines made → AreLines (map (λ id. codes "made " ++ id) made)
+made_are [] h = tt
+made_are (id ∷ ids) h =
+    (is_line (codes "made " ++ id) (both (codes "made ") id (tested (codes "made ") refl) (plain_of id h.0)), made_are ids h.1)
+
+-- a code that is written out
+code : (text : List ℕ) → list_any (λ b. b == 10) text ≡ false → IsLine text
+code text h = is_line text (tested text h)
+
+clock_is : (fault : ClockFault) → IsReply (refused_clock fault)
+clock_is (Drift logical reading) = code (codes "clock-drift") refl
+clock_is (Overflow counter) = code (codes "clock-overflow") refl
+clock_is (Beyond reading) = code (codes "clock-beyond") refl
+
+-- a reply that there is
+abbrev IsReplyIf : Option Reply → Type 0
+IsReplyIf None = Unit {0}
+IsReplyIf (Some reply) = IsReply reply
+
+refusal_if : (refusal : LineRefusal) → IsReplyIf (refused refusal)
+refusal_if (OfEdit (BadId id)) = code (codes "bad-id") refl
+refusal_if (OfEdit (TooManyWrites count)) = code (codes "too-many-writes") refl
+refusal_if (OfEdit EditNoMemory) = tt
+refusal_if (OfClock fault) = clock_is fault
+refusal_if NoMemory = tt
+
+-- ---- the text of a reply, cut
+
+detail_plain : (detail : List ℕ) → Plain (detail_text detail)
+detail_plain [] = tt
+detail_plain (b ∷ bs) = (refl, escaped-no_feed (b ∷ bs))
+
+refused_plain : (number : ℕ) (word detail : List ℕ) → Plain word → Plain (codes "refused E" ++ decimal number ++ 32 ∷ word ++ detail_text detail)
+refused_plain number word detail h =
+    both (codes "refused E" ++ decimal number ++ 32 ∷ word) (detail_text detail)
+    (both (codes "refused E" ++ decimal number) (32 ∷ word) (both (codes "refused E") (decimal number) (tested (codes "refused E") refl) (number_plain number)) (refl, h))
+    (detail_plain detail)
+
+lines_are : (reply : Reply) → IsReply reply → AreLines (reply_lines reply)
+lines_are (Done lines) h = (counted (codes "ok ") (length lines) refl, h)
+lines_are (Refused number word detail) h =
+    (is_line (codes "refused E" ++ decimal number ++ 32 ∷ word ++ detail_text detail) (refused_plain number word detail (plain_of word h)), tt)
+
+-- the pieces of ended lines are the lines, and nothing behind the last end
+pieces-ended : (lines : List (List ℕ)) → AreLines lines → pieces 10 (flat_map ended lines) ≡ lines ++ [] ∷ []
+pieces-ended [] h = refl
+pieces-ended (line ∷ lines) h =
+    ap (pieces 10) (append_assoc line (10 ∷ []) (flat_map ended lines))
+    ∙ pieces-at 10 line (flat_map ended lines) (λ i l. h.0 i 0 l)
+    ∙ ap (λ ps. line ∷ ps) (pieces-ended lines h.1)
+
+pub are_lines : OnOneLine → RepliesAreLines
+are_lines law = record {
+  cut = λ reply h. pieces-ended (reply_lines reply) (lines_are reply h);
+  answers = answer_is law;
+  edits = λ writes made h. (counted (codes "writes ") writes refl, made_are made h);
+  received = λ count. (counted (codes "added ") count refl, tt);
+  faults = λ index. code (codes "bad-command") refl;
+  refusals = λ refusal reply e. subst IsReplyIf e (refusal_if refusal);
+}

@@ -1,0 +1,33 @@
+-- What holds of replies and the lines that they are written as.
+use Rattle.std.specs.Prelude.{◌≡◌, ◌≢◌, ◌==◌, ℕ, List, [], ◌∷◌, ◌++◌, All, Some}
+use Rattle.std.specs.List.{AllByRecursion, slice_split}
+use Rattle.field_merge.specs.declared.message.Message.{Message}
+use Rattle.device_core.specs.declared.edit.LineRefusal.{LineRefusal}
+use Rattle.command_lines.specs.declared.command.Command.{Command}
+use Rattle.command_lines.specs.declared.reply.Reply.{Reply}
+use Rattle.command_lines.specs.declared.reply.Reply.TheVariants.{Done, Refused}
+use Rattle.command_lines.specs.Readings.{answer}
+use Rattle.command_lines.specs.Replies.{wrote, added, faulty, refused, reply_lines, reply_text_of}
+
+-- the text has no line feed
+abbrev pub IsLine : List ℕ → Type 0
+IsLine text = All (λ b. b ≢ 10) text
+
+abbrev pub AreLines : List (List ℕ) → Type 0
+AreLines texts = AllByRecursion IsLine texts
+
+-- the texts of a reply have no line feed; the detail of a refusal may have one, since it is escaped
+abbrev pub IsReply : Reply → Type 0
+IsReply (Done lines) = AreLines lines
+IsReply (Refused number code detail) = IsLine code
+
+-- The text of a reply is cut by its line feeds into its lines, and nothing stands behind the last.
+-- The answers of lines that only read are such replies, and so are those to edits whose ids are lines, to messages,
+-- to lines that are no command, and to refusals.
+pub record RepliesAreLines : Type 0 where
+  pub cut : (reply : Reply) → IsReply reply → slice_split (λ b. b == 10) (reply_text_of reply) ≡ reply_lines reply ++ [] ∷ []
+  pub answers : (messages : List Message) (command : Command) → IsReply (answer messages command)
+  pub edits : (writes : ℕ) (made : List (List ℕ)) → AreLines made → IsReply (wrote writes made)
+  pub received : (count : ℕ) → IsReply (added count)
+  pub faults : (index : ℕ) → IsReply (faulty index)
+  pub refusals : (refusal : LineRefusal) (reply : Reply) → refused refusal ≡ Some reply → IsReply reply

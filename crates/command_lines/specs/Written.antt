@@ -1,0 +1,28 @@
+-- How a command is written as a line, and that the line reads back.
+use Rattle.std.specs.Prelude.{◌≡◌, ◌≤◌, ℕ, List, [], ◌∷◌, length, map, codes, Ok}
+use Rattle.std.specs.List.{join_with_byte}
+use Rattle.field_values.specs.Value.{value_text}
+use Rattle.field_merge.specs.Escapes.{escaped}
+use Rattle.field_merge.specs.Messages.{message_texts}
+use Rattle.device_core.specs.declared.edit.Edit.TheVariants.{Book}
+use Rattle.device_core.specs.declared.edit.BookEdit.TheVariants.{Set}
+use Rattle.command_lines.specs.declared.command.Command.{Command}
+use Rattle.command_lines.specs.declared.command.Command.TheVariants.{Edit, Receive, Fields, Messages, Value, Trie}
+use Rattle.command_lines.specs.Commands.{command, longest_line, IsCommand}
+
+-- the name of a command and its words, each as a text
+abbrev pub command_texts : Command → List (List ℕ)
+command_texts (Edit (Book (Set dataset row column value))) = codes "set" ∷ dataset ∷ row ∷ column ∷ value_text value ∷ []
+command_texts (Receive message) = codes "receive" ∷ message_texts message
+command_texts Fields = codes "fields" ∷ []
+command_texts (Messages since) = codes "messages" ∷ since ∷ []
+command_texts (Value dataset row column) = codes "value" ∷ dataset ∷ row ∷ column ∷ []
+command_texts Trie = codes "trie" ∷ []
+
+-- the line of a command: these texts, each escaped, with a TAB between them
+abbrev pub command_line : Command → List ℕ
+command_line c = join_with_byte 9 (map escaped (command_texts c))
+
+-- the line of a command, where it is not too long, is read as the command
+abbrev pub CommandsReadBack : Type 0
+CommandsReadBack = (c : Command) → IsCommand c → length (command_line c) ≤ longest_line → command (command_line c) ≡ Ok c
