@@ -153,7 +153,7 @@ pub fn read_reply(alloc: Global, device: &Device, command: &Command) -> Result<R
     let log = device.log();
     let lines = match command {
         Command::Fields => field_lines(alloc, log)?,
-        Command::Messages { since } => lines_of(alloc, log.since(since.bytes())?.as_slice())?,
+        Command::Messages { since } => lines_of(alloc, device.outgoing(since.bytes())?.as_slice())?,
         Command::Value {
             dataset,
             row,

@@ -8,3 +8,4 @@ pub mod Keeping
 pub mod Writing
 pub mod Tracking
 pub mod ReadBack
+pub mod News

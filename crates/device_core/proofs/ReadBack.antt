@@ -1,6 +1,6 @@
 -- A write that is accepted is read back.
-use Rattle.std.proofs.Common.{◌≡◌, inl, inr, ℕ, ◌+◌, ◌-◌, ◌<◌, Bool, true, false, ◌||◌, cond, List, [], ◌∷◌, ◌++◌, None, Some, Result, Ok, Err, length, refl, sym, ap, ◌∙◌, subst, arith, Ordering, Less, Equal, Greater}
-use Rattle.std.specs.Prelude.{max, nat_lt, is_some, ◌==◌, map, ◌/◌}
+use Rattle.std.proofs.Common.{◌≡◌, inl, inr, ℕ, ◌+◌, ◌-◌, ◌<◌, Bool, true, false, ◌||◌, cond, List, [], ◌∷◌, ◌++◌, Option, None, Some, Result, Ok, Err, length, refl, sym, ap, ◌∙◌, subst, arith, Ordering, Less, Equal, Greater}
+use Rattle.std.specs.Prelude.{max, nat_lt, ◌==◌, map, ◌/◌}
 use Rattle.std.specs.Option.{option_or, option_map}
 use Rattle.std.specs.Ordering.{is_eq, is_lt, nat_cmp, ordering_then}
 use Rattle.std.specs.Cmp.{ranked, tied_itself}
@@ -8,8 +8,8 @@ use Rattle.std.specs.Cmp.Lexicographic.{slice_cmp}
 use Rattle.std.specs.List.{list_any, AllByRecursion}
 use Rattle.std.proofs.lemmas.Bool.Decides.{nat_tests}
 use Rattle.field_values.specs.declared.value.Value.{Value}
-use Rattle.field_values.specs.declared.name.NamePart.TheVariants.{Dataset, Row, Column}
-use Rattle.field_values.specs.Names.{field_of, name_fault}
+use Rattle.field_values.specs.declared.name.NameFault.{NameFault}
+use Rattle.field_values.specs.Names.{field_of, names_fault}
 use Rattle.hybrid_clock.specs.declared.stamp.Stamp.{Stamp}
 use Rattle.hybrid_clock.specs.declared.clock.ClockFault.{ClockFault}
 use Rattle.hybrid_clock.specs.Stamp.{window}
@@ -19,9 +19,9 @@ use Rattle.field_merge.specs.declared.message.Message.{Message}
 use Rattle.field_merge.specs.Log.{has_stamp, has_field, by_stamp, placed, join_one, join, latest}
 use Rattle.field_merge.proofs.Orders.{names_total}
 use Rattle.field_merge.proofs.Latest.{latest-cons}
-use Rattle.device_core.specs.declared.edit.EditFault.TheVariants.{BadId}
 use Rattle.device_core.specs.declared.edit.Write.{Write}
 use Rattle.device_core.specs.Records.{record_of}
+use Rattle.device_core.specs.Edits.{write_unless}
 use Rattle.device_core.specs.Device.{State, Accepted, IsUpTo, IsAhead, new_in, stamped, first_of, with_messages, written, writing}
 use Rattle.device_core.specs.ReadBack.{IsReadBack, EditsReadBack}
 
@@ -129,14 +129,10 @@ read_write s dataset row column value clock ahead later =
     }
 
 pub read_back : EditsReadBack
-read_back s dataset row column value reading a ahead h =
-    by (is_some (name_fault Dataset dataset)) (is_some (name_fault Row row)) (is_some (name_fault Column column)) h
+read_back s dataset row column value reading a ahead h = by (names_fault (field_of dataset row column)) h
   where
-    by : (x y z : Bool) → writing s reading (cond x (Err (BadId dataset)) (cond y (Err (BadId row)) (cond z (Err (BadId column))
-        (Ok (record { field = field_of dataset row column; value = value } ∷ []))))) ≡ Ok a → IsReadBack dataset row column value a
-    by true y z k = absurd (cc)
-    by false true z k = absurd (cc)
-    by false false true k = absurd (cc)
-    by false false false k =
+    by : (o : Option NameFault) → writing s reading (write_unless o (field_of dataset row column) value) ≡ Ok a → IsReadBack dataset row column value a
+    by (Some fault) k = absurd (cc)
+    by None k =
         let w = write_is s reading (record { field = field_of dataset row column; value = value }) a k in
         subst (IsReadBack dataset row column value) w.1.1 (read_write s dataset row column value w.0 ahead (draw_later s.clock w.0 reading w.1.0))

@@ -1,9 +1,12 @@
 -- Edits, and the writes that they make.
-use Rattle.std.specs.Prelude.{◌≡◌, List, [], ◌∷◌, is_some, if◌then◌else◌, Result, Ok, Err}
+use Rattle.std.specs.Prelude.{◌≡◌, ℕ, List, [], ◌∷◌, Option, None, Some, Result, Ok, Err}
 use Rattle.std.specs.List.{AllByRecursion}
 use Rattle.field_values.specs.declared.value.Value.{Value}
+use Rattle.field_values.specs.declared.name.NamePart.{NamePart}
 use Rattle.field_values.specs.declared.name.NamePart.TheVariants.{Dataset, Row, Column}
-use Rattle.field_values.specs.Names.{FieldNames, name_fault, AreNames}
+use Rattle.field_values.specs.declared.name.NameFault.{NameFault}
+use Rattle.field_values.specs.declared.name.NameFault.TheVariants.{Empty, TooLong, BadByte, NoMemory as OutOfMemory}
+use Rattle.field_values.specs.Names.{FieldNames, names_fault, AreNames}
 use Rattle.field_values.specs.Value.{IsValue}
 use Rattle.device_core.specs.declared.edit.Edit.{Edit}
 use Rattle.device_core.specs.declared.edit.Edit.TheVariants.{Book}
@@ -12,13 +15,27 @@ use Rattle.device_core.specs.declared.edit.EditFault.{EditFault}
 use Rattle.device_core.specs.declared.edit.EditFault.TheVariants.{BadId, NoMemory}
 use Rattle.device_core.specs.declared.edit.Write.{Write}
 
--- one field is written, unless one of its names is no name: then the first such name is told
+-- the name of a field in this part
+abbrev pub name_of : FieldNames → NamePart → List ℕ
+name_of field Dataset = field.dataset
+name_of field Row = field.row
+name_of field Column = field.column
+
+-- names with a fault refuse the edit: the name that the fault is about is told
+abbrev pub bad_id : FieldNames → NameFault → EditFault
+bad_id field (Empty part) = BadId (name_of field part)
+bad_id field (TooLong part len) = BadId (name_of field part)
+bad_id field (BadByte part at) = BadId (name_of field part)
+bad_id field OutOfMemory = NoMemory
+
+-- the one write of a value, unless the names have a fault
+abbrev pub write_unless : Option NameFault → FieldNames → Value → Result (List Write) EditFault
+write_unless None field value = Ok (record { field = field; value = value } ∷ [])
+write_unless (Some fault) field value = Err (bad_id field fault)
+
+-- one field is written, unless one of its names is no name: then the first fault of its names refuses it
 abbrev pub set_writes : FieldNames → Value → Result (List Write) EditFault
-set_writes field value =
-    if is_some (name_fault Dataset field.dataset) then Err (BadId field.dataset)
-    else (if is_some (name_fault Row field.row) then Err (BadId field.row)
-    else (if is_some (name_fault Column field.column) then Err (BadId field.column)
-    else Ok (record { field = field; value = value } ∷ [])))
+set_writes field value = write_unless (names_fault field) field value
 
 -- the writes of an edit, in the order in which they are made, or why it is refused
 abbrev pub writes_of : Edit → Result (List Write) EditFault

@@ -3,3 +3,4 @@ pub mod Edits
 pub mod Device
 pub mod Holding
 pub mod ReadBack
+pub mod News

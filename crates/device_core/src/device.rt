@@ -78,13 +78,13 @@ impl Device {
     /// # Errors
     ///
     /// `BadRecord` for the first record that keeps no message.
-    pub fn start(alloc: Global, node: Node, items: &[Kept]) -> Result<Device, StartFault>
+    pub fn start(alloc: Global, node: Node, records: &[Kept]) -> Result<Device, StartFault>
         requires { IsNode node }
-        ensures messages { IfOk result (λ d. kept_set items.now ≡ Ok d.state.messages) }
+        ensures messages { IfOk result (λ d. kept_set records.now ≡ Ok d.state.messages) }
         ensures state { IfOk result (λ d. d ≡ at_rest (begun node d.state.messages)) }
-        ensures err { IfErr result (IsStartFault (kept_set items.now)) }
+        ensures err { IfErr result (IsStartFault (kept_set records.now)) }
     {
-        let (log, trie) = read_log(alloc, items)?;
+        let (log, trie) = read_log(alloc, records)?;
         let clock = HybridClock::new(node, log.last());
         Ok(Device {
             alloc,
@@ -143,7 +143,7 @@ impl Device {
     {
         let count = writes.len();
         if count == 0 {
-            self.rest();
+            self.forget_made();
             return Ok(0);
         }
         if count > MOST_WRITES {
@@ -160,7 +160,7 @@ impl Device {
     }
 
     /// Forgets the ids that an edit made.
-    fn rest(&mut self)
+    fn forget_made(&mut self)
         ensures { self.new ≡ record self.old { made = [] } }
     {
         self.made = Items::new(Vec::new(self.alloc));
@@ -195,7 +195,7 @@ impl Device {
         ensures ok { OnOk result (self.new ≡ with_messages self.old.state.messages messages.now self.old.state.clock) }
         ensures err { OnErr result (self.new.spent ≡ true) }
     {
-        self.rest();
+        self.forget_made();
         self.spent = true;
         join_all(
             self.alloc,
@@ -232,7 +232,7 @@ impl Device {
         ensures steps { steps.new ≡ steps.old }
     {
         let Some(stamp) = greatest_stamp(batch) else {
-            self.rest();
+            self.forget_made();
             return Ok(0);
         };
         if let Err(fault) = self.clock.receive(reading, &stamp) {

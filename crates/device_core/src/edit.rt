@@ -1,11 +1,11 @@
 //! Edits, and the writes that they make.
-ghost use Rattle.std.specs.Prelude.{◌≡◌, IfOk, IfErr, is_some};
-ghost use Rattle.field_values.specs.Names.{name_fault};
+ghost use Rattle.std.specs.Prelude.{◌≡◌, IfOk, IfErr};
+ghost use Rattle.field_values.specs.Names.{field_of};
 ghost use Rattle.field_values.specs.Value.{IsValue};
 ghost use Rattle.device_core.specs.declared.edit.EditFault.TheVariants.{NoMemory as OutOfMemory};
-ghost use Rattle.device_core.specs.Edits.{writes_of, set_writes, IsEdit, AreWrites, IsFaultOf};
+ghost use Rattle.device_core.specs.Edits.{name_of, bad_id, writes_of, set_writes, IsEdit, AreWrites, IsFaultOf};
 
-use field_values::{Field, NamePart, NoMemory, Txt, Value, check_name};
+use field_values::{Field, NameFault, NamePart, NoMemory, Txt, Value};
 use hybrid_clock::ClockFault;
 use std::alloc::{AllocFailed, Global};
 
@@ -68,21 +68,41 @@ pub enum Edit {
 /// A value for a field.
 #[derive(Debug, Drop)]
 pub struct Write {
+    /// The field that is written.
     pub field: Field,
+    /// The value that it gets.
     pub value: Value,
 }
 
-/// Whether a text is no name of this part.
-fn is_no_name(part: NamePart, name: &Txt) -> bool
-    ensures { result ≡ is_some (name_fault part name.now) }
+/// That one of three names which has this part.
+fn name_of<'a>(part: NamePart, dataset: &'a Txt, row: &'a Txt, column: &'a Txt) -> &'a Txt
+    ensures { result.now ≡ name_of (field_of dataset.now row.now column.now) part }
 {
-    match check_name(part, name.bytes()) {
-        Ok(()) => false,
-        Err(_) => true,
+    match part {
+        NamePart::Dataset => dataset,
+        NamePart::Row => row,
+        NamePart::Column => column,
+    }
+}
+
+/// Why an edit is refused where its names have this fault.
+fn bad_id(fault: NameFault, dataset: &Txt, row: &Txt, column: &Txt) -> EditFault
+    ensures { IsFaultOf (Err (bad_id (field_of dataset.now row.now column.now) fault)) result }
+{
+    let part = match fault {
+        NameFault::Empty { part }
+        | NameFault::TooLong { part, .. }
+        | NameFault::BadByte { part, .. } => part,
+        NameFault::NoMemory => return EditFault::NoMemory,
+    };
+    match name_of(part, dataset, row, column).copy() {
+        Ok(id) => EditFault::BadId { id },
+        Err(NoMemory) => EditFault::NoMemory,
     }
 }
 
 /// The one write of a value into the field with these names.
+#[tactic(auto, using(crate::proofs::Writing::bad_id_told))]
 fn set_writes(
     alloc: Global,
     dataset: &Txt,
@@ -91,23 +111,13 @@ fn set_writes(
     value: &Value,
 ) -> Result<Vec<Write>, EditFault>
     requires { IsValue value.now }
-    ensures ok { IfOk result (λ ws. set_writes (record { dataset = dataset.now; row = row.now; column = column.now }) value.now ≡ Ok ws.items) }
+    ensures ok { IfOk result (λ ws. set_writes (field_of dataset.now row.now column.now) value.now ≡ Ok ws.items) }
     ensures valid { IfOk result (λ ws. AreWrites ws.items) }
-    ensures err { IfErr result (IsFaultOf (set_writes (record { dataset = dataset.now; row = row.now; column = column.now }) value.now)) }
+    ensures err { IfErr result (IsFaultOf (set_writes (field_of dataset.now row.now column.now) value.now)) }
 {
-    if is_no_name(NamePart::Dataset, dataset) {
-        return Err(EditFault::BadId {
-            id: dataset.copy()?,
-        });
-    }
-    if is_no_name(NamePart::Row, row) {
-        return Err(EditFault::BadId { id: row.copy()? });
-    }
-    if is_no_name(NamePart::Column, column) {
-        return Err(EditFault::BadId { id: column.copy()? });
-    }
-    let Ok(field) = Field::make(alloc, dataset.as_str(), row.as_str(), column.as_str()) else {
-        return Err(EditFault::NoMemory);
+    let field = match Field::make(alloc, dataset.as_str(), row.as_str(), column.as_str()) {
+        Ok(field) => field,
+        Err(fault) => return Err(bad_id(fault, dataset, row, column)),
     };
     let value = value.copy()?;
     let mut writes = Vec::new(alloc);

@@ -39,17 +39,17 @@ fn enter(log: &mut Log, trie: &mut Trie, message: Message) -> Result<bool, NoMem
 }
 
 /// The log of the messages that records keep, and its trie.
-pub(crate) fn read_log(alloc: Global, items: &[Kept]) -> Result<(Log, Trie), StartFault>
-    ensures messages { IfOk result (λ l. kept_set items.now ≡ Ok l.0.messages) }
+pub(crate) fn read_log(alloc: Global, records: &[Kept]) -> Result<(Log, Trie), StartFault>
+    ensures messages { IfOk result (λ l. kept_set records.now ≡ Ok l.0.messages) }
     ensures live { IfOk result (λ l. l.0.spent ≡ false) }
     ensures valid { IfOk result (λ l. AreMessages l.0.messages) }
     ensures trie_live { IfOk result (λ l. is_spent l.1 ≡ false) }
     ensures right { IfOk result (λ l. IsTrieOf (pairs_of l.0.messages) l.1) }
-    ensures err { IfErr result (IsStartFault (kept_set items.now)) }
+    ensures err { IfErr result (IsStartFault (kept_set records.now)) }
 {
     let mut log = Log::new(alloc)?;
     let mut trie = Trie::new(alloc)?;
-    for (index, kept) in items.iter().enumerate() {
+    for (index, kept) in records.iter().enumerate() {
         let Some(message) = read_record(alloc, kept)? else {
             return Err(StartFault::BadRecord { index });
         };

@@ -1,5 +1,6 @@
 //! Facts about what a device holds, and what a keeper holds of it, which a proof can call for.
 ghost use Rattle.device_core.specs.Holding.{BatchesAreKept};
+ghost use Rattle.device_core.specs.News.{NewOnesAreAdded, GreatestIsTold};
 ghost use Rattle.device_core.specs.ReadBack.{EditsReadBack};
 
 /// A law: a group that keeps a message set keeps, with the records of the new ones of other messages
@@ -13,4 +14,17 @@ pub fn batches_are_kept()
 /// that message had.
 pub fn edits_read_back()
     ensures { EditsReadBack }
+{}
+
+/// A law: of messages that come, joining those alone that are new joins all of them, and the join has
+/// one message more for each of these. So the count of an `incoming` says by how many messages the
+/// device has grown, and a timestamp that comes twice counts once.
+pub fn new_ones_are_added()
+    ensures { NewOnesAreAdded }
+{}
+
+/// A law: the timestamp by which a clock receives messages is that of one of them, and none of them
+/// has a greater one. Only of no messages there is none.
+pub fn greatest_is_told()
+    ensures { GreatestIsTold }
 {}

@@ -1,6 +1,7 @@
 //! Expected values are written out by hand from the rules, and the hashes come from another
 //! implementation.
 ghost use Rattle.std.specs.Prelude.{◌≡◌, ◌≤◌, [], IfOk, OnOk, false};
+ghost use Rattle.field_values.specs.Value.{IsValue};
 ghost use Rattle.field_merge.specs.Messages.{IsMessage, AreMessages};
 ghost use Rattle.device_core.specs.Edits.{IsEdit};
 
@@ -69,6 +70,16 @@ fn pending(alloc: Global, device: &Device) -> Result<String, Fail>
     Ok(text)
 }
 
+/// How many messages a device has, where its clock stands, the root of its trie, and how many
+/// records are pending.
+fn told_by(device: &Device) -> (usize, Stamp, i32, usize)
+    requires { device.now.spent ≡ false }
+{
+    let messages = device.log().len();
+    let root = device.trie().root();
+    (messages, device.clock_last(), root, device.batch().len())
+}
+
 /// The lines of the messages after a text.
 fn outgoing(alloc: Global, device: &Device, since: &str) -> Result<String, Fail>
     requires { device.now.spent ≡ false }
@@ -83,20 +94,25 @@ fn outgoing(alloc: Global, device: &Device, since: &str) -> Result<String, Fail>
     Ok(text)
 }
 
-#[test]
-fn starts_from_records(rt: HostRuntime) -> Result<(), Fail> {
-    let alloc = rt.alloc();
-    let device = device_of(
+/// A device that begins with two records, of which the later one stands first.
+fn started(alloc: Global) -> Result<Device, Fail>
+    ensures { IfOk result (λ d. d.spent ≡ false) }
+{
+    device_of(
         alloc,
         &[
             (SECOND, "categories\tfood\tname\tS:Meals"),
             (FIRST, "categories\tfood\tname\tS:a\\\\b"),
         ],
-    )?;
-    assert_eq!(rt; device.log().len(), 2);
-    assert_eq!(rt; device.clock_last(), clock_at(1_704_448_801_000)?);
-    assert_eq!(rt; device.trie().root(), BOTH);
-    assert_eq!(rt; device.batch().len(), 0);
+    )
+}
+
+#[test]
+fn starts_from_records(rt: HostRuntime) -> Result<(), Fail> {
+    let alloc = rt.alloc();
+    let device = started(alloc)?;
+    let told = (2, clock_at(1_704_448_801_000)?, BOTH, 0);
+    assert_eq!(rt; told_by(&device), told);
     assert_eq!(rt;
         outgoing(
             alloc,
@@ -127,20 +143,28 @@ fn tells_the_bad_record(rt: HostRuntime) -> Result<(), Fail> {
     Ok(())
 }
 
-/// The edit that writes a text into the name of a category.
-fn naming(alloc: Global, row: &str, name: &str) -> Result<Edit, Fail>
+/// The edit that writes a value into the name of a category.
+fn writing(alloc: Global, row: &str, value: Value) -> Result<Edit, Fail>
+    requires { IsValue value }
     ensures { IfOk result IsEdit }
 {
     let dataset = Txt::from_text(alloc, "categories")?;
     let row = Txt::from_text(alloc, row)?;
     let column = Txt::from_text(alloc, "name")?;
-    let value = Value::read(alloc, name)?;
     Ok(Edit::Book(BookEdit::Set {
         dataset,
         row,
         column,
         value,
     }))
+}
+
+/// The edit that writes the value of a text into the name of a category.
+fn naming(alloc: Global, row: &str, name: &str) -> Result<Edit, Fail>
+    ensures { IfOk result IsEdit }
+{
+    let value = Value::read(alloc, name)?;
+    writing(alloc, row, value)
 }
 
 fn prepare<G: Ledger>(
@@ -212,6 +236,18 @@ fn edits(rt: HostRuntime) -> Result<(), Fail> {
     Ok(())
 }
 
+/// Two messages in a list.
+fn both(alloc: Global, one: Message, other: Message) -> Result<Vec<Message>, Fail>
+    requires one { IsMessage one }
+    requires other { IsMessage other }
+    ensures { IfOk result (λ ms. AreMessages ms.items) }
+{
+    let mut messages = Vec::new(alloc);
+    messages.push(one)?;
+    messages.push(other)?;
+    Ok(messages)
+}
+
 /// A message whose timestamp is that of the edit, and a new one.
 fn two_messages(alloc: Global) -> Result<Vec<Message>, Fail>
     ensures { IfOk result (λ ms. AreMessages ms.items) }
@@ -224,10 +260,7 @@ fn two_messages(alloc: Global) -> Result<Vec<Message>, Fail>
         alloc,
         "2024-01-05T10:00:01.000Z-0000-00000000000000bb\tcategories\tfood\tname\tN:2",
     )?;
-    let mut messages = Vec::new(alloc);
-    messages.push(known)?;
-    messages.push(new)?;
-    Ok(messages)
+    both(alloc, known, new)
 }
 
 #[test]

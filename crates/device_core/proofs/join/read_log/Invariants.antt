@@ -8,7 +8,7 @@ use Rattle.device_core.proofs.join.read_log.Given as goal
 
 abbrev pub invariant-loop-index : goal.invariant-loop-index
 invariant-loop-index l = record {
-  rest : kept_after l.log.messages l.index (drop l.index l.items) ≡ kept_set l.items;
+  rest : kept_after l.log.messages l.index (drop l.index l.records) ≡ kept_set l.records;
   live : l.log.spent ≡ false;
   trie_live : is_spent l.trie ≡ false;
   right : IsTrieOf (pairs_of l.log.messages) l.trie;

@@ -16,7 +16,7 @@ invariant_of-result c = λ _.
       trie_live = c.in_ok-log.ensures.trie_live;
       trie_right = c.in_ok-log.ensures.right;
       valid = c.in_ok-log.ensures.valid;
-      ahead = subst (λ (s : Stamp). IsAhead s ms) (sym (c.new-clock.ensures ∙ ap (clock_after c.args.node) c.last.ensures)) (after_ahead c.args.node ms (rising_set c.args.items.now ms c.in_ok-log.ensures.messages));
+      ahead = subst (λ (s : Stamp). IsAhead s ms) (sym (c.new-clock.ensures ∙ ap (clock_after c.args.node) c.last.ensures)) (after_ahead c.args.node ms (rising_set c.args.records.now ms c.in_ok-log.ensures.messages));
       keys = subst HaveKeys (sym c.new.ensures.items) tt;
     }
 
