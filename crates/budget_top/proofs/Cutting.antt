@@ -17,7 +17,7 @@ onto_none false b [] = refl
 onto_none false b (p ∷ ps) = refl
 
 -- there is a piece
-pieces_some : (bytes : List ℕ) → onto [] (pieces bytes) ≡ pieces bytes
+pub pieces_some : (bytes : List ℕ) → onto [] (pieces bytes) ≡ pieces bytes
 pieces_some [] = refl
 pieces_some (b ∷ bs) = onto_none (is_end b) b (pieces bs)
 
@@ -37,12 +37,12 @@ pub pieces-append : (xs ys : List ℕ) → pieces (xs ++ ys) ≡ whole_lines xs 
 pieces-append [] ys = sym (pieces_some ys)
 pieces-append (b ∷ bs) ys = one_more (is_end b) b (pieces bs) (pieces ys) (pieces (bs ++ ys)) (pieces_some bs) (pieces-append bs ys)
 
-but_last-append : (ls : List (List ℕ)) (q : List ℕ) (qs : List (List ℕ)) → all_but_last (ls ++ q ∷ qs) ≡ ls ++ all_but_last (q ∷ qs)
+pub but_last-append : (ls : List (List ℕ)) (q : List ℕ) (qs : List (List ℕ)) → all_but_last (ls ++ q ∷ qs) ≡ ls ++ all_but_last (q ∷ qs)
 but_last-append [] q qs = refl
 but_last-append (l ∷ []) q qs = refl
 but_last-append (l ∷ m ∷ ms) q qs = ap (λ xs. l ∷ xs) (but_last-append (m ∷ ms) q qs)
 
-last_of-append : (ls : List (List ℕ)) (q : List ℕ) (qs : List (List ℕ)) → last_of (ls ++ q ∷ qs) ≡ last_of (q ∷ qs)
+pub last_of-append : (ls : List (List ℕ)) (q : List ℕ) (qs : List (List ℕ)) → last_of (ls ++ q ∷ qs) ≡ last_of (q ∷ qs)
 last_of-append [] q qs = refl
 last_of-append (l ∷ []) q qs = refl
 last_of-append (l ∷ m ∷ ms) q qs = last_of-append (m ∷ ms) q qs

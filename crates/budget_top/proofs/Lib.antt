@@ -14,6 +14,7 @@ pub mod Serving
 pub mod Answering
 pub mod Obeying
 pub mod Keeping
+pub mod Replying
 mod Parses
 pub mod ClapRules
 pub mod ClapWords

@@ -11,6 +11,7 @@ pub mod MergeRun
 pub mod Stops
 pub mod Steps
 pub mod Session
+pub mod Replies
 pub mod Seen
 pub mod Handling
 pub mod Standing

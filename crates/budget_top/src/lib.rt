@@ -29,6 +29,6 @@ pub use dispatch::{
     BAD_RECORD, BAD_WORDS, DONE, KEEPER_FAILED, NO_MEMORY, SINK_FAILED, SOME_BAD, SOURCE_FAILED,
     TOO_MUCH, refusal_status, run,
 };
-pub use laws::lines_are_written;
+pub use laws::{lines_are_written, replies_are_cut};
 pub use planning::plan;
 pub use words::{Mode, Plan, WordFault};

@@ -1,0 +1,5 @@
+use Rattle.budget_top.proofs.Replying.{replies_cut}
+use Rattle.budget_top.proofs.laws.replies_are_cut.Goals as goal
+
+pub returns : goal.returns
+returns c = replies_cut c.replies_are_lines.ensures
