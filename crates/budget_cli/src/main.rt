@@ -1,7 +1,9 @@
 //! The program: its words, the standard streams, the clock of the system and a keeper in memory.
 #![tactic(auto)]
 
-ghost use Rattle.std.specs.Prelude.{◌≡◌, ◌≤◌};
+ghost use Rattle.std.specs.Prelude.{◌≡◌, ◌⊎◌, ◌≤◌, IsErr};
+ghost use Rattle.std.specs.Process.{exit_status};
+ghost use Rattle.budget_top.specs.Words.{planned, refusal_status};
 
 mod stdin_source;
 mod stdout_sink;
@@ -49,7 +51,9 @@ fn tell(rt: &HostRuntime, fault: WordFault) {
 }
 
 /// Tells why there is no run, and gives the status.
-fn without_run(rt: &HostRuntime, fault: WordFault) -> ExitCode {
+fn without_run(rt: &HostRuntime, fault: WordFault) -> ExitCode
+    ensures { exit_status result ≡ refusal_status fault }
+{
     tell(rt, fault);
     ExitCode::from(refusal_status(fault))
 }
@@ -65,6 +69,8 @@ fn status_over<G: Ledger>(
     requires name { blank.name ≡ G.name }
     requires parts { blank.parts ≡ G.parts }
     requires some { 1 ≤ G.parts }
+    ensures words { result ≡ 2 → IsErr (planned words.now) }
+    ensures refused { IsErr (planned words.now) → (result ≡ 2) ⊎ (result ≡ 7) }
 {
     let alloc = rt.alloc();
     let mut source = StdinSource::new(rt.stdin());
