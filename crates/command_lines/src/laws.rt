@@ -6,8 +6,8 @@ use field_merge::message_lines;
 use field_values::value::values_read_back;
 use hybrid_clock::text_reads_back;
 
-/// A law: a reader who cuts the text of a reply at its line feeds finds the lines of the reply, and
-/// each reply of this crate has such a text.
+/// A law: a reader who cuts the text of a reply at its line feeds finds the lines of the reply, if no
+/// text of it has a line feed. And no text of a reply of this crate has one, unless a row's id has one.
 pub fn replies_are_lines()
     ensures { RepliesAreLines }
 {
@@ -15,7 +15,7 @@ pub fn replies_are_lines()
     message_lines();
 }
 
-/// A law: each valid command has a line that is read as it, unless the line is too long.
+/// A law: the line of a valid command is read as the command, unless the line is too long.
 pub fn commands_read_back()
     ensures { CommandsReadBack }
 {

@@ -99,9 +99,8 @@ fn text_of(alloc: Global, reply: Result<Reply, NoMemory>) -> Result<Txt, Fail> {
 /// The ids `a\b` and `c`.
 fn two_ids(alloc: Global) -> Result<Items<Txt>, Fail> {
     let mut ids = Vec::new(alloc);
-    for id in ["a\\b", "c"] {
-        ids.push(Txt::from_text(alloc, id)?)?;
-    }
+    ids.push(Txt::from_text(alloc, "a\\b")?)?;
+    ids.push(Txt::from_text(alloc, "c")?)?;
     Ok(Items::new(ids))
 }
 
@@ -123,21 +122,19 @@ fn refusal_text(alloc: Global, refusal: &LineRefusal) -> Result<Txt, Fail> {
     text_of(alloc, refusal_reply(alloc, refusal))
 }
 
-fn bad_id(alloc: Global, id: &str) -> Result<LineRefusal, Fail> {
+/// The text of the reply to an edit with this id, which is no name.
+fn bad_id_text(alloc: Global, id: &str) -> Result<Txt, Fail> {
     let id = Txt::from_text(alloc, id)?;
-    Ok(LineRefusal::Edit(EditFault::BadId { id }))
+    refusal_text(alloc, &LineRefusal::Edit(EditFault::BadId { id }))
 }
 
 #[test]
 fn refused_edits_are_told(rt: HostRuntime) -> Result<(), Fail> {
     let alloc = rt.alloc();
-    for (id, text) in [
-        ("", "refused E1 bad-id\n"),
-        ("a b\t\\", "refused E1 bad-id a b\\t\\\\\n"),
-    ] {
-        let refusal = bad_id(alloc, id)?;
-        assert_eq!(rt; refusal_text(alloc, &refusal)?.as_str(), text);
-    }
+    let empty = bad_id_text(alloc, "")?;
+    assert_eq!(rt; empty.as_str(), "refused E1 bad-id\n");
+    let escaped = bad_id_text(alloc, "a b\t\\")?;
+    assert_eq!(rt; escaped.as_str(), "refused E1 bad-id a b\\t\\\\\n");
     let many = LineRefusal::Edit(EditFault::TooManyWrites { n: 65_537 });
     assert_eq!(rt;
         refusal_text(alloc, &many)?.as_str(),
@@ -146,31 +143,27 @@ fn refused_edits_are_told(rt: HostRuntime) -> Result<(), Fail> {
     Ok(())
 }
 
+/// The text of the reply to a timestamp that the clock refused.
+fn clock_text(alloc: Global, fault: ClockFault) -> Result<Txt, Fail> {
+    refusal_text(alloc, &LineRefusal::Clock(fault))
+}
+
 #[test]
 fn refused_timestamps_are_told(rt: HostRuntime) -> Result<(), Fail> {
     let alloc = rt.alloc();
-    for (fault, text) in [
-        (
-            ClockFault::Drift {
-                logical: 301_001,
-                reading: 1000,
-            },
-            "refused E26 clock-drift 301001 1000\n",
-        ),
-        (
-            ClockFault::Overflow { counter: 65_536 },
-            "refused E27 clock-overflow 65536\n",
-        ),
-        (
-            ClockFault::Beyond {
-                reading: 2_582_803_260_000,
-            },
-            "refused E28 clock-beyond 2582803260000\n",
-        ),
-    ] {
-        let refusal = LineRefusal::Clock(fault);
-        assert_eq!(rt; refusal_text(alloc, &refusal)?.as_str(), text);
-    }
+    let drift = ClockFault::Drift {
+        logical: 301_001,
+        reading: 1000,
+    };
+    let drift = clock_text(alloc, drift)?;
+    assert_eq!(rt; drift.as_str(), "refused E26 clock-drift 301001 1000\n");
+    let overflow = clock_text(alloc, ClockFault::Overflow { counter: 65_536 })?;
+    assert_eq!(rt; overflow.as_str(), "refused E27 clock-overflow 65536\n");
+    let beyond = ClockFault::Beyond {
+        reading: 2_582_803_260_000,
+    };
+    let beyond = clock_text(alloc, beyond)?;
+    assert_eq!(rt; beyond.as_str(), "refused E28 clock-beyond 2582803260000\n");
     Ok(())
 }
 
@@ -212,46 +205,42 @@ fn device(alloc: Global) -> Result<Device, Fail>
     Ok(device)
 }
 
-/// The text of the reply to a line that only reads.
-fn answered(alloc: Global, device: &Device, command: &Command) -> Result<Txt, Fail>
-    requires live { device.now.spent ≡ false }
-    requires reading { IsReading command.now }
+/// The text of that device's reply to a line that only reads.
+fn answered(alloc: Global, command: &Command) -> Result<Txt, Fail>
+    requires { IsReading command.now }
 {
-    text_of(alloc, read_reply(alloc, device, command))
+    let device = device(alloc)?;
+    text_of(alloc, read_reply(alloc, &device, command))
 }
 
-/// `messages SINCE`.
-fn messages(alloc: Global, since: &str) -> Result<Command, Fail>
-    ensures { IfOk result IsReading }
-{
+/// The reply to `messages SINCE`.
+fn messages(alloc: Global, since: &str) -> Result<Txt, Fail> {
     let since = Txt::from_text(alloc, since)?;
-    Ok(Command::Messages { since })
+    answered(alloc, &Command::Messages { since })
 }
 
-/// `value categories ROW name`.
-fn name_of(alloc: Global, row: &str) -> Result<Command, Fail>
-    ensures { IfOk result IsReading }
-{
+/// The reply to `value categories ROW name`.
+fn name_of(alloc: Global, row: &str) -> Result<Txt, Fail> {
     let dataset = Txt::from_text(alloc, "categories")?;
     let row = Txt::from_text(alloc, row)?;
     let column = Txt::from_text(alloc, "name")?;
-    Ok(Command::Value {
+    let command = Command::Value {
         dataset,
         row,
         column,
-    })
+    };
+    answered(alloc, &command)
 }
 
 #[test]
 fn fields_and_trie_are_answered(rt: HostRuntime) -> Result<(), Fail> {
     let alloc = rt.alloc();
-    let device = device(alloc)?;
-    let fields = answered(alloc, &device, &Command::Fields)?;
+    let fields = answered(alloc, &Command::Fields)?;
     assert_eq!(rt;
         fields.as_str(),
         "ok 1\n2024-01-05T10:00:01.000Z-0000-00000000000000bb\tcategories\tfood\tname\tS:c\\td\n"
     );
-    let trie = answered(alloc, &device, &Command::Trie)?;
+    let trie = answered(alloc, &Command::Trie)?;
     assert_eq!(rt; trie.as_str(), TRIE);
     Ok(())
 }
@@ -259,42 +248,29 @@ fn fields_and_trie_are_answered(rt: HostRuntime) -> Result<(), Fail> {
 #[test]
 fn messages_are_answered(rt: HostRuntime) -> Result<(), Fail> {
     let alloc = rt.alloc();
-    let device = device(alloc)?;
-    for (since, text) in [
-        (
-            "",
-            "ok 2\n\
-             2024-01-05T10:00:00.000Z-0000-00000000000000aa\tcategories\tfood\tname\tS:a\\\\b\n\
-             2024-01-05T10:00:01.000Z-0000-00000000000000bb\tcategories\tfood\tname\tS:c\\td\n",
-        ),
-        (
-            "2024-01-05T10:00:00.000Z-0000-00000000000000aa",
-            "ok 1\n\
-             2024-01-05T10:00:01.000Z-0000-00000000000000bb\tcategories\tfood\tname\tS:c\\td\n",
-        ),
-        ("3", "ok 0\n"),
-    ] {
-        let command = messages(alloc, since)?;
-        assert_eq!(rt;
-            answered(alloc, &device, &command)?.as_str(),
-            text,
-            "since {since}"
-        );
-    }
+    let all = messages(alloc, "")?;
+    assert_eq!(rt;
+        all.as_str(),
+        "ok 2\n\
+         2024-01-05T10:00:00.000Z-0000-00000000000000aa\tcategories\tfood\tname\tS:a\\\\b\n\
+         2024-01-05T10:00:01.000Z-0000-00000000000000bb\tcategories\tfood\tname\tS:c\\td\n"
+    );
+    let later = messages(alloc, FIRST.0)?;
+    assert_eq!(rt;
+        later.as_str(),
+        "ok 1\n2024-01-05T10:00:01.000Z-0000-00000000000000bb\tcategories\tfood\tname\tS:c\\td\n"
+    );
+    let none = messages(alloc, "3")?;
+    assert_eq!(rt; none.as_str(), "ok 0\n");
     Ok(())
 }
 
 #[test]
 fn values_are_answered(rt: HostRuntime) -> Result<(), Fail> {
     let alloc = rt.alloc();
-    let device = device(alloc)?;
-    for (row, text) in [("food", "ok 1\nS:c\\td\n"), ("rent", "ok 1\nnone\n")] {
-        let command = name_of(alloc, row)?;
-        assert_eq!(rt;
-            answered(alloc, &device, &command)?.as_str(),
-            text,
-            "of {row}"
-        );
-    }
+    let food = name_of(alloc, "food")?;
+    assert_eq!(rt; food.as_str(), "ok 1\nS:c\\td\n");
+    let rent = name_of(alloc, "rent")?;
+    assert_eq!(rt; rent.as_str(), "ok 1\nnone\n");
     Ok(())
 }
