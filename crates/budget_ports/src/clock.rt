@@ -1,7 +1,7 @@
 //! Where readings of the time come from.
 ghost use Rattle.std.specs.Prelude.{◌≡◌, ◌<◌, [], ◌∷◌, vec_len, IsSome, Some};
 ghost use Rattle.std.specs.declared.option.Option.{Option};
-ghost use Rattle.budget_ports.specs.Readings.{Readings, Takes, TakesAll, all_then_last};
+ghost use Rattle.budget_ports.specs.Readings.{Readings, Takes, all_then_last};
 
 use std::marker::Model;
 

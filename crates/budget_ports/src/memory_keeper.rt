@@ -3,7 +3,7 @@ ghost use Rattle.std.specs.Prelude.{◌≡◌, ◌↔◌, [], IsTrue, IsErrOf, I
 ghost use Rattle.std.specs.FinMap as map;
 ghost use Rattle.budget_ports.specs.Faults.{count_after};
 ghost use Rattle.budget_ports.specs.Calls.{no_calls, is_listed};
-ghost use Rattle.budget_ports.specs.Contents.{Contents, nothing, records_after, appended, with_text};
+ghost use Rattle.budget_ports.specs.Contents.{nothing, records_after, appended, with_text};
 ghost use Rattle.budget_ports.specs.Keeper.{has_failed, Commits, LeavesNoMore, Only, Rise, HaveKeys};
 ghost use Rattle.budget_ports.specs.KeeperState.{counted, holds};
 ghost use Rattle.budget_ports.specs.declared.keeper.PortFault.TheVariants.{Failed as HasFailed};

@@ -1,5 +1,5 @@
 //! The records and the texts of a keeper in memory.
-ghost use Rattle.std.specs.Prelude.{◌≡◌, not, IfOk, OnOk, OnErr, is_some};
+ghost use Rattle.std.specs.Prelude.{◌≡◌, not, IfOk, OnOk, OnErr};
 ghost use Rattle.std.specs.FinMap as map;
 ghost use Rattle.budget_ports.specs.Contents.{records_of_after, with_record, with_records};
 ghost use Rattle.budget_ports.specs.Undoing.{taken_out};
@@ -30,7 +30,7 @@ pub struct Records {
 impl Model for Records {
     ghost use Rattle.std.specs.FinMap as map;
     ghost use Rattle.budget_ports.specs.Contents.{Text, place_cmp};
-    ghost use Rattle.budget_ports.specs.KeeperState.{text_code, records_code};
+    ghost use Rattle.budget_ports.specs.KeeperState.{records_code};
 
     ghost Value = { map.FinMap place_cmp Text };
 

@@ -1,5 +1,5 @@
 //! The input of a run: how much of it is read, and where its lines end.
-ghost use Rattle.std.specs.Prelude.{◌≡◌, ◌≤◌, ◌==◌, ℕ, List, Option, length, position};
+ghost use Rattle.std.specs.Prelude.{◌≡◌, ◌≤◌, ℕ, List, Option, length, position};
 ghost use Rattle.std.specs.Io.KnownBytes.{Consumes};
 ghost use Rattle.budget_ports.specs.Faults.{count_after};
 ghost use Rattle.budget_top.specs.Lines.{is_end};

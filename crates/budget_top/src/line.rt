@@ -1,9 +1,9 @@
 //! Finds the options and the mode word of a command line, by the crate `clap`.
-ghost use Rattle.std.specs.Prelude.{◌≡◌, IfOk, IsUtf8, map, false, codes};
+ghost use Rattle.std.specs.Prelude.{◌≡◌, IfOk, IsUtf8, map, false};
 ghost use Rattle.std.specs.List.{All};
 ghost use Rattle.clap.specs.Words.{app_of, rule_of, rows_of, found_of, matches_of, with_rule, fault_of, FailsBy};
 ghost use Rattle.budget_top.specs.Clap.{option_rule, mode_rule, bare_app, plan_app, IsFoundIn};
-ghost use Rattle.budget_top.specs.Clap.{wants_value, hyphen_after, hyphen_for_value};
+ghost use Rattle.budget_top.specs.Clap.{wants_value, hyphen_for_value};
 
 use clap::error::ErrorKind;
 use clap::{Arg, ArgAction, ArgMatches, Command, Error};

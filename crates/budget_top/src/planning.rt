@@ -1,5 +1,5 @@
 //! Reads the words of the command line.
-ghost use Rattle.std.specs.Prelude.{◌≡◌, ◌≢◌, IfOk, IfErr, Ok, Err, IfSome, IsUtf8, map, option_map, unwrap_or, codes};
+ghost use Rattle.std.specs.Prelude.{◌≡◌, ◌≢◌, IfOk, IfErr, Ok, Err, IsUtf8, map, option_map, unwrap_or};
 ghost use Rattle.std.specs.List.{All};
 ghost use Rattle.clap.specs.Words.{first_value, found_of};
 ghost use Rattle.budget_top.specs.Words.{IsFaultOf, HasFault, IsPlan, IsNodeFor, planned, planned_by, plan_with, mode_named, node_for, count_from, name_or};

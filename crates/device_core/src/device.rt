@@ -1,5 +1,5 @@
 //! A device.
-ghost use Rattle.std.specs.Prelude.{◌≡◌, ◌+◌, ◌-◌, ◌≤◌, ◌<◌, [], ◌∷◌, length, true, false, IfOk, IfErr, OnOk, OnErr};
+ghost use Rattle.std.specs.Prelude.{◌≡◌, ◌+◌, ◌-◌, ◌≤◌, ◌<◌, [], length, true, false, IfOk, IfErr, OnOk, OnErr};
 ghost use Rattle.hybrid_clock.specs.Node.{IsNode};
 ghost use Rattle.hybrid_clock.specs.Stamp.{IsStamp};
 ghost use Rattle.budget_ports.specs.Keeper.{HaveKeys};
@@ -9,7 +9,7 @@ ghost use Rattle.minute_trie.specs.Trie.{IsTrieOf, ArePairs};
 ghost use Rattle.device_core.specs.declared.device.StartFault.TheVariants.{NoMemory as OutOfMemory};
 ghost use Rattle.device_core.specs.Records.{kept_set};
 ghost use Rattle.device_core.specs.Edits.{IsEdit, AreWrites};
-ghost use Rattle.device_core.specs.Device.{at_rest, begun, with_messages, stamped, writing, edited, later_of, greatest_of, received, pairs_of, IsUpTo, IsAhead, IsAccepted, IsRefused, IsStartFault};
+ghost use Rattle.device_core.specs.Device.{at_rest, begun, with_messages, stamped, writing, edited, later_of, greatest_of, received, pairs_of, IsAhead, IsAccepted, IsRefused, IsStartFault};
 
 use crate::edit::{Edit, EditFault, LineRefusal, Write, edit_writes};
 use crate::join::{join_all, read_log};

@@ -1,6 +1,5 @@
 //! Messages that join a log and its trie, and the records of those that are new.
 ghost use Rattle.std.specs.Prelude.{◌≡◌, ◌++◌, ◌∷◌, [], map, false, is_none, if◌then◌else◌, IfOk, IfErr, OnOk};
-ghost use Rattle.hybrid_clock.specs.Stamp.{IsStamp};
 ghost use Rattle.field_merge.specs.Log.{join, join_one};
 ghost use Rattle.field_merge.specs.Messages.{IsMessage, AreMessages};
 ghost use Rattle.field_merge.specs.Log.{at_stamp};

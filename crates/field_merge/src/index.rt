@@ -1,8 +1,7 @@
 //! The two maps of a log: its messages by timestamp, and the index of the
 //! latest message of each field.
-ghost use Rattle.std.specs.Prelude.{◌≡◌, ◌&&◌, ◌||◌, IfOk, IsOk, OnOk, OnErr, Bool, List, None, Some, cond, not, true, false};
+ghost use Rattle.std.specs.Prelude.{◌≡◌, ◌&&◌, ◌||◌, IfOk, OnOk, OnErr, List, None, Some, cond, not, true, false};
 ghost use Rattle.std.specs.List.{find, list_any};
-ghost use Rattle.std.specs.Map.{lookup, values_of};
 ghost use Rattle.std.specs.BTreeMap.{get, insert_entry, is_at, values, IsOrdered};
 ghost use Rattle.std.specs.Option.{option_copied};
 ghost use Rattle.std.specs.BTreeSet.{contains};
@@ -11,7 +10,7 @@ ghost use Rattle.hybrid_clock.specs.Order.{stamp_cmp};
 ghost use Rattle.field_merge.specs.declared.message.Message.{Message};
 ghost use Rattle.field_merge.specs.Messages.{IsMessage};
 ghost use Rattle.field_merge.specs.Log.{by_stamp, has_field, has_stamp, join_one, latest, placed};
-ghost use Rattle.field_merge.specs.Kept.{AreEntries, IsIndex, MarksChanged, Notes, is_newer};
+ghost use Rattle.field_merge.specs.Kept.{AreEntries, IsIndex, MarksChanged, Notes};
 
 use crate::message::Message;
 use crate::shared::Shared;

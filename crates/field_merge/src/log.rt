@@ -1,5 +1,5 @@
 //! The message log.
-ghost use Rattle.std.specs.Prelude.{◌≡◌, ◌+◌, ◌↔◌, IfOk, IsTrue, OnOk, OnErr, false, true, [], ◌∷◌, ◌++◌, length, option_map, string_bytes};
+ghost use Rattle.std.specs.Prelude.{◌≡◌, ◌+◌, IfOk, OnOk, OnErr, false, true, [], ◌∷◌, length, option_map};
 ghost use Rattle.std.specs.BTreeSet.{IsOrdered};
 ghost use Rattle.field_values.specs.Names.{names_cmp};
 ghost use Rattle.std.specs.Option.{option_copied, is_none};
