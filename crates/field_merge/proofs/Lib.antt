@@ -3,6 +3,7 @@ pub mod LineLemmas
 pub mod StampLemmas
 pub mod Orders
 pub mod Members
+mod Noting
 pub mod Ordered
 pub mod Placing
 pub mod Joining

@@ -1,7 +1,11 @@
+ghost use Rattle.std.specs.Prelude.{◌≡◌, IfOk, OnOk, false};
+ghost use Rattle.minute_trie.specs.Trie.{is_spent};
+
 use super::*;
 use crate::vectors::{BYTES, HASHES};
 use field_values::Txt;
 use hybrid_clock::Stamp;
+use std::alloc::Global;
 use std::test::Fail;
 
 /// The trie of (43046720, 5).
@@ -81,43 +85,71 @@ fn hashes_bytes(rt: HostRuntime) {
     }
 }
 
+/// The last minute that has a key.
+const LAST: u32 = 43_046_720;
+
+/// The trie of pairs of a hash and its minute, which is told by how many minutes it comes before
+/// the last one.
+fn trie_of(alloc: Global, pairs: &[(u8, i32)]) -> Result<Trie, Fail>
+    ensures { IfOk result (λ trie. is_spent trie ≡ false) }
+{
+    let mut trie = Trie::new(alloc)?;
+    for (before, hash) in pairs {
+        trie.insert_hash(LAST - u32::from(*before), *hash)?;
+    }
+    Ok(trie)
+}
+
 #[test]
 fn holds_tries(rt: HostRuntime) -> Result<(), Fail> {
     let alloc = rt.alloc();
-    let mut one = Trie::new(alloc)?;
-    one.insert_hash(43_046_720, 5)?;
-    assert_eq!(rt; one.root(), 5);
-    assert_eq!(rt; one.to_json()?.as_str(), ONE);
-
-    let mut two = Trie::new(alloc)?;
-    two.insert_hash(43_046_720, 5)?;
-    two.insert_hash(43_046_719, 3)?;
-    assert_eq!(rt; two.root(), 6);
-    assert_eq!(rt; two.to_json()?.as_str(), TWO);
+    for (pairs, root, text) in [
+        (&[(0, 5)][..], 5, ONE),
+        (&[(0, 5), (1, 3)][..], 6, TWO),
+        (&[(2, 1), (1, 2), (0, 4)][..], 7, THREE),
+        (&[(2, 1), (1, 2), (0, 4), (2, 8)][..], 15, FOUR),
+    ] {
+        let trie = trie_of(alloc, pairs)?;
+        assert_eq!(rt; trie.root(), root);
+        assert_eq!(rt; trie.to_json()?.as_str(), text);
+    }
+    let one = trie_of(alloc, &[(0, 5)])?;
+    let two = trie_of(alloc, &[(0, 5), (1, 3)])?;
     assert_eq!(rt; one.diff(&two), Some(2_582_803_080_000));
+    Ok(())
+}
 
-    let mut three = Trie::new(alloc)?;
-    three.insert_hash(43_046_718, 1)?;
-    three.insert_hash(43_046_719, 2)?;
-    three.insert_hash(43_046_720, 4)?;
-    assert_eq!(rt; three.root(), 7);
-    assert_eq!(rt; three.to_json()?.as_str(), THREE);
-    three.insert_hash(43_046_718, 8)?;
-    assert_eq!(rt; three.root(), 15);
-    assert_eq!(rt; three.to_json()?.as_str(), FOUR);
-
-    let mut stamped = Trie::new(alloc)?;
-    stamped.insert(&Stamp::parse(b"2024-01-05T10:00:00.000Z-0000-00000000000000aa")?)?;
-    assert_eq!(rt; stamped.to_json()?.as_str(), STAMPED);
-    stamped.insert(&Stamp::parse(b"1970-01-01T00:00:00.000Z-0000-0000000000000001")?)?;
-    assert_eq!(rt; stamped.root(), -1_597_523_851);
-    assert!(rt; !stamped.is_spent());
+/// Adds the timestamp of a text.
+fn stamp(trie: &mut Trie, text: &str) -> Result<(), Fail>
+    requires { is_spent trie.old ≡ false }
+    ensures { OnOk result (is_spent trie.new ≡ false) }
+{
+    let stamp = Stamp::parse(text.as_bytes())?;
+    trie.insert(&stamp)?;
     Ok(())
 }
 
 #[test]
+fn holds_timestamps(rt: HostRuntime) -> Result<(), Fail> {
+    let mut trie = Trie::new(rt.alloc())?;
+    stamp(&mut trie, "2024-01-05T10:00:00.000Z-0000-00000000000000aa")?;
+    assert_eq!(rt; trie.to_json()?.as_str(), STAMPED);
+    stamp(&mut trie, "1970-01-01T00:00:00.000Z-0000-0000000000000001")?;
+    assert_eq!(rt; trie.root(), -1_597_523_851);
+    assert!(rt; !trie.is_spent());
+    Ok(())
+}
+
+/// The trie of a text.
+fn read(alloc: Global, text: &str) -> Result<Trie, Fail>
+    ensures { IfOk result (λ trie. is_spent trie ≡ false) }
+{
+    let text = Txt::from_text(alloc, text)?;
+    Ok(Trie::from_json(alloc, &text)?)
+}
+
+#[test]
 fn reads_texts(rt: HostRuntime) -> Result<(), Fail> {
-    let alloc = rt.alloc();
     for (text, again) in [
         ("{}", "{\"hash\":0}"),
         (
@@ -130,9 +162,20 @@ fn reads_texts(rt: HostRuntime) -> Result<(), Fail> {
         ),
         (TWO, TWO),
     ] {
-        let trie = Trie::from_json(alloc, &Txt::from_text(alloc, text)?)?;
+        let trie = read(rt.alloc(), text)?;
         assert_eq!(rt; trie.to_json()?.as_str(), again, "of {text}");
     }
+    Ok(())
+}
+
+/// Why a text is no trie.
+fn fault_of(alloc: Global, text: &str) -> Result<Option<TrieFault>, Fail> {
+    let text = Txt::from_text(alloc, text)?;
+    Ok(Trie::from_json(alloc, &text).err())
+}
+
+#[test]
+fn refuses_texts(rt: HostRuntime) -> Result<(), Fail> {
     for (text, fault) in [
         ("{", TrieFault::NotJson),
         ("[]", TrieFault::BadNode { depth: 0 }),
@@ -147,18 +190,20 @@ fn reads_texts(rt: HostRuntime) -> Result<(), Fail> {
         (DEEP, TrieFault::TooDeep),
         (DEEP_RIGHT, TrieFault::BadNode { depth: 1 }),
     ] {
-        let read = Trie::from_json(alloc, &Txt::from_text(alloc, text)?);
-        assert_eq!(rt; read.err(), Some(fault), "of {text}");
+        assert_eq!(rt; fault_of(rt.alloc(), text)?, Some(fault), "of {text}");
     }
+    Ok(())
+}
 
-    // Three children stay until an insertion passes their parent.
-    let text = Txt::from_text(alloc, "{\"0\":{},\"1\":{},\"2\":{},\"hash\":1}")?;
-    let mut trie = Trie::from_json(alloc, &text)?;
+/// Three children stay until an insertion passes their parent.
+#[test]
+fn prunes_what_was_read(rt: HostRuntime) -> Result<(), Fail> {
+    let mut trie = read(rt.alloc(), "{\"0\":{},\"1\":{},\"2\":{},\"hash\":1}")?;
     trie.insert_hash(0, 6)?;
     assert_eq!(rt;
         trie.to_json()?.as_str(),
         "{\"1\":{\"hash\":0},\"2\":{\"hash\":0},\"hash\":7}"
     );
-    assert_eq!(rt; Trie::new(alloc)?.diff(&trie), Some(0));
+    assert_eq!(rt; Trie::new(rt.alloc())?.diff(&trie), Some(0));
     Ok(())
 }
