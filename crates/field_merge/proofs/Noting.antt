@@ -20,13 +20,13 @@ abbrev pub Puts : Index → Index → FieldNames → Message → Type 0
 Puts index new k n = (f : FieldNames) → at_names new f ≡ cond (is_at (names_cmp k) f) (Some n) (at_names index f)
 
 -- a message of a field that the index does not have
-pub notes-first : (m n : Message) (index new : Index) (k : FieldNames) → k ≡ m.field → n ≡ m → at_names index k ≡ None → Puts index new k n → Notes index new m true
-notes-first m n index new k its same none puts =
+pub notes-first : (m n : Message) (index put new : Index) (k : FieldNames) → k ≡ m.field → n ≡ m → at_names index k ≡ None → Puts index put k n → new ≡ put → Notes index new m true
+notes-first m n index put new k its same none puts now =
     let none' : at_names index m.field ≡ None = subst (λ (k : FieldNames). at_names index k ≡ None) its none in
-    let puts' : Puts index new m.field m = subst (λ (k : FieldNames). Puts index new k m) its (subst (λ (n : Message). Puts index new k n) same puts) in
+    let puts' : Puts index put m.field m = subst (λ (k : FieldNames). Puts index put k m) its (subst (λ (n : Message). Puts index put k n) same puts) in
     record {
       is_later = sym (ap (λ o. is_newer o m.stamp) none');
-      now = puts';
+      now = λ f. ap (λ (es : Index). at_names es f) now ∙ puts' f;
     }
 
 -- whether a message is later than the one of its field
@@ -36,12 +36,12 @@ is_later_than m old index k w its has is =
     is ∙ sym (ap (λ o. is_newer o m.stamp) has')
 
 -- a message that is later than the one of its field
-pub notes-later : (m n old : Message) (index new : Index) (k : FieldNames) (w : Bool) → k ≡ m.field → n ≡ m → at_names index k ≡ Some old → w ≡ is_lt (stamp_cmp old.stamp m.stamp) → w ≡ true → Puts index new k n → Notes index new m w
-notes-later m n old index new k w its same has is wins puts =
-    let puts' : Puts index new m.field m = subst (λ (k : FieldNames). Puts index new k m) its (subst (λ (n : Message). Puts index new k n) same puts) in
+pub notes-later : (m n old : Message) (index put new : Index) (k : FieldNames) (w : Bool) → k ≡ m.field → n ≡ m → at_names index k ≡ Some old → w ≡ is_lt (stamp_cmp old.stamp m.stamp) → w ≡ true → Puts index put k n → new ≡ put → Notes index new m w
+notes-later m n old index put new k w its same has is wins puts now =
+    let puts' : Puts index put m.field m = subst (λ (k : FieldNames). Puts index put k m) its (subst (λ (n : Message). Puts index put k n) same puts) in
     record {
       is_later = is_later_than m old index k w its has is;
-      now = λ f. puts' f ∙ ap (λ b. cond (b && is_at (names_cmp m.field) f) (Some m) (at_names index f)) (sym wins);
+      now = λ f. ap (λ (es : Index). at_names es f) now ∙ puts' f ∙ ap (λ b. cond (b && is_at (names_cmp m.field) f) (Some m) (at_names index f)) (sym wins);
     }
 
 -- a message that is not later than the one of its field
