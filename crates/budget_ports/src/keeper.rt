@@ -64,7 +64,8 @@ impl Copied for Kept {
 ///
 /// A key stands once in a group, and has at least one byte. A keeper that tells has known contents.
 /// Whether it tells or not, what a stop may leave is known as far as the keeper says so, its faults
-/// are counted, and no call changes the contents but an `append` or a `put` that answers `Ok`.
+/// are counted, and no call changes the contents but an `append` or a `put` that answers `Ok`. What a
+/// stop may leave is always among others what a keeper that tells holds.
 pub trait Keeper {
     /// Whether the keeper tells: its contents are then what the clauses say.
     ghost tells: { Self → Type 0 };
@@ -89,6 +90,7 @@ pub trait Keeper {
         ensures err { tells self.new → OnErr result (contents self.new ≡ contents self.old) }
         ensures left { Commits (left self.old) (left self.new) (appended (contents self.old) group.now batch.now) }
         ensures alone { tells self.new → OnOk result (Only (contents self.new) (left self.new)) }
+        ensures here { tells self.new → left self.new (contents self.new) }
         ensures count { faults self.new ≡ count_after (has_failed result) (faults self.old) };
 
     /// The records of a group whose key is above `after`, by key.
@@ -101,6 +103,7 @@ pub trait Keeper {
         ensures rise { IfOk result Rise }
         ensures same { tells self.new → contents self.new ≡ contents self.old }
         ensures left { LeavesNoMore (left self.old) (left self.new) }
+        ensures here { tells self.new → left self.new (contents self.new) }
         ensures count { faults self.new ≡ count_after (has_failed result) (faults self.old) };
 
     /// Puts a text under a name, in place of the one that was there.
@@ -112,6 +115,7 @@ pub trait Keeper {
         ensures err { tells self.new → OnErr result (contents self.new ≡ contents self.old) }
         ensures left { Commits (left self.old) (left self.new) (with_text (contents self.old) name.now text.now) }
         ensures alone { tells self.new → OnOk result (Only (contents self.new) (left self.new)) }
+        ensures here { tells self.new → left self.new (contents self.new) }
         ensures count { faults self.new ≡ count_after (has_failed result) (faults self.old) };
 
     /// The text under a name, if there is one.
@@ -120,6 +124,7 @@ pub trait Keeper {
         ensures text { tells self.new → IfOk result (λ text. text ≡ map.get (contents self.old).texts name.now) }
         ensures same { tells self.new → contents self.new ≡ contents self.old }
         ensures left { LeavesNoMore (left self.old) (left self.new) }
+        ensures here { tells self.new → left self.new (contents self.new) }
         ensures count { faults self.new ≡ count_after (has_failed result) (faults self.old) };
 
     /// The names that have a text, byte by byte in order.
@@ -128,5 +133,6 @@ pub trait Keeper {
         ensures names { tells self.new → IfOk result (λ names. names ≡ map.keys (contents self.old).texts) }
         ensures same { tells self.new → contents self.new ≡ contents self.old }
         ensures left { LeavesNoMore (left self.old) (left self.new) }
+        ensures here { tells self.new → left self.new (contents self.new) }
         ensures count { faults self.new ≡ count_after (has_failed result) (faults self.old) };
 }

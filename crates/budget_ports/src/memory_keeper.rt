@@ -44,7 +44,8 @@ impl MemoryKeeper {
         MemoryKeeper::with_faults(alloc, Vec::new(alloc))
     }
 
-    /// A keeper that holds nothing. A call whose number is in `calls` fails.
+    /// A keeper that holds nothing. A call whose number is in `calls` fails; the calls are numbered
+    /// from 0 over all methods together.
     pub fn with_faults(alloc: Global, calls: Vec<u64>) -> MemoryKeeper
         ensures { result ≡ record { contents = nothing; calls = no_calls calls.items } }
     {
@@ -74,6 +75,7 @@ impl Keeper for MemoryKeeper {
         ensures err { OnErr result (self.new.contents ≡ self.old.contents) }
         ensures left { Commits (holds self.old) (holds self.new) (appended self.old.contents group.now batch.now) }
         ensures alone { OnOk result (Only self.new.contents (holds self.new)) }
+        ensures here { holds self.new self.new.contents }
         ensures count { self.new.calls.faults ≡ count_after (has_failed result) self.old.calls.faults }
 
         // what this one does
@@ -92,6 +94,7 @@ impl Keeper for MemoryKeeper {
         ensures rise { IfOk result Rise }
         ensures same { self.new.contents ≡ self.old.contents }
         ensures left { LeavesNoMore (holds self.old) (holds self.new) }
+        ensures here { holds self.new self.new.contents }
         ensures count { self.new.calls.faults ≡ count_after (has_failed result) self.old.calls.faults }
 
         // what this one does
@@ -109,6 +112,7 @@ impl Keeper for MemoryKeeper {
         ensures err { OnErr result (self.new.contents ≡ self.old.contents) }
         ensures left { Commits (holds self.old) (holds self.new) (with_text self.old.contents name.now text.now) }
         ensures alone { OnOk result (Only self.new.contents (holds self.new)) }
+        ensures here { holds self.new self.new.contents }
         ensures count { self.new.calls.faults ≡ count_after (has_failed result) self.old.calls.faults }
 
         // what this one does
@@ -126,6 +130,7 @@ impl Keeper for MemoryKeeper {
         ensures text { IfOk result (λ text. text ≡ map.get self.old.contents.texts name.now) }
         ensures same { self.new.contents ≡ self.old.contents }
         ensures left { LeavesNoMore (holds self.old) (holds self.new) }
+        ensures here { holds self.new self.new.contents }
         ensures count { self.new.calls.faults ≡ count_after (has_failed result) self.old.calls.faults }
 
         // what this one does
@@ -142,6 +147,7 @@ impl Keeper for MemoryKeeper {
         ensures names { IfOk result (λ names. names ≡ map.keys self.old.contents.texts) }
         ensures same { self.new.contents ≡ self.old.contents }
         ensures left { LeavesNoMore (holds self.old) (holds self.new) }
+        ensures here { holds self.new self.new.contents }
         ensures count { self.new.calls.faults ≡ count_after (has_failed result) self.old.calls.faults }
 
         // what this one does

@@ -43,7 +43,8 @@ impl MemorySink {
         MemorySink::with_faults(alloc, room, Vec::new(alloc))
     }
 
-    /// A sink with room for this many bytes. A call whose number is in `calls` fails.
+    /// A sink with room for this many bytes. A call whose number is in `calls` fails; writes and flushes
+    /// are numbered together from 0.
     pub fn with_faults(alloc: Global, room: usize, calls: Vec<u64>) -> Result<MemorySink, NoMemory>
         ensures { IfOk result (λ s. s ≡ record { taken = []; room = room; calls = no_calls calls.items }) }
     {

@@ -42,7 +42,7 @@ impl MemorySource {
         MemorySource::with_faults(bytes, Vec::new(alloc))
     }
 
-    /// A source of these bytes. A call whose number is in `calls` fails.
+    /// A source of these bytes. A call whose number is in `calls` fails; the calls are numbered from 0.
     pub fn with_faults(bytes: Vec<u8>, calls: Vec<u64>) -> MemorySource
         ensures { result ≡ record { left = bytes.items; calls = no_calls calls.items } }
     {

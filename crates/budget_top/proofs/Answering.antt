@@ -14,7 +14,7 @@ use Rattle.budget_top.specs.declared.stop.DeviceStop.{DeviceStop}
 use Rattle.budget_top.specs.declared.stop.DeviceStop.TheVariants.{Run, Keeper}
 use Rattle.budget_top.specs.declared.stop.Stop.TheVariants.{Memory, Sink}
 use Rattle.budget_top.specs.Lines.{whole_lines, all_lines, line_if_some, last_piece}
-use Rattle.budget_top.specs.Limits.{most_input, HasRead, lines_due}
+use Rattle.budget_top.specs.Limits.{most_input, HasRead, AreDue}
 use Rattle.budget_top.specs.Seen.{device_group, Seen, Holds}
 use Rattle.budget_top.specs.Handling.{IsOpened}
 use Rattle.budget_top.specs.Stops.{device_stop_status}
@@ -50,23 +50,6 @@ breaks_along stop e alone before xs ys now same f h =
     let P : List ℕ → Type 0 = λ bs. BreaksAs stop e before (whole_lines bs) now in
     subst P same (breaks_from stop e alone before (whole_lines xs) now f h)
 
--- what is due
-
-pub first_due : (read : List ℕ) → AreFirst (whole_lines (take most_input read)) (lines_due read)
-first_due read = by (cases_lt most_input (length read))
-  where
-    by : (most_input < length read) ⊎ (length read ≤ most_input) → AreFirst (whole_lines (take most_input read)) (lines_due read)
-    by (inl past) =
-        let due : lines_due read ≡ whole_lines (take most_input read) = cond-true _ _ _ (lt-ltb most_input (length read) past) in
-        ([], append-nil _ ∙ sym due)
-    by (inr within) =
-        let due : lines_due read ≡ all_lines read = cond-false _ _ _ (le-ltb most_input (length read) within) in
-        let whole : take most_input read ≡ read = all_of most_input read within in
-        (line_if_some (last_piece read), ap (λ bs. whole_lines bs ++ line_if_some (last_piece read)) whole ∙ sym due)
-
-pub all_due : (read : List ℕ) → length read ≤ most_input → AreFirst (all_lines read) (lines_due read)
-all_due read within = ([], append-nil _ ∙ sym (cond-false _ _ _ (le-ltb most_input (length read) within)))
-
 -- the answers, by status
 
 pub answered_all : (has_bad : Bool) (status : ℕ) (left new_left : Option (List ℕ)) (e : Entry) (alone : Type 0) (session : Session) (now : Seen) (read : List ℕ) → status ≡ cond has_bad 1 0 → session.bad ≡ has_bad
@@ -80,6 +63,8 @@ answered_all has_bad status left new_left e alone session now read is bad has_re
     by false same = record {
       read = read;
       has_read = has_read;
+      due = whole_lines (take most_input read);
+      are_due = inl refl;
       known = refl;
       all_good = λ x. handles false same;
       some_refused = λ x. absurd (omega arith);
@@ -92,6 +77,8 @@ answered_all has_bad status left new_left e alone session now read is bad has_re
     by true same = record {
       read = read;
       has_read = has_read;
+      due = whole_lines (take most_input read);
+      are_due = inl refl;
       known = refl;
       all_good = λ x. absurd (omega arith);
       some_refused = λ x. handles true same;
@@ -106,6 +93,8 @@ pub answered_taken : (left new_left : Option (List ℕ)) (e : Entry) (alone : Ty
 answered_taken left new_left e alone now read has_read h = record {
   read = read;
   has_read = has_read;
+  due = whole_lines (take most_input read);
+  are_due = inl refl;
   known = refl;
   all_good = λ x. absurd (omega arith);
   some_refused = λ x. absurd (omega arith);
@@ -120,6 +109,8 @@ pub answered_limit : (left new_left : Option (List ℕ)) (e : Entry) (alone : Ty
 answered_limit left new_left e alone now read has_read h = record {
   read = read;
   has_read = has_read;
+  due = whole_lines (take most_input read);
+  are_due = inl refl;
   known = refl;
   all_good = λ x. absurd (omega arith);
   some_refused = λ x. absurd (omega arith);
@@ -130,13 +121,15 @@ answered_limit left new_left e alone now read has_read h = record {
   too_much = λ x. h;
 }
 
-pub answered_stop : (stop : DeviceStop) (status : ℕ) (left new_left : Option (List ℕ)) (e : Entry) (alone : Type 0) (now : Seen) (read : List ℕ) → status ≡ device_stop_status stop → HasRead left new_left read → BreaksAs stop e alone (lines_due read) now → HasAnswered status left new_left e alone now
-answered_stop stop status left new_left e alone now read is has_read h = let P : ℕ → Type 0 = λ n. HasAnswered n left new_left e alone now in subst P (sym is) (by stop h)
+pub answered_stop : (stop : DeviceStop) (status : ℕ) (left new_left : Option (List ℕ)) (e : Entry) (alone : Type 0) (now : Seen) (read : List ℕ) (due : List (List ℕ)) → AreDue new_left read due → status ≡ device_stop_status stop → HasRead left new_left read → BreaksAs stop e alone due now → HasAnswered status left new_left e alone now
+answered_stop stop status left new_left e alone now read due are_due is has_read h = let P : ℕ → Type 0 = λ n. HasAnswered n left new_left e alone now in subst P (sym is) (by stop h)
   where
-    by : (x : DeviceStop) → BreaksAs x e alone (lines_due read) now → HasAnswered (device_stop_status x) left new_left e alone now
+    by : (x : DeviceStop) → BreaksAs x e alone due now → HasAnswered (device_stop_status x) left new_left e alone now
     by (Run Memory) breaks = record {
       read = read;
       has_read = has_read;
+      due = due;
+      are_due = are_due;
       known = refl;
       all_good = λ x. absurd (omega arith);
       some_refused = λ x. absurd (omega arith);
@@ -149,6 +142,8 @@ answered_stop stop status left new_left e alone now read is has_read h = let P :
     by Keeper breaks = record {
       read = read;
       has_read = has_read;
+      due = due;
+      are_due = are_due;
       known = refl;
       all_good = λ x. absurd (omega arith);
       some_refused = λ x. absurd (omega arith);
@@ -161,6 +156,8 @@ answered_stop stop status left new_left e alone now read is has_read h = let P :
     by (Run Sink) breaks = record {
       read = read;
       has_read = has_read;
+      due = due;
+      are_due = are_due;
       known = refl;
       all_good = λ x. absurd (omega arith);
       some_refused = λ x. absurd (omega arith);
@@ -178,13 +175,15 @@ answered_from status left new_left e alone before now f h =
     record {
       read = h.read;
       has_read = h.has_read;
+      due = h.due;
+      are_due = h.are_due;
       known = h.known;
       all_good = λ x. all false (h.all_good x);
       some_refused = λ x. all true (h.some_refused x);
       source_failed = λ x. let k = h.source_failed x in record { within = k.within; handled = k.handled; stops = λ t y. k.stops t (f t y) };
-      sink_failed = λ x. breaks_from (Run Sink) e alone before (lines_due h.read) now f (h.sink_failed x);
-      keeper_failed = λ x. breaks_from Keeper e alone before (lines_due h.read) now f (h.keeper_failed x);
-      no_memory = λ x. breaks_from (Run Memory) e alone before (lines_due h.read) now f (h.no_memory x);
+      sink_failed = λ x. breaks_from (Run Sink) e alone before h.due now f (h.sink_failed x);
+      keeper_failed = λ x. breaks_from Keeper e alone before h.due now f (h.keeper_failed x);
+      no_memory = λ x. breaks_from (Run Memory) e alone before h.due now f (h.no_memory x);
       too_much = λ x. let k = h.too_much x in record { past = k.past; handled = k.handled; stops = λ t y. k.stops t (f t y) };
     }
 

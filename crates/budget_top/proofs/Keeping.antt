@@ -1,5 +1,5 @@
 -- What a keeper holds after a device's new messages.
-use Rattle.std.proofs.Common.{◌≡◌, inl, inr, List, [], ◌∷◌, Bool, true, false, cond, length, map, refl, sym, ap, ◌∙◌, subst, arith}
+use Rattle.std.proofs.Common.{◌≡◌, ◌≢◌, inl, inr, List, [], ◌∷◌, Bool, true, false, cond, length, map, refl, sym, ap, ◌∙◌, subst, arith}
 use Rattle.std.specs.Prelude.{◌==◌}
 use Rattle.std.proofs.lemmas.Bool.{eqb-true}
 use Rattle.std.specs.List.{list_any, AllByRecursion}
@@ -14,6 +14,7 @@ use Rattle.field_merge.specs.Log.{has_stamp, by_stamp, placed, join_one, join}
 use Rattle.device_core.specs.Records.{record_of}
 use Rattle.device_core.specs.Device.{DeviceState, new_in}
 use Rattle.device_core.specs.Holding.{BatchesAreKept}
+use Rattle.device_core.specs.News.{NewOnesAreAdded}
 use Rattle.budget_top.specs.Seen.{Holds, device_group}
 use Rattle.budget_top.specs.Handling.{Brings, Carries, CarriesEither}
 
@@ -116,6 +117,18 @@ stops_kept law old device group batch before c left new_left valid named all onl
   | inl there ↦ either_old old device.state.messages before c (only c there)
   | inr done ↦ either_new old device.state.messages before c (carries law old device group batch before c valid named all done b)
 ]
+
+-- what is to be kept is new
+pub brings_new : NewOnesAreAdded → (old : List Message) (device : DeviceState) → Brings old device → device.batch ≢ [] → device.state.messages ≢ old
+brings_new law old device b some same = by (new_in old b.news) refl
+  where
+    by : (new : List Message) → new_in old b.news ≡ new → ⊥
+    by [] none = some (b.batch ∙ ap (map record_of) none)
+    by (n ∷ ns) more =
+        let number = (law old b.news).number in
+        let all : length (join old b.news) ≡ length old = ap length (sym b.messages ∙ same) in
+        let news : length (new_in old b.news) ≡ length (n ∷ ns) = ap length more in
+        omega arith
 
 -- by the messages that are meant
 pub carries_along : (old new meant : List Message) (before now : Contents) → new ≡ meant → Carries old new before now → Carries old meant before now

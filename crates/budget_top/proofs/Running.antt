@@ -1,8 +1,8 @@
 -- The run as a whole.
-use Rattle.std.proofs.Common.{◌≡◌, ℕ, ◌+◌, ◌≤◌, List, [], ◌++◌, refl, sym, subst, Option, length, take, drop, arith}
+use Rattle.std.proofs.Common.{◌≡◌, inl, inr, ℕ, ◌+◌, ◌≤◌, List, [], ◌++◌, refl, sym, subst, Option, length, take, drop, arith}
 use Rattle.std.proofs.lemmas.List.{take-append-drop}
 use Rattle.std.proofs.KnownBytes.{Consumes-nil}
-use Rattle.std.specs.Io.KnownBytes.{Appends, Consumes}
+use Rattle.std.specs.Io.KnownBytes.{Appends, Consumes, IsAtEnd}
 use Rattle.budget_top.specs.declared.stop.Stop.{Stop}
 use Rattle.budget_top.specs.declared.stop.Stop.TheVariants.{Memory, Sink}
 use Rattle.budget_top.specs.Lines.{whole_lines}
@@ -22,10 +22,6 @@ pub record ReadSoFar (left new_left entry now : Option (List ℕ)) (count : ℕ)
   pub many : length read ≡ count
   pub stands : Stands entry now read m
 
--- the bytes before the limit, and those after it
-limit_parts : (read : List ℕ) → take most_input read ++ drop most_input read ≡ read
-limit_parts read = take-append-drop most_input read
-
 pub run_too_much : (left new_left taken new_taken : Option (List ℕ)) (read : List ℕ) → HasRead left new_left read → most_input + 1 ≤ length read → Appends taken new_taken (bad_lines (whole_lines (take most_input read))) → MergeRun 9 left new_left taken new_taken
 run_too_much left new_left taken new_taken read h past writes = record {
   read = read;
@@ -42,7 +38,7 @@ run_too_much left new_left taken new_taken read h past writes = record {
   too_much = λ e. record { past = omega arith; text = refl };
 }
 
-run_broken : (left new_left taken new_taken : Option (List ℕ)) (read : List ℕ) (stop : Stop) (written : List ℕ) → HasRead left new_left read → Appends taken new_taken written → BreaksOff read written → MergeRun (stop_status stop) left new_left taken new_taken
+run_broken : (left new_left taken new_taken : Option (List ℕ)) (read : List ℕ) (stop : Stop) (written : List ℕ) → HasRead left new_left read → Appends taken new_taken written → BreaksOff new_left read written → MergeRun (stop_status stop) left new_left taken new_taken
 run_broken left new_left taken new_taken read Memory written h writes breaks = record {
   read = read;
   written = written;
@@ -78,18 +74,15 @@ as_status status stop left new_left taken new_taken is h = let P : ℕ → Type 
 -- it broke off among the lines before the limit
 pub run_stopped : (left new_left taken new_taken : Option (List ℕ)) (read : List ℕ) (stop : Stop) (status : ℕ) → status ≡ stop_status stop → HasRead left new_left read → AppendsFront taken new_taken (bad_lines (whole_lines (take most_input read))) → MergeRun status left new_left taken new_taken
 run_stopped left new_left taken new_taken read stop status is h f =
-    let P : List ℕ → Type 0 = λ xs. IsFront f.front (bad_lines (whole_lines xs)) in
-    let whole : IsFront f.front (bad_lines (whole_lines read)) = subst P (limit_parts read) (part_of_more f.front (take most_input read) (drop most_input read) f.of) in
-    as_status status stop left new_left taken new_taken is
-    (run_broken left new_left taken new_taken read stop f.front h f.written (record { front = part_of_merge f.front read whole; limited = λ past. f.of }))
+    as_status status stop left new_left taken new_taken is (run_broken left new_left taken new_taken read stop f.front h f.written (inl f.of))
 
 -- it broke off at the end of the input
-pub run_unfinished : (left new_left taken new_taken : Option (List ℕ)) (read : List ℕ) (stop : Stop) (status : ℕ) → status ≡ stop_status stop → HasRead left new_left read → length read ≤ most_input → AppendsFront taken new_taken (merge_text read) → MergeRun status left new_left taken new_taken
-run_unfinished left new_left taken new_taken read stop status is h within f =
+pub run_unfinished : (left new_left taken new_taken : Option (List ℕ)) (read : List ℕ) (stop : Stop) (status : ℕ) → status ≡ stop_status stop → HasRead left new_left read → IsAtEnd new_left → length read ≤ most_input → AppendsFront taken new_taken (merge_text read) → MergeRun status left new_left taken new_taken
+run_unfinished left new_left taken new_taken read stop status is h at_end within f =
     as_status status stop left new_left taken new_taken is
-    (run_broken left new_left taken new_taken read stop f.front h f.written (record { front = f.of; limited = λ past. absurd (omega arith) }))
+    (run_broken left new_left taken new_taken read stop f.front h f.written (inr (at_end, within, f.of)))
 
 -- it broke off before anything was read
 pub run_untouched : (left taken : Option (List ℕ)) → MergeRun 7 left left taken taken
 run_untouched left taken =
-    run_unfinished left left taken taken [] Memory 7 refl (record { reads = Consumes-nil left; asked = omega arith }) (omega arith) (front_none taken (merge_text []))
+    run_stopped left left taken taken [] Memory 7 refl (record { reads = Consumes-nil left; asked = omega arith }) (front_none taken [])

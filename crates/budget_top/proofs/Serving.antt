@@ -1,5 +1,5 @@
 -- Where a device's run stands after one more line, and how it breaks off.
-use Rattle.std.proofs.Common.{◌≡◌, ℕ, ◌+◌, ◌-◌, take, drop, List, [], ◌∷◌, ◌++◌, length, refl, ap, ◌∙◌, sym, subst, append_assoc, append-nil, Bool, true, false, ◌||◌, cond, nat_lt, Option, None, Some, Result, Err, inl, inr, ◌⊎◌, arith}
+use Rattle.std.proofs.Common.{◌≡◌, ◌≢◌, ℕ, ◌+◌, ◌-◌, take, drop, List, [], ◌∷◌, ◌++◌, length, refl, ap, ◌∙◌, sym, subst, append_assoc, append-nil, Bool, true, false, ◌||◌, cond, nat_lt, Option, None, Some, Result, Err, inl, inr, ◌⊎◌, arith}
 use Rattle.std.proofs.KnownBytes.{Appends-trans}
 use Rattle.std.specs.Str.{is_utf8}
 use Rattle.std.specs.Io.KnownBytes.{Appends}
@@ -134,7 +134,7 @@ module _ (e : Entry) (read : List ℕ) (old : Session) (before now : Seen) (s : 
   }
 
   -- the line got no reply
-  pub halts_end : now.taken ≡ before.taken → (now.tells → now.contents ≡ before.contents)
+  halts_end : now.taken ≡ before.taken → (now.tells → now.contents ≡ before.contents)
       → (now.tells → Only before.contents before.left → (c : Contents) → now.left c → CarriesEither old.device.state.messages (done old reading).0.messages before.contents c)
       → Halts e (Only before.contents before.left) (whole_lines (read ++ 10 ∷ [])) now
   halts_end taken same stops = record {
@@ -147,6 +147,23 @@ module _ (e : Entry) (read : List ℕ) (old : Session) (before now : Seen) (s : 
     keeper = λ t. let P : Contents → Type 0 = λ k. Holds e.contents k (after e.start had).messages in subst P (sym (same t)) (s.handled.keeper (told t));
     stops = λ t alone c left. either_now t c (stops t alone c left);
   }
+
+  -- the line made something new
+  new_end : (done old reading).0.messages ≢ old.device.state.messages → (after e.start have).messages ≢ (after e.start had).messages
+  new_end new same = new (ap (λ (x : State). x.messages) state_now ∙ same ∙ ap (λ (x : State). x.messages) (sym s.state))
+
+  -- memory ran out or the keeper failed, and the line got no reply
+  pub breaks_end : (fault : PortFault) (stop : DeviceStop) → stop ≡ stop_of fault → now.taken ≡ before.taken → (now.tells → now.contents ≡ before.contents)
+      → (now.tells → Only before.contents before.left → (c : Contents) → now.left c → CarriesEither old.device.state.messages (done old reading).0.messages before.contents c)
+      → (fault ≡ Failed → (done old reading).0.messages ≢ old.device.state.messages) → BreaksAs stop e (Only before.contents before.left) (whole_lines (read ++ 10 ∷ [])) now
+  unfolding halts_end
+  breaks_end fault stop is taken same stops new =
+      let P : DeviceStop → Type 0 = λ x. BreaksAs x e (Only before.contents before.left) (whole_lines (read ++ 10 ∷ [])) now in
+      subst P (sym is) (by fault new)
+    where
+      by : (f : PortFault) → (f ≡ Failed → (done old reading).0.messages ≢ old.device.state.messages) → BreaksAs (stop_of f) e (Only before.contents before.left) (whole_lines (read ++ 10 ∷ [])) now
+      by Failed new = record { halts = halts_end taken same stops; new = new_end (new refl) }
+      by NoMemory new = halts_end taken same stops
 
   -- the reply was cut
   pub cuts_end : (new : State) (text : List ℕ) (refused : Bool) → IsHandled (done old reading) new text refused → AppendsFront before.taken now.taken text
@@ -163,16 +180,6 @@ module _ (e : Entry) (read : List ℕ) (old : Session) (before now : Seen) (s : 
     keeper = λ t. holds_now t now.contents (carries t);
     stops = alone;
   }
-
--- a fault of the keeper stops the run without a reply
-pub breaks_port : (fault : PortFault) (stop : DeviceStop) → stop ≡ stop_of fault → (e : Entry) (alone : Type 0) (due : List (List ℕ)) (now : Seen) → Halts e alone due now → BreaksAs stop e alone due now
-breaks_port fault stop is e alone due now h =
-    let P : DeviceStop → Type 0 = λ x. BreaksAs x e alone due now in
-    subst P (sym is) (by fault)
-  where
-    by : (f : PortFault) → BreaksAs (stop_of f) e alone due now
-    by Failed = h
-    by NoMemory = h
 
 -- bytes within a line
 pub stands_within : (e : Entry) (read bytes : List ℕ) (old new : Session) (now : Seen) → IsWithinLine bytes → new.device ≡ old.device → new.bad ≡ old.bad → new.line ≡ kept_with old.line bytes → Stands e read old now → Stands e (read ++ bytes) new now
@@ -213,15 +220,23 @@ halts_between e read old now s =
 first_more : (xs ys zs : List (List ℕ)) → AreFirst xs ys → AreFirst ys zs → AreFirst xs zs
 first_more xs ys zs h k = (h.0 ++ k.0, sym (append_assoc xs h.0 k.0) ∙ ap (λ ls. ls ++ k.0) h.1 ∙ k.1)
 
+halts_more : (e : Entry) (alone : Type 0) (due more : List (List ℕ)) (now : Seen) → AreFirst due more → Halts e alone due now → Halts e alone more now
+halts_more e alone due more now first h = record { inputs = h.inputs; in_hand = h.in_hand; one = h.one; first = first_more _ due more h.first first; took = h.took; written = h.written; keeper = h.keeper; stops = h.stops }
+
 pub breaks_more : (stop : DeviceStop) (e : Entry) (alone : Type 0) (due more : List (List ℕ)) (now : Seen) → AreFirst due more → BreaksAs stop e alone due now → BreaksAs stop e alone more now
-breaks_more (Run Memory) e alone due more now first h = record { inputs = h.inputs; in_hand = h.in_hand; one = h.one; first = first_more _ due more h.first first; took = h.took; written = h.written; keeper = h.keeper; stops = h.stops }
-breaks_more Keeper e alone due more now first h = record { inputs = h.inputs; in_hand = h.in_hand; one = h.one; first = first_more _ due more h.first first; took = h.took; written = h.written; keeper = h.keeper; stops = h.stops }
+unfolding halts_more
+breaks_more (Run Memory) e alone due more now first h = halts_more e alone due more now first h
+breaks_more Keeper e alone due more now first h = record { halts = halts_more e alone due more now first h.halts; new = h.new }
 breaks_more (Run Sink) e alone due more now first h = record { inputs = h.inputs; last = h.last; part = h.part; of = h.of; first = first_more _ due more h.first first; took = h.took; written = h.written; keeper = h.keeper; stops = h.stops }
 
 -- what a stop could leave is known from further before
+halts_from : (e : Entry) (alone before : Type 0) (due : List (List ℕ)) (now : Seen) → (now.tells → before → alone) → Halts e alone due now → Halts e before due now
+halts_from e alone before due now f h = record { inputs = h.inputs; in_hand = h.in_hand; one = h.one; first = h.first; took = h.took; written = h.written; keeper = h.keeper; stops = λ t b. h.stops t (f t b) }
+
 pub breaks_from : (stop : DeviceStop) (e : Entry) (alone before : Type 0) (due : List (List ℕ)) (now : Seen) → (now.tells → before → alone) → BreaksAs stop e alone due now → BreaksAs stop e before due now
-breaks_from (Run Memory) e alone before due now f h = record { inputs = h.inputs; in_hand = h.in_hand; one = h.one; first = h.first; took = h.took; written = h.written; keeper = h.keeper; stops = λ t b. h.stops t (f t b) }
-breaks_from Keeper e alone before due now f h = record { inputs = h.inputs; in_hand = h.in_hand; one = h.one; first = h.first; took = h.took; written = h.written; keeper = h.keeper; stops = λ t b. h.stops t (f t b) }
+unfolding halts_from
+breaks_from (Run Memory) e alone before due now f h = halts_from e alone before due now f h
+breaks_from Keeper e alone before due now f h = record { halts = halts_from e alone before due now f h.halts; new = h.new }
 breaks_from (Run Sink) e alone before due now f h = record { inputs = h.inputs; last = h.last; part = h.part; of = h.of; first = h.first; took = h.took; written = h.written; keeper = h.keeper; stops = λ t b. h.stops t (f t b) }
 
 -- the whole lines of the first bytes come first

@@ -13,11 +13,11 @@ use Rattle.budget_top.specs.declared.stop.DeviceStop.{DeviceStop}
 use Rattle.budget_top.specs.declared.input.End.{End}
 use Rattle.budget_top.specs.declared.input.End.TheVariants.{AtEnd, SourceFailed, TooMuch, Stopped}
 use Rattle.budget_top.specs.Lines.{whole_lines, all_lines}
-use Rattle.budget_top.specs.Limits.{most_input, HasRead, lines_due}
+use Rattle.budget_top.specs.Limits.{most_input, HasRead, AreDue}
 use Rattle.budget_top.specs.Fronts.{AppendsFront}
 use Rattle.budget_top.specs.Session.{some_refused}
 use Rattle.budget_top.specs.Seen.{device_records, Seen}
-use Rattle.budget_top.specs.Standing.{Entry, Handles, Stands, Halts, Cuts, BreaksAs}
+use Rattle.budget_top.specs.Standing.{Entry, Handles, Stands, Halts, FailsToKeep, Cuts, BreaksAs}
 
 -- a run with these things told began in this state
 abbrev pub entry : Seen → State → Entry
@@ -55,9 +55,11 @@ pub record HasAnswered (status : ℕ) (left new_left : Option (List ℕ)) (e : E
   pub all_good : status ≡ 0 → HandlesAll false new_left e alone read now
   pub some_refused : status ≡ 1 → HandlesAll true new_left e alone read now
   pub source_failed : status ≡ 4 → HandlesTaken e alone read now
-  pub sink_failed : status ≡ 5 → Cuts e alone (lines_due read) now
-  pub keeper_failed : status ≡ 6 → Halts e alone (lines_due read) now
-  pub no_memory : status ≡ 7 → Halts e alone (lines_due read) now
+  pub due : List (List ℕ)
+  pub are_due : AreDue new_left read due
+  pub sink_failed : status ≡ 5 → Cuts e alone due now
+  pub keeper_failed : status ≡ 6 → FailsToKeep e alone due now
+  pub no_memory : status ≡ 7 → Halts e alone due now
   pub too_much : status ≡ 9 → HandlesLimit e alone read now
 
 -- what is written where the record with this index, counted from 0, keeps no message

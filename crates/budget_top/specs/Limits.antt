@@ -1,5 +1,5 @@
 -- How much input a run takes.
-use Rattle.std.specs.Prelude.{◌≡◌, ℕ, ◌+◌, ◌<◌, ◌≤◌, nat_lt, if◌then◌else◌, Bool, true, false, List, ◌++◌, length, take, Option}
+use Rattle.std.specs.Prelude.{◌≡◌, ℕ, ◌+◌, ◌<◌, ◌≤◌, ◌⊎◌, Bool, true, false, List, ◌++◌, length, take, Option}
 use Rattle.std.specs.Io.KnownBytes.{Consumes, IsAtEnd}
 use Rattle.budget_top.specs.declared.input.Piece.{Piece}
 use Rattle.budget_top.specs.declared.input.Piece.TheVariants.{End, Failed, Bytes}
@@ -36,6 +36,6 @@ is_failed End = false
 is_failed Failed = true
 is_failed (Bytes count past) = false
 
--- the lines that are to be handled: all of them, or the whole ones before the limit where the bytes go past it
-abbrev pub lines_due : List ℕ → List (List ℕ)
-lines_due bytes = if nat_lt most_input (length bytes) then whole_lines (take most_input bytes) else all_lines bytes
+-- the lines that were to be handled when a run broke off: the whole ones before the limit, or all of them where the input had ended
+abbrev pub AreDue : Option (List ℕ) → List ℕ → List (List ℕ) → Type 0
+AreDue new_left read due = (due ≡ whole_lines (take most_input read)) ⊎ IsAtEnd new_left × (length read ≤ most_input) × (due ≡ all_lines read)

@@ -1,5 +1,5 @@
 -- What a run of the mode `merge` has done, by its status.
-use Rattle.std.specs.Prelude.{◌≡◌, ℕ, ◌+◌, ◌<◌, ◌≤◌, Bool, true, false, ◌==◌, List, [], ◌∷◌, length, take, Option, IsTrue}
+use Rattle.std.specs.Prelude.{◌≡◌, ◌⊎◌, ℕ, ◌+◌, ◌<◌, ◌≤◌, Bool, true, false, ◌==◌, List, [], ◌∷◌, length, take, Option, IsTrue}
 use Rattle.std.specs.List.{list_any}
 use Rattle.std.specs.Io.KnownBytes.{Appends, Consumes, IsAtEnd}
 use Rattle.budget_top.specs.Lines.{whole_lines, all_lines}
@@ -28,10 +28,11 @@ pub record MergesLimit (read written : List ℕ) : Type 0 where
   pub past : most_input < length read
   pub text : written ≡ bad_lines (whole_lines (take most_input read))
 
--- the run broke off: what was written is a front of what was due, without the fields where a byte past the limit came
-pub record BreaksOff (read written : List ℕ) : Type 0 where
-  pub front : IsFront written (merge_text read)
-  pub limited : most_input < length read → IsFront written (bad_lines (whole_lines (take most_input read)))
+-- The run broke off: what was written is a front of what was due. These are the bad ones of the whole lines before the limit,
+-- or all that is written of an input that had ended.
+abbrev pub BreaksOff : Option (List ℕ) → List ℕ → List ℕ → Type 0
+BreaksOff new_left read written =
+    IsFront written (bad_lines (whole_lines (take most_input read))) ⊎ IsAtEnd new_left × (length read ≤ most_input) × IsFront written (merge_text read)
 
 -- what was read and written, as far as source and sink tell, and how the status follows from it
 pub record MergeRun (status : ℕ) (left new_left taken new_taken : Option (List ℕ)) : Type 0 where
@@ -45,6 +46,6 @@ pub record MergeRun (status : ℕ) (left new_left taken new_taken : Option (List
   pub all_good : status ≡ 0 → MergesAll false new_left read written
   pub some_refused : status ≡ 1 → MergesAll true new_left read written
   pub source_failed : status ≡ 4 → MergesTaken read written
-  pub sink_failed : status ≡ 5 → BreaksOff read written
-  pub no_memory : status ≡ 7 → BreaksOff read written
+  pub sink_failed : status ≡ 5 → BreaksOff new_left read written
+  pub no_memory : status ≡ 7 → BreaksOff new_left read written
   pub too_much : status ≡ 9 → MergesLimit read written

@@ -1,5 +1,5 @@
 -- Where a device's run stands between two lines, and how it breaks off.
-use Rattle.std.specs.Prelude.{◌≡◌, ◌≤◌, ℕ, List, [], ◌∷◌, ◌++◌, length, map, false, Option}
+use Rattle.std.specs.Prelude.{◌≡◌, ◌≢◌, ◌≤◌, ℕ, List, [], ◌∷◌, ◌++◌, length, map, false, Option}
 use Rattle.std.specs.Io.KnownBytes.{Appends}
 use Rattle.budget_ports.specs.Contents.{Contents}
 use Rattle.budget_ports.specs.Keeper.{Only}
@@ -74,6 +74,11 @@ pub record Halts (e : Entry) (alone : Type 0) (due : List (List ℕ)) (now : See
   pub stops : now.tells → alone → (c : Contents) → now.left c →
       HoldsEither e.contents c (after e.start inputs).messages (after e.start (inputs ++ in_hand)).messages
 
+-- the keeper failed at what the line in hand made: that line has made something new
+pub record FailsToKeep (e : Entry) (alone : Type 0) (due : List (List ℕ)) (now : Seen) : Type 0 where
+  pub halts : Halts e alone due now
+  pub new : (after e.start (halts.inputs ++ halts.in_hand)).messages ≢ (after e.start halts.inputs).messages
+
 -- the run broke off in the reply to a line: what the line made is kept, and a front of its reply was written, or all of it
 pub record Cuts (e : Entry) (alone : Type 0) (due : List (List ℕ)) (now : Seen) : Type 0 where
   pub inputs : List Input
@@ -89,5 +94,5 @@ pub record Cuts (e : Entry) (alone : Type 0) (due : List (List ℕ)) (now : Seen
 -- how it breaks off for this cause
 abbrev pub BreaksAs : DeviceStop → Entry → Type 0 → List (List ℕ) → Seen → Type 0
 BreaksAs (Run Memory) e alone due now = Halts e alone due now
-BreaksAs Keeper e alone due now = Halts e alone due now
+BreaksAs Keeper e alone due now = FailsToKeep e alone due now
 BreaksAs (Run Sink) e alone due now = Cuts e alone due now

@@ -1,5 +1,5 @@
 //! One line of a device: what it asks is done, and what it made is kept before it is answered.
-ghost use Rattle.std.specs.Prelude.{◌≡◌, ◌∷◌, [], List, Ok, IfOk, OnOk, OnErr, false};
+ghost use Rattle.std.specs.Prelude.{◌≡◌, ◌≢◌, ◌∷◌, [], List, Ok, IfOk, OnOk, OnErr, IsErrOf, false};
 ghost use Rattle.field_merge.specs.declared.message.Message.{Message};
 ghost use Rattle.field_merge.specs.Messages.{IsMessage};
 ghost use Rattle.device_core.specs.Edits.{IsEdit};
@@ -8,6 +8,7 @@ ghost use Rattle.command_lines.specs.Commands.{IsRead, IsCommand};
 ghost use Rattle.budget_ports.specs.Faults.{count_after};
 ghost use Rattle.budget_ports.specs.Contents.{Contents};
 ghost use Rattle.budget_ports.specs.Keeper.{has_failed, Only};
+ghost use Rattle.budget_ports.specs.declared.keeper.PortFault.TheVariants.{Failed as HasFailed};
 ghost use Rattle.budget_top.specs.Session.{asked_kept, settled, wrote_all, added_all, obeyed, is_refused};
 ghost use Rattle.budget_top.specs.Seen.{device_group};
 ghost use Rattle.budget_top.specs.Handling.{IsHandled, Brings, Carries, CarriesEither};
@@ -18,7 +19,7 @@ use command_lines::{
     Command, CommandFault, Reply, added_reply, faulty_reply, read_command, read_reply,
     refusal_reply, reply_text, wrote_reply,
 };
-use device_core::{Device, Edit, batches_are_kept};
+use device_core::{Device, Edit, batches_are_kept, new_ones_are_added};
 use field_merge::Message;
 use field_values::{NoMemory, Steps, Txt, TxtFault};
 use std::alloc::Global;
@@ -141,6 +142,7 @@ fn keep<K: Keeper>(device: &mut Device, keeper: &mut K, group: &Txt) -> Result<(
     ensures carries { K.tells keeper.new → OnOk result ((old : List Message) → Brings old device.old → Carries old device.old.state.messages (K.contents keeper.old) (K.contents keeper.new)) }
     ensures alone { K.tells keeper.new → OnOk result (Only (K.contents keeper.old) (K.left keeper.old) → Only (K.contents keeper.new) (K.left keeper.new)) }
     ensures same { K.tells keeper.new → OnErr result (K.contents keeper.new ≡ K.contents keeper.old) }
+    ensures new { IsErrOf result HasFailed → device.old.batch ≢ [] }
     ensures stops { OnErr result (Only (K.contents keeper.old) (K.left keeper.old) → (c : Contents) → K.left keeper.new c → (old : List Message) → Brings old device.old → CarriesEither old device.old.state.messages (K.contents keeper.old) c) }
     ensures told { K.tells keeper.new → K.tells keeper.old }
     ensures count { K.faults keeper.new ≡ count_after (has_failed result) (K.faults keeper.old) }
@@ -185,10 +187,13 @@ pub fn handle_line<K: Keeper, G: Ledger>(
     ensures carries { K.tells keeper.new → OnOk result (Carries device.old.state.messages (obeyed device.old.state reading (asked_kept line.now)).0.messages (K.contents keeper.old) (K.contents keeper.new)) }
     ensures alone { K.tells keeper.new → OnOk result (Only (K.contents keeper.old) (K.left keeper.old) → Only (K.contents keeper.new) (K.left keeper.new)) }
     ensures same { K.tells keeper.new → OnErr result (K.contents keeper.new ≡ K.contents keeper.old) }
+    ensures new { IsErrOf result HasFailed → (obeyed device.old.state reading (asked_kept line.now)).0.messages ≢ device.old.state.messages }
     ensures stops { K.tells keeper.new → OnErr result (Only (K.contents keeper.old) (K.left keeper.old) → (c : Contents) → K.left keeper.new c → CarriesEither device.old.state.messages (obeyed device.old.state reading (asked_kept line.now)).0.messages (K.contents keeper.old) c) }
     ensures told { K.tells keeper.new → K.tells keeper.old }
     ensures count { K.faults keeper.new ≡ count_after (has_failed result) (K.faults keeper.old) }
 {
+    // A device that has new messages has more of them than before.
+    new_ones_are_added();
     let reply = reply_to(alloc, device, steps, reading, line)?;
     let text = reply_text(alloc, &reply)?;
     keep(device, keeper, group)?;

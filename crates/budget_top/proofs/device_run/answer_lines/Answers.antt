@@ -1,6 +1,6 @@
-use Rattle.std.proofs.Common.{true, false, refl}
-use Rattle.budget_top.proofs.Answering.{answered_all, answered_taken, answered_limit, answered_stop, first_due, all_due}
-use Rattle.budget_top.proofs.Serving.{breaks_more, breaks_from}
+use Rattle.std.proofs.Common.{true, false, refl, inl, inr}
+use Rattle.budget_top.proofs.Answering.{answered_all, answered_taken, answered_limit, answered_stop}
+use Rattle.budget_top.proofs.Serving.{breaks_from}
 use Rattle.budget_top.proofs.device_run.answer_lines.Goals as goal
 
 pub returns-then-session-clause-answers : goal.returns-then-session-clause-answers
@@ -18,8 +18,8 @@ returns-else-session-clause-answers g c = λ e s.
 pub returns-in-Err-clause-answers : goal.returns-in-Err-clause-answers
 returns-in-Err-clause-answers g c = λ e s.
     let r = c.in-AtEnd.ensures.ends e s in
-    answered_stop c.in-Err.stop _ _ _ e _ _ r.0 c.status.ensures r.1
-    (breaks_more c.in-Err.stop e _ _ _ _ (all_due r.0 r.2.0) (breaks_from c.in-Err.stop e _ _ _ _ (λ t a. c.in-AtEnd.ensures.alone tt (c.end_last.ensures.told t) a) (c.in-Err.ensures.err e r.0 r.2.1)))
+    answered_stop c.in-Err.stop _ _ _ e _ _ r.0 _ (inr (c.in-AtEnd.ensures.at_end refl, r.2.0, refl)) c.status.ensures r.1
+    (breaks_from c.in-Err.stop e _ _ _ _ (λ t a. c.in-AtEnd.ensures.alone tt (c.end_last.ensures.told t) a) (c.in-Err.ensures.err e r.0 r.2.1))
 
 pub returns-in-SourceFailed-clause-answers : goal.returns-in-SourceFailed-clause-answers
 returns-in-SourceFailed-clause-answers g c = λ e s.
@@ -34,4 +34,4 @@ returns-in-TooMuch-clause-answers g c = λ e s.
 pub returns-in-Stopped-clause-answers : goal.returns-in-Stopped-clause-answers
 returns-in-Stopped-clause-answers g c = λ e s.
     let r = c.in-Stopped.ensures.ends e s in
-    answered_stop c.in-Stopped.stop _ _ _ e _ _ r.0 c.status-in-Stopped.ensures r.1 (breaks_more c.in-Stopped.stop e _ _ _ _ (first_due r.0) r.2)
+    answered_stop c.in-Stopped.stop _ _ _ e _ _ r.0 _ (inl refl) c.status-in-Stopped.ensures r.1 r.2

@@ -1,14 +1,15 @@
-use Rattle.std.proofs.Common.{refl}
+use Rattle.std.proofs.Common.{Err, ap, refl}
 use Rattle.std.proofs.lemmas.Result.{err_from_is_err_and}
 use Rattle.budget_top.proofs.Standing.{front_as, appends_as}
-use Rattle.budget_top.proofs.Serving.{stands_end, halts_end, cuts_end, breaks_port}
+use Rattle.budget_top.proofs.Serving.{stands_end, breaks_end, cuts_end}
 use Rattle.budget_top.proofs.session.Session.end_line.Goals as goal
 
 pub returns-in_err-answer-clause-err : goal.returns-in_err-answer-clause-err
 returns-in_err-answer-clause-err g c =
     let p = err_from_is_err_and c.from_residual.result c.from_residual.ensures.1 in
-    rw p.1 (λ e read s. breaks_port _ p.0 p.2 e _ _ _ (
-    halts_end e read c.args.self.now _ _ s c.handle_line.ensures.told c.now-reading.result c.now-reading.ensures.given refl c.in_err-answer.ensures.same c.in_err-answer.ensures.stops))
+    rw p.1 (λ e read s.
+    breaks_end e read c.args.self.now _ _ s c.handle_line.ensures.told c.now-reading.result c.now-reading.ensures.given _ p.0 p.2 refl c.in_err-answer.ensures.same c.in_err-answer.ensures.stops
+    (λ failed. c.in_err-answer.ensures.new (ap Err failed)))
 
 pub returns-in_err-write_and_flush-clause-err : goal.returns-in_err-write_and_flush-clause-err
 returns-in_err-write_and_flush-clause-err g c =
