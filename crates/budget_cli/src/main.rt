@@ -1,9 +1,12 @@
 //! The program: its words, the standard streams, the clock of the system and a keeper in memory.
 #![tactic(auto)]
 
-ghost use Rattle.std.specs.Prelude.{◌≡◌, ◌⊎◌, ◌≤◌, IsErr};
+ghost use Rattle.std.specs.Prelude.{◌≡◌, ◌≢◌, ◌==◌, ◌⊎◌, ◌≤◌, IsErr, Some};
 ghost use Rattle.std.specs.Process.{exit_status};
-ghost use Rattle.budget_top.specs.Words.{planned, refusal_status};
+ghost use Rattle.budget_ports.specs.Faults.{count_after};
+ghost use Rattle.budget_top.specs.Words.{planned, planned_mode, refusal_status};
+ghost use Rattle.budget_top.specs.MergeRun.{MergeRun};
+ghost use Rattle.budget_top.specs.declared.words.Mode.TheVariants.{Merge};
 
 mod stdin_source;
 mod stdout_sink;
@@ -11,11 +14,11 @@ mod system_clock;
 #[cfg(test)]
 mod tests;
 
-use budget_ports::{MemoryKeeper, Sink};
+use budget_ports::{MemoryKeeper, Sink, Source};
 use budget_top::{WordFault, plan, refusal_status, run};
 use field_values::{Items, Steps, Txt};
 use std::env;
-use std::io::{BufWriter, ErrorKind, Stdout};
+use std::io::{BufWriter, ErrorKind};
 use std::marker::Brand;
 use std::process::ExitCode;
 use std::sync::ledger::{Blank, Ledger};
@@ -58,12 +61,13 @@ fn without_run(rt: &HostRuntime, fault: WordFault) -> ExitCode
     ExitCode::from(refusal_status(fault))
 }
 
-/// Does what the words ask for over the standard streams, and gives the status. The ledger under the
-/// counter of steps is still blank.
-fn status_over<G: Ledger>(
+/// Does what the words ask for over a source and a sink, with the clock of the system and a keeper in
+/// memory, and gives the status. The ledger under the counter of steps is still blank.
+fn status_over<G: Ledger, S: Source, W: Sink>(
     rt: &HostRuntime,
     words: &Items<Txt>,
-    writer: BufWriter<Stdout>,
+    source: &mut S,
+    sink: &mut W,
     blank: Blank,
 ) -> u8
     requires name { blank.name ≡ G.name }
@@ -71,38 +75,40 @@ fn status_over<G: Ledger>(
     requires some { 1 ≤ G.parts }
     ensures words { result ≡ 2 → IsErr (planned words.now) }
     ensures refused { IsErr (planned words.now) → (result ≡ 2) ⊎ (result ≡ 7) }
+    ensures merge { planned_mode words.now ≡ Some Merge → MergeRun result (S.left source.old) (S.left source.new) (W.taken sink.old) (W.taken sink.new) }
+    ensures source { S.faults source.new ≡ count_after (result == 4) (S.faults source.old) }
+    ensures sink { result ≢ 3 → W.faults sink.new ≡ count_after (result == 5) (W.faults sink.old) }
 {
     let alloc = rt.alloc();
-    let mut source = StdinSource::new(rt.stdin());
-    let mut sink = StdoutSink::new(writer);
     let mut keeper = MemoryKeeper::new(alloc);
     let mut clock = SystemClock::new(rt);
     let mut steps = Steps::<G>::new(blank);
-    let status = run(
+    run(
         alloc,
         words,
-        &mut source,
-        &mut sink,
+        source,
+        sink,
         &mut keeper,
         &mut clock,
         &mut steps,
-    );
-    // what a run that broke off has written is to be seen too
-    let _ = sink.flush();
-    status
+    )
 }
 
+/// Runs the program over the standard streams. What a run that broke off has written is handed on when
+/// the writer is dropped.
 fn main(rt: HostRuntime) -> ExitCode {
     let alloc = rt.alloc();
     let words = match words_of(&rt) {
         Ok(words) => words,
         Err(fault) => return without_run(&rt, fault),
     };
+    if let Err(fault) = plan(alloc, &words) {
+        return without_run(&rt, fault);
+    }
     let Ok(writer) = BufWriter::new(alloc, rt.stdout()) else {
         return without_run(&rt, WordFault::NoMemory);
     };
-    if let Err(fault) = plan(alloc, &words) {
-        tell(&rt, fault);
-    }
-    ExitCode::from(status_over::<Brand>(&rt, &words, writer, Blank::new(1)))
+    let mut source = StdinSource::new(rt.stdin());
+    let mut sink = StdoutSink::new(writer);
+    ExitCode::from(status_over::<Brand, _, _>(&rt, &words, &mut source, &mut sink, Blank::new(1)))
 }

@@ -1,8 +1,10 @@
 -- What the objects of the outside tell a device's run.
-use Rattle.std.specs.Prelude.{ℕ, List, [], Option, codes}
+use Rattle.std.specs.Prelude.{ℕ, List, [], Option, Some, codes}
 use Rattle.budget_ports.specs.Contents.{Contents, Text, records_after}
 use Rattle.budget_ports.specs.declared.keeper.Kept.{Kept}
 use Rattle.budget_ports.specs.Readings.{Readings}
+use Rattle.budget_ports.specs.Memory.{SinkState}
+use Rattle.budget_ports.specs.KeeperState.{KeeperState, holds}
 use Rattle.field_merge.specs.declared.message.Message.{Message}
 use Rattle.device_core.specs.Holding.{Holds as HoldsIn}
 
@@ -28,3 +30,7 @@ pub record Seen : Type 1 where
 
 abbrev pub seen : Option (List ℕ) → Option Readings → Type 0 → Contents → (Contents → Type 0) → Seen
 seen taken readings tells contents left = record { taken = taken; readings = readings; tells = tells; contents = contents; left = left }
+
+-- what objects in memory tell: all that they hold, and a stop leaves it alone
+abbrev pub seen_in_memory : SinkState → Readings → KeeperState → Seen
+seen_in_memory sink clock keeper = seen (Some sink.taken) (Some clock) (Unit {0}) keeper.contents (holds keeper)

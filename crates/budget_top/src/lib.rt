@@ -8,6 +8,7 @@ mod device_run;
 #[cfg(test)]
 mod device_tests;
 mod dispatch;
+mod in_memory;
 mod input;
 mod laws;
 mod line;
@@ -29,6 +30,7 @@ pub use dispatch::{
     BAD_RECORD, BAD_WORDS, DONE, KEEPER_FAILED, NO_MEMORY, SINK_FAILED, SOME_BAD, SOURCE_FAILED,
     TOO_MUCH, refusal_status, run,
 };
+pub use in_memory::run_in_memory;
 pub use laws::{lines_are_written, replies_are_cut};
 pub use planning::plan;
 pub use words::{Mode, Plan, WordFault};

@@ -144,6 +144,8 @@ fn rows(rt: HostRuntime) -> Result<(), Fail> {
         ),
         // the second read, after all bytes
         failing(&[1], &[], 4, &both_bad),
+        // a third read, which isn't made: the second one has told the end
+        failing(&[2], &[], 1, &both_bad),
         // the second write, and the flush
         failing(&[], &[1], 5, &["bad-line 1 columns\n"]),
         failing(&[], &[2], 5, &both_bad),

@@ -1,0 +1,32 @@
+//! The top call over the objects in memory, which tell all that they hold.
+ghost use Rattle.std.specs.Prelude.{◌≡◌, ℕ, List, Some, Ok};
+ghost use Rattle.budget_top.specs.Words.{planned, planned_mode};
+ghost use Rattle.budget_top.specs.MergeRun.{MergeRun};
+ghost use Rattle.budget_top.specs.DeviceRun.{DeviceRun};
+ghost use Rattle.budget_top.specs.Seen.{seen_in_memory};
+ghost use Rattle.budget_top.specs.declared.words.Plan.{Plan};
+
+use crate::dispatch::run;
+use crate::words::Mode;
+use budget_ports::{ListClock, MemoryKeeper, MemorySink, MemorySource};
+use field_values::{Items, Steps, Txt};
+use std::alloc::Global;
+use std::sync::ledger::Ledger;
+
+/// Does what the words ask for over objects in memory, as `run` does, and answers the status.
+///
+/// Here what `run` says as far as its objects tell is said of all that they hold.
+pub fn run_in_memory<G: Ledger>(
+    alloc: Global,
+    words: &Items<Txt>,
+    source: &mut MemorySource,
+    sink: &mut MemorySink,
+    keeper: &mut MemoryKeeper,
+    clock: &mut ListClock,
+    steps: &mut Steps<G>,
+) -> u8
+    ensures merge { planned_mode words.now ≡ Some Mode.Merge → MergeRun result (Some source.old.left) (Some source.new.left) (Some sink.old.taken) (Some sink.new.taken) }
+    ensures device { (plan : Plan) (node : List ℕ) → planned words.now ≡ Ok plan → plan.mode ≡ Mode.Device → plan.node ≡ Some node → DeviceRun node result (Some source.old.left) (Some source.new.left) sink.old.calls.faults sink.new.calls.faults (seen_in_memory sink.old clock.old keeper.old) (seen_in_memory sink.new clock.new keeper.new) }
+{
+    run(alloc, words, source, sink, keeper, clock, steps)
+}
