@@ -202,7 +202,7 @@ stands_open node session old now h line bad taken readings same = record {
     written = let P : Option (List ℕ) → Type 0 = λ t. Appends old.taken t [] in subst P (sym taken) (Appends-nil old.taken);
     keeper = λ t.
         let P : Contents → Type 0 = λ k. Holds old.contents k session.device.state.messages in
-        subst P (sym (same t)) (record { messages = h.has t; others = record { records = λ place other. refl; texts = refl } });
+        subst P (sym (same t)) (record { messages = h.has t; kept = λ key body had. had; written = λ key body lacked has. absurd (cc); others = record { records = λ place other. refl; texts = refl } });
   };
   line = line;
   state = ap (λ (d : DeviceState). d.state) h.state;

@@ -2,8 +2,10 @@
 use Rattle.std.proofs.Common.{◌≡◌, ℕ, ◌+◌, Bool, true, false, ◌||◌, cond, List, [], ◌∷◌, ◌++◌, map, Option, None, Some, is_none, Result, Ok, Err, refl, sym, ap, ap₂, subst, ◌∙◌, true≢false, Ordering, Less, Equal, Greater}
 use Rattle.std.specs.Prelude.{is_ok, if◌then◌else◌}
 use Rattle.std.specs.Result.{result_ok}
-use Rattle.std.specs.List.{AllByRecursion, list_any, filter_map, position_from, cons_option}
+use Rattle.std.specs.Option.{option_or}
+use Rattle.std.specs.List.{Contains, AllByRecursion, list_any, filter_map, position_from, cons_option}
 use Rattle.std.specs.Ordering.{is_eq, is_lt}
+use Rattle.std.specs.FinMap.{get}
 use Rattle.std.specs.FinMap.Entries.{by_order}
 use Rattle.hybrid_clock.specs.declared.stamp.Stamp.{Stamp}
 use Rattle.hybrid_clock.specs.declared.stamp.StampFault.{StampFault}
@@ -15,8 +17,9 @@ use Rattle.hybrid_clock.proofs.TextOrder.{text_order}
 use Rattle.field_values.specs.declared.name.NameFault.{NameFault}
 use Rattle.field_values.specs.Names.{FieldNames, field_of, names_fault}
 use Rattle.budget_ports.specs.declared.keeper.Kept.{Kept}
-use Rattle.budget_ports.specs.Contents.{Text, Contents, text_cmp, records_after, appended}
+use Rattle.budget_ports.specs.Contents.{Text, Contents, Place, text_cmp, place_cmp, records_after, with_record, appended}
 use Rattle.budget_ports.specs.Keeper.{Rise}
+use Rattle.budget_ports.proofs.Places.{place_same}
 use Rattle.budget_ports.proofs.Rising.{records_rise}
 use Rattle.field_merge.specs.declared.message.Message.{Message}
 use Rattle.field_merge.specs.declared.line.LineFault.{LineFault}
@@ -28,13 +31,14 @@ use Rattle.field_merge.proofs.EscapeLemmas.{Lacks, escaped-no_tab, unescaped-esc
 use Rattle.field_merge.proofs.LineLemmas.{parts-at}
 use Rattle.field_merge.proofs.StampLemmas.{stamp_text_escaped}
 use Rattle.field_merge.proofs.Orders.{stamps_total}
-use Rattle.field_merge.proofs.Ordered.{IsBelow, cons, in_order_nil, same}
+use Rattle.field_merge.proofs.Ordered.{IsBelow, cons, equal, in_order_nil, same}
 use Rattle.field_merge.proofs.Joining.{stamp_of, rising, found}
-use Rattle.device_core.specs.Records.{record_of, message_in, unless_bad, set_of, kept_set}
+use Rattle.device_core.specs.Records.{body_of, record_of, message_in, unless_bad, set_of, kept_set}
 use Rattle.device_core.specs.Device.{new_in}
 use Rattle.device_core.specs.Holding.{Holds, BatchesAreKept}
 use Rattle.device_core.proofs.Keeping.{reads_back, have_keys}
-use Rattle.device_core.proofs.OneRecord.{add_record, group_with, others_with}
+use Rattle.device_core.proofs.OneRecord.{add_record, get_with, group_with, others_with}
+use Rattle.device_core.proofs.Members.{placed_is_there, still_there}
 
 -- ---- the key of a record is the text of its message's timestamp
 
@@ -172,6 +176,30 @@ reads_added (r ∷ rs) (m ∷ ms) n valid new reads =
       | Greater ↦ λ h. (reads.0, reads_added rs ms n valid h reads.1)
     ] new)
 
+-- under a key that the group lacked at entry there is the new message's record, or that of a message that was there
+written_one : (group : Text) (entry now : Contents) (ms : List Message) (n : Message) → Holds group entry now ms → (key body : Text)
+    → get entry.records (group, key) ≡ None → get (with_record group now.records (record_of n)) (group, key) ≡ Some body
+    → (m : Message) × Contains (placed by_stamp ms n) m × (record_of m ≡ record { key = key; body = body })
+written_one group entry now ms n h key body lacked has =
+    by (get now.records place) refl (is_eq (place_cmp place own)) refl (sym (get_with now.records group (record_of n) place) ∙ has)
+  where
+    place : Place
+    place = (group, key)
+
+    own : Place
+    own = (group, stamp_text n.stamp)
+
+    by : (o : Option Text) → get now.records place ≡ o → (tied : Bool) → is_eq (place_cmp place own) ≡ tied
+        → option_or o (cond tied (Some (body_of n)) None) ≡ Some body → (m : Message) × Contains (placed by_stamp ms n) m × (record_of m ≡ record { key = key; body = body })
+    by (Some old) is tied at k =
+        let w = h.written key body lacked (is ∙ k) in
+        (w.0, still_there ms n w.0 w.1, w.2)
+    by None is true at k =
+        let here : key ≡ stamp_text n.stamp = ap (λ (p : Place). p.1) (place_same place own (equal _ at)) in
+        let same : body_of n ≡ body = cc in
+        (n, placed_is_there ms n, ap₂ (λ (k b : Text). record { key = k; body = b }) (sym here) same)
+    by None is false at k = absurd (cc)
+
 holds_one : (group : Text) (entry now : Contents) (ms : List Message) (n : Message) → IsMessage n → list_any (has_stamp n.stamp) ms ≡ false → Holds group entry now ms
     → Holds group entry (appended now group (record_of n ∷ [])) (placed by_stamp ms n)
 holds_one group entry now ms n valid new h =
@@ -182,6 +210,9 @@ holds_one group entry now ms n valid new h =
     record {
       messages = reads_kept (records_after after group []) (placed by_stamp ms n) (records_rise after.records group [])
           (let P : List Kept → Type 0 = λ rs. Reads rs (placed by_stamp ms n) in subst P (sym grown) reads);
+      kept = λ key body had. get_with now.records group (record_of n) (group, key)
+          ∙ ap (λ o. option_or o (cond (is_eq (place_cmp (group, key) (group, stamp_text n.stamp))) (Some (body_of n)) None)) (h.kept key body had);
+      written = written_one group entry now ms n h;
       others = record {
         records = λ p other. others_with now.records group (record_of n) p other ∙ h.others.records p other;
         texts = h.others.texts;

@@ -1,9 +1,11 @@
 -- What holds of messages that join, and which of them are new.
-use Rattle.std.proofs.Common.{slice_index_or, drop, suc, ◌+◌, add-one, drop-cons, ◌≡◌, ℕ, ◌<◌, List, [], ◌∷◌, ◌++◌, Bool, true, false, not, cond, map, length, is_none, refl, sym, ap, ◌∙◌, append_assoc}
-use Rattle.std.specs.List.{find, list_any, AllByRecursion}
+use Rattle.std.proofs.Common.{slice_index_or, drop, suc, ◌+◌, add-one, drop-cons, ◌≡◌, ℕ, zero, ◌<◌, List, [], ◌∷◌, ◌++◌, Bool, true, false, not, cond, map, length, is_none, refl, sym, ap, subst, ◌∙◌, append_assoc, arith}
+use Rattle.std.specs.Ordering.{is_lt}
+use Rattle.std.specs.List.{find, list_any, Contains, AllByRecursion}
 use Rattle.std.proofs.lemmas.List.{map-append}
 use Rattle.field_merge.specs.declared.message.Message.{Message}
 use Rattle.field_merge.specs.Log.{has_stamp, by_stamp, placed, join_one, join, at_stamp}
+use Rattle.field_merge.proofs.Members.{here, there}
 use Rattle.field_merge.proofs.Placing.{all_placed}
 use Rattle.budget_ports.specs.declared.keeper.Kept.{Kept}
 use Rattle.device_core.specs.Records.{record_of}
@@ -26,6 +28,27 @@ module _ (P : Message → Type 0) where
     | true ↦ all_new ms ns new.1
     | false ↦ (new.0, all_new (join_one ms n) ns new.1)
   ]
+
+-- a placed message is a member, and each member stays one
+pub placed_is_there : (ms : List Message) (n : Message) → Contains (placed by_stamp ms n) n
+placed_is_there [] n = here n []
+placed_is_there (m ∷ ms) n =
+    elim (is_lt (by_stamp n m)) as (λ b. Contains (cond b (n ∷ m ∷ ms) (m ∷ placed by_stamp ms n)) n) [
+      | true ↦ here n (m ∷ ms)
+      | false ↦ there m (placed by_stamp ms n) n (placed_is_there ms n)
+    ]
+
+behind_too : (x m : Message) (ms ns : List Message) → (Contains ms m → Contains ns m) → Contains (x ∷ ms) m → Contains (x ∷ ns) m
+behind_too x m ms ns f (zero, within, is) = subst (Contains (x ∷ ns)) is (here x ns)
+behind_too x m ms ns f (suc k, within, is) = there x ns m (f (k, omega (arith, within), is))
+
+pub still_there : (ms : List Message) (n m : Message) → Contains ms m → Contains (placed by_stamp ms n) m
+still_there [] n m (k, within, is) = absurd (omega (arith, within))
+still_there (x ∷ ms) n m c =
+    elim (is_lt (by_stamp n x)) as (λ b. Contains (cond b (n ∷ x ∷ ms) (x ∷ placed by_stamp ms n)) m) [
+      | true ↦ there n (x ∷ ms) m c
+      | false ↦ behind_too x m ms (placed by_stamp ms n) (still_there ms n m) c
+    ]
 
 -- the first of some messages, and then the others
 pub new_on : (ms : List Message) (n : Message) (ns : List Message) → new_in ms (n ∷ ns) ≡ new_in ms (n ∷ []) ++ new_in (join_one ms n) ns

@@ -1,5 +1,6 @@
 -- What a keeper's records are with one more: those of its group, and all other places.
-use Rattle.std.proofs.Common.{◌≡◌, ◌≢◌, ◌<◌, Bool, true, false, ◌&&◌, cond, List, [], ◌∷◌, map, filter, length, None, Some, is_some, refl, sym, ap, ap₂, ◌∙◌, inl, inr, arith, Ordering, Less, Equal, Greater}
+use Rattle.std.proofs.Common.{◌≡◌, ◌≢◌, ◌<◌, Bool, true, false, ◌&&◌, cond, List, [], ◌∷◌, map, filter, length, Option, None, Some, is_some, refl, sym, ap, ap₂, ◌∙◌, true≢false, inl, inr, arith, Ordering, Less, Equal, Greater}
+use Rattle.std.specs.Option.{option_or}
 use Rattle.std.specs.Ordering.{is_eq, is_lt, ordering_then, ordering_reverse}
 use Rattle.std.specs.Cmp.{tied_itself}
 use Rattle.std.proofs.lemmas.Bool.{cases_Bool}
@@ -11,6 +12,7 @@ use Rattle.budget_ports.proofs.Maps.{IsRising}
 use Rattle.budget_ports.proofs.Rising.{is_true, in_order}
 use Rattle.budget_ports.proofs.Places.{text_total, text_same, place_total, place_same}
 use Rattle.budget_ports.proofs.Scans.{of_group, Above}
+use Rattle.field_merge.proofs.Members.{or_none}
 use Rattle.field_merge.proofs.Ordered.{equal}
 
 -- ---- entries in order
@@ -161,15 +163,32 @@ above_none (x ∷ key) some = refl
 pub group_with : (m : FinMap place_cmp Text) (g : Text) (r : Kept) → 0 < length r.key → records_of_after (with_record g m r) g [] ≡ add_record (records_of_after m g []) r
 group_with m g r some = ap (group g) (entries_with m g r) ∙ grown g r.key r.body (above_none r.key some) (entries m) (rising m)
 
+-- what stands at a place with one record more: what stood there, or else the record, where the place is its own
+pub get_with : (m : FinMap place_cmp Text) (g : Text) (r : Kept) (p : Place) → get (with_record g m r) p ≡ option_or (get m p) (cond (is_eq (place_cmp p (g, r.key))) (Some r.body) None)
+get_with m g r p = by (contains_key m (g, r.key)) refl
+  where
+    own : is_eq (place_cmp p (g, r.key)) ≡ true → contains_key m p ≡ contains_key m (g, r.key)
+    own tied = ap (contains_key m) (place_same p (g, r.key) (equal _ tied))
+
+    stays : (o : Option Text) (b : Bool) → (b ≡ true → is_some o ≡ true) → o ≡ option_or o (cond b (Some r.body) None)
+    stays None true h = absurd (true≢false (sym (h refl)))
+    stays None false h = refl
+    stays (Some body) b h = refl
+
+    enters : (o : Option Text) (b : Bool) → (b ≡ true → is_some o ≡ false) → cond b (Some r.body) o ≡ option_or o (cond b (Some r.body) None)
+    enters None b h = refl
+    enters (Some body) true h = absurd (true≢false (h refl))
+    enters (Some body) false h = refl
+
+    by : (b : Bool) → contains_key m (g, r.key) ≡ b → get (cond b m (insert m (g, r.key) r.body)) p ≡ option_or (get m p) (cond (is_eq (place_cmp p (g, r.key))) (Some r.body) None)
+    by true there = stays (get m p) (is_eq (place_cmp p (g, r.key))) (λ tied. own tied ∙ there)
+    by false new = get-insert place_total m (g, r.key) r.body p ∙ enters (get m p) (is_eq (place_cmp p (g, r.key))) (λ tied. own tied ∙ new)
+
 pub others_with : (m : FinMap place_cmp Text) (g : Text) (r : Kept) (p : Place) → p.0 ≢ g → get (with_record g m r) p ≡ get m p
-others_with m g r p other = by (contains_key m (g, r.key))
+others_with m g r p other = get_with m g r p ∙ ap (λ b. option_or (get m p) (cond b (Some r.body) None)) apart ∙ sym (or_none (get m p))
   where
     apart : is_eq (place_cmp p (g, r.key)) ≡ false
     apart = elim (cases_Bool (is_eq (place_cmp p (g, r.key)))) [
       | inl same ↦ absurd (other (ap (λ (q : Place). q.0) (place_same p (g, r.key) (equal _ same))))
       | inr out ↦ out
     ]
-
-    by : (b : Bool) → get (cond b m (insert m (g, r.key) r.body)) p ≡ get m p
-    by true = refl
-    by false = get-insert place_total m (g, r.key) r.body p ∙ ap (λ b. cond b (Some r.body) (get m p)) apart
