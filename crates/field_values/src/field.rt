@@ -118,7 +118,7 @@ impl Field {
         ensures bad { IfErr result (λ fault. fault ≢ NameFault.NoMemory →
             names_fault (field_of dataset.now row.now column.now) ≡ Some fault) }
 
-        // The names are judged first: only names without a fault are told to lack memory.
+        // The names are judged before any memory is taken.
         ensures memory { IfErr result (λ fault. fault ≡ NameFault.NoMemory →
             names_fault (field_of dataset.now row.now column.now) ≡ None) }
     {

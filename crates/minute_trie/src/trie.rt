@@ -89,8 +89,8 @@ impl Trie {
     }
 
     /// The first moment of a minute from which on the two exchange what they have, in
-    /// milliseconds since 1970, or `None` where their roots have one hash. What differs before
-    /// it, where both have pruned, shows in a later round. It takes no memory.
+    /// milliseconds since 1970, or `None` where their roots have one hash. Where both have
+    /// pruned they may also differ before it: that is left to a later round. It takes no memory.
     pub fn diff(&self, other: &Trie) -> Option<u64>
         ensures { result ≡ difference (held self.now) (held other.now) }
     {
