@@ -288,7 +288,7 @@ impl Device {
         &self.log
     }
 
-    /// The trie of the messages' timestamps, by which two devices find from when on they differ.
+    /// The trie of the messages' timestamps, by which two devices find from when on they exchange messages.
     ///
     /// It depends on the messages alone: after the same messages have come, by edits, in batches in
     /// any order, or from records when a device starts again, it holds the same. A new message

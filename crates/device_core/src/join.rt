@@ -47,7 +47,7 @@ pub(crate) fn read_log(alloc: Global, records: &[Kept]) -> Result<(Log, Trie), S
     ensures err { IfErr result (IsStartFault (kept_set records.now)) }
 {
     let mut log = Log::new(alloc)?;
-    let mut trie = Trie::new(alloc)?;
+    let mut trie = Trie::new(alloc);
     for (index, kept) in records.iter().enumerate() {
         let Some(message) = read_record(alloc, kept)? else {
             return Err(StartFault::BadRecord { index });

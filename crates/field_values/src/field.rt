@@ -117,6 +117,10 @@ impl Field {
         ensures good { IfOk result (λ f. names_fault f ≡ None) }
         ensures bad { IfErr result (λ fault. fault ≢ NameFault.NoMemory →
             names_fault (field_of dataset.now row.now column.now) ≡ Some fault) }
+
+        // The names are judged before any memory is taken.
+        ensures memory { IfErr result (λ fault. fault ≡ NameFault.NoMemory →
+            names_fault (field_of dataset.now row.now column.now) ≡ None) }
     {
         check_names(dataset, row, column)?;
         let names = Names::of(alloc, dataset, row, column)?;

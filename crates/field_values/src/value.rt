@@ -1,5 +1,5 @@
 //! The values of fields, and their texts.
-ghost use Rattle.std.specs.Prelude.{◌≡◌, IfOk};
+ghost use Rattle.std.specs.Prelude.{◌≡◌, IfOk, OnErr, codes};
 ghost use Rattle.field_values.specs.Value.{IsNumberText, value_text, value_of, IsValue, ValuesReadBack, TextsWriteBack};
 
 use crate::items::Copied;
@@ -50,6 +50,7 @@ fn number_in(digits: &str) -> Option<i64>
 fn by_form(alloc: Global, text: &str) -> Result<Value, NoMemory>
     ensures valid { IfOk result IsValue }
     ensures same_text { IfOk result (λ v. value_text v ≡ text.now) }
+    ensures null { text.now ≡ codes "0:" → OnErr result ⊥ }
 {
     if text == "0:" {
         return Ok(Value::Null);
@@ -71,6 +72,9 @@ impl Value {
         ensures value { IfOk result (λ v. v ≡ value_of text.now) }
         ensures valid { IfOk result IsValue }
         ensures same_text { IfOk result (λ v. value_text v ≡ text.now) }
+
+        // Null takes no memory, so it is always read.
+        ensures null { text.now ≡ codes "0:" → OnErr result ⊥ }
     {
         let value = by_form(alloc, text)?;
         Ok(value)
@@ -81,6 +85,9 @@ impl Value {
         ensures value { IfOk result (λ v. v ≡ value_of text.now) }
         ensures valid { IfOk result IsValue }
         ensures same_text { IfOk result (λ v. value_text v ≡ text.now) }
+
+        // Null takes no memory, so it is always read.
+        ensures null { text.now ≡ codes "0:" → OnErr result ⊥ }
     {
         Value::read(alloc, text.as_str())
     }
@@ -90,7 +97,7 @@ impl Value {
     pub fn text(&self, alloc: Global) -> Result<Txt, NoMemory>
         requires { IsValue self.now }
         ensures value { IfOk result (λ t. t ≡ value_text self.now) }
-        ensures reads_back { value_of (value_text self.now) ≡ self.now }
+        ensures reads_back { IfOk result (λ t. value_of t ≡ self.now) }
     {
         match self {
             Value::Null => Txt::from_text(alloc, "0:"),

@@ -18,7 +18,9 @@ pub struct HybridClock {
 /// Why a clock does not move.
 #[derive(Clone, Copy, Debug, PartialEq, Eq)]
 pub enum ClockFault {
-    /// The time would be `logical`, more than 300,000 milliseconds ahead of the reading.
+    /// `logical` is more than 300,000 milliseconds ahead of the reading. It is the time of the
+    /// message that is received, where that is so far ahead. Else it is the time to which the
+    /// clock would go, which then is the clock's own.
     Drift { logical: u64, reading: u64 },
     /// The counter would be this, which is above 65,535.
     Overflow { counter: u32 },

@@ -14,7 +14,7 @@ impl Stamp {
     pub fn write_text(&self, out: &mut [u8; 46])
         requires { IsStamp self.now }
         ensures text { out.new ≡ stamp_text self.now }
-        ensures reads_back { read_stamp (stamp_text self.now) ≡ Ok self.now }
+        ensures reads_back { read_stamp out.new ≡ Ok self.now }
     {
         let day = day_of_number((self.millis / 86_400_000) as u32);
         let millis = (self.millis % 86_400_000) as u32;

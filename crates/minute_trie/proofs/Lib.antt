@@ -17,3 +17,4 @@ pub mod Hashes
 pub mod RoundTrip
 pub mod ReadBack
 pub mod Shapes
+pub mod RoundsMade

@@ -24,3 +24,9 @@ pub record IsRound (minute : ℕ) (mine got mine_now theirs taken theirs_now : L
 -- p is the beginning of s, and s is longer
 abbrev pub IsProperPrefix : List Digit → List Digit → Type 0
 IsProperPrefix p s = (c : Digit) × ((r : List Digit) × (s ≡ p ++ c ∷ r))
+
+-- there is such a round from any minute on: each side takes what the other holds from there on
+abbrev pub RoundsAreMade : Type 0
+RoundsAreMade = (minute : ℕ) (mine theirs : List Pair) →
+    let got = filter (is_from minute) theirs in let taken = filter (is_from minute) mine in
+    IsRound minute mine got (mine ++ got) theirs taken (theirs ++ taken)

@@ -12,7 +12,7 @@ ghost use Rattle.minute_trie.specs.Adding.{with_pair};
 ghost use Rattle.minute_trie.specs.Diff.{stop, minute_of, difference};
 ghost use Rattle.minute_trie.specs.Json.{trie_text};
 ghost use Rattle.minute_trie.specs.Faults.{fault_of_text, map_of_text, IsReadingOf};
-ghost use Rattle.minute_trie.specs.Rounds.{IsRound, IsProperPrefix};
+ghost use Rattle.minute_trie.specs.Rounds.{IsRound, IsProperPrefix, RoundsAreMade};
 
 /// The trie of a list does not depend on the order of the list.
 pub fn order_free()
@@ -52,4 +52,9 @@ pub fn rounds_by_minute()
         → (difference (trie_of mine_now) (trie_of theirs_now) ≡ None)
         ⊎ IsProperPrefix (stop (trie_of mine_now) (trie_of theirs_now)) (stop (trie_of mine) (trie_of theirs)) }
     ensures within { (f g : Held) → length (stop f g) ≤ 16 }
+{}
+
+/// A round can be made from any minute on: each side takes what the other holds from there on.
+pub fn rounds_are_made()
+    ensures { RoundsAreMade }
 {}

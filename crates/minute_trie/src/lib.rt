@@ -1,4 +1,4 @@
-//! The pruned hash trie of minutes, by which two devices find from when on their messages differ.
+//! The pruned hash trie of minutes, by which two devices find from when on they exchange messages.
 //!
 //! It is the trie of Actual Budget's `crdt` package (`packages/crdt/src/crdt/merkle.ts`): each
 //! timestamp stands under its minute, written to the base 3, and each node has the XOR of the
@@ -16,7 +16,9 @@ mod walk;
 
 pub use hash::hash32;
 pub use key::Digit;
-pub use laws::{order_free, pruned_for_good, reads_back, rounds_by_minute, tries_are_maps};
+pub use laws::{
+    order_free, pruned_for_good, reads_back, rounds_are_made, rounds_by_minute, tries_are_maps,
+};
 pub use read::TrieFault;
 pub use trie::Trie;
 

@@ -93,7 +93,7 @@ const LAST: u32 = 43_046_720;
 fn trie_of(alloc: Global, pairs: &[(u8, i32)]) -> Result<Trie, Fail>
     ensures { IfOk result (λ trie. is_spent trie ≡ false) }
 {
-    let mut trie = Trie::new(alloc)?;
+    let mut trie = Trie::new(alloc);
     for (before, hash) in pairs {
         trie.insert_hash(LAST - u32::from(*before), *hash)?;
     }
@@ -131,7 +131,7 @@ fn stamp(trie: &mut Trie, text: &str) -> Result<(), Fail>
 
 #[test]
 fn holds_timestamps(rt: HostRuntime) -> Result<(), Fail> {
-    let mut trie = Trie::new(rt.alloc())?;
+    let mut trie = Trie::new(rt.alloc());
     stamp(&mut trie, "2024-01-05T10:00:00.000Z-0000-00000000000000aa")?;
     assert_eq!(rt; trie.to_json()?.as_str(), STAMPED);
     stamp(&mut trie, "1970-01-01T00:00:00.000Z-0000-0000000000000001")?;
@@ -204,6 +204,6 @@ fn prunes_what_was_read(rt: HostRuntime) -> Result<(), Fail> {
         trie.to_json()?.as_str(),
         "{\"1\":{\"hash\":0},\"2\":{\"hash\":0},\"hash\":7}"
     );
-    assert_eq!(rt; Trie::new(rt.alloc())?.diff(&trie), Some(0));
+    assert_eq!(rt; Trie::new(rt.alloc()).diff(&trie), Some(0));
     Ok(())
 }

@@ -34,15 +34,15 @@ pub struct Trie {
 
 impl Trie {
     /// The trie of no timestamps.
-    pub fn new(alloc: Global) -> Result<Trie, NoMemory>
-        ensures empty { IfOk result (IsTrieOf []) }
-        ensures live { IfOk result (λ trie. is_spent trie ≡ false) }
+    pub fn new(alloc: Global) -> Trie
+        ensures empty { IsTrieOf [] result }
+        ensures live { is_spent result ≡ false }
     {
-        Ok(Trie {
+        Trie {
             root: Node::new(),
             spent: false,
             alloc,
-        })
+        }
     }
 
     /// Adds a timestamp, with the hash of its text in its minute. After an error the trie is spent.
@@ -88,8 +88,9 @@ impl Trie {
         self.root.hash().cast_signed()
     }
 
-    /// The first moment of the minute from which the two may differ, in milliseconds since
-    /// 1970, or `None` where their roots have one hash. It takes no memory.
+    /// The first moment of a minute from which on the two exchange what they have, in
+    /// milliseconds since 1970, or `None` where their roots have one hash. Where both have
+    /// pruned they may also differ before it: that is left to a later round. It takes no memory.
     pub fn diff(&self, other: &Trie) -> Option<u64>
         ensures { result ≡ difference (held self.now) (held other.now) }
     {
@@ -126,7 +127,9 @@ impl Trie {
         }
     }
 
-    /// Whether an insertion ran out of memory. Nothing else may then be asked of the trie.
+    /// Whether an insertion ran out of memory. Nothing may then be added, and what
+    /// [`Trie::root`], [`Trie::diff`] and [`Trie::to_json`] answer means nothing: they tell of
+    /// what was left behind, which may be the trie of no list.
     pub fn is_spent(&self) -> bool
         ensures { result ≡ is_spent self.now }
     {

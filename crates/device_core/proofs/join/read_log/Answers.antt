@@ -10,7 +10,7 @@ pub loop-index-init : goal.loop-index-init
 loop-index-init c = record {
   rest = ap (λ (l : LogState). kept_after l.messages 0 c.args.records.now) c.in_ok-log.ensures ∙ kept_is c.args.records.now;
   live = ap (λ (l : LogState). l.spent) c.in_ok-log.ensures;
-  trie_live = c.in_ok-trie.ensures.live;
-  right = subst (λ (l : LogState). IsTrieOf (pairs_of l.messages) c.in_ok-trie.trie) (sym c.in_ok-log.ensures) c.in_ok-trie.ensures.empty;
+  trie_live = c.new-trie.ensures.live;
+  right = subst (λ (l : LogState). IsTrieOf (pairs_of l.messages) c.new-trie.result) (sym c.in_ok-log.ensures) c.new-trie.ensures.empty;
   valid = subst (λ (l : LogState). AreMessages l.messages) (sym c.in_ok-log.ensures) tt;
 }

@@ -1,6 +1,7 @@
 use Rattle.std.proofs.Common.{◌≡◌, arith, refl, ◌∙◌, length, ap, length-take, length-drop, length-append}
 use Rattle.hybrid_clock.specs.Stamp.{stamp_text}
 use Rattle.hybrid_clock.specs.Calendar.{Day}
+use Rattle.hybrid_clock.specs.Reading.{read_stamp}
 use Rattle.hybrid_clock.proofs.Pieces.{assembled}
 use Rattle.hybrid_clock.proofs.Writing.{text_reads}
 use Rattle.hybrid_clock.proofs.stamp.Stamp.write_text.Goals as goal
@@ -19,4 +20,4 @@ returns-clause-text c =
     ∙ rw (c.copy_from_slice.ensures.after, c.copy_from_slice-2.ensures.after, c.head-head.ensures, c.bytes-node.ensures, year, month, number) refl
 
 pub returns-clause-reads_back : goal.returns-clause-reads_back
-returns-clause-reads_back c = text_reads c.args.self.now c.requires
+returns-clause-reads_back c = ap read_stamp (returns-clause-text c) ∙ text_reads c.args.self.now c.requires
