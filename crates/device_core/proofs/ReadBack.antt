@@ -1,7 +1,7 @@
 -- A write that is accepted is read back.
-use Rattle.std.proofs.Common.{◌≡◌, inl, inr, ℕ, ◌+◌, ◌-◌, ◌<◌, Bool, true, false, ◌||◌, cond, List, [], ◌∷◌, ◌++◌, Option, None, Some, Result, Ok, Err, length, refl, sym, ap, ◌∙◌, subst, arith, Ordering, Less, Equal, Greater}
+use Rattle.std.proofs.Common.{◌≡◌, inl, inr, ℕ, ◌+◌, ◌-◌, ◌<◌, Bool, true, false, ◌||◌, cond, List, [], ◌∷◌, ◌++◌, Option, None, Some, Result, Ok, Err, refl, sym, ap, ◌∙◌, subst, arith, Ordering, Less, Equal, Greater}
 use Rattle.std.specs.Prelude.{max, nat_lt, ◌==◌, map, ◌/◌}
-use Rattle.std.specs.Option.{option_or, option_map}
+use Rattle.std.specs.Option.{option_or}
 use Rattle.std.specs.Ordering.{is_eq, is_lt, nat_cmp, ordering_then}
 use Rattle.std.specs.Cmp.{ranked, tied_itself}
 use Rattle.std.specs.Cmp.Lexicographic.{slice_cmp}
@@ -17,6 +17,7 @@ use Rattle.hybrid_clock.specs.Order.{stamp_cmp}
 use Rattle.hybrid_clock.specs.Clock.{IsLater, draw, moved, first_counter, stands_at}
 use Rattle.field_merge.specs.declared.message.Message.{Message}
 use Rattle.field_merge.specs.Log.{has_stamp, has_field, by_stamp, placed, join_one, join, latest}
+use Rattle.field_merge.proofs.Members.{none_from_any}
 use Rattle.field_merge.proofs.Orders.{names_total}
 use Rattle.field_merge.proofs.Latest.{latest-cons}
 use Rattle.device_core.specs.declared.edit.Write.{Write}
@@ -115,24 +116,30 @@ write_is s reading w a h = go (draw s.clock reading 1) refl h
     go (Err fault) is k = absurd (cc)
 
 read_write : (s : State) (dataset row column : List ℕ) (value : Value) (clock : Stamp) → IsAhead s.clock s.messages → IsLater s.clock clock
-    → IsReadBack dataset row column value (record { device = with_messages s.messages (stamped (first_of clock 1) (record { field = field_of dataset row column; value = value } ∷ [])) clock; count = 1 })
+    → IsReadBack s.messages dataset row column value (record { device = with_messages s.messages (stamped (first_of clock 1) (record { field = field_of dataset row column; value = value } ∷ [])) clock; count = 1 })
 read_write s dataset row column value clock ahead later =
     let ms = s.messages in
     let n : Message = record { stamp = first_of clock 1; field = field_of dataset row column; value = value } in
     let counter : clock.counter ≡ clock.counter - (1 - 1) = omega arith in
     let first : clock ≡ n.stamp = ap (λ (k : ℕ). record clock { counter = k }) counter in
     let low : AllByRecursion (λ m. IsLater m.stamp n.stamp) ms = subst (λ (t : Stamp). AllByRecursion (λ m. IsLater m.stamp t) ms) first (all_past s.clock clock ms ahead later) in
-    let joined : join ms (n ∷ []) ≡ ms ++ n ∷ [] = ap (λ b. cond b ms (placed by_stamp ms n)) (is_new ms n low) ∙ stands_last ms n low in
-    let new : new_in ms (n ∷ []) ≡ n ∷ [] = ap (λ b. cond b (new_in ms []) (n ∷ new_in (join_one ms n) [])) (is_new ms n low) in record {
-      found = ap (λ all. option_map (λ m. m.value) (latest all (field_of dataset row column))) joined ∙ ap (option_map (λ m. m.value)) (latest_last ms n);
-      pending = ap (λ ns. length (map record_of ns)) new;
+    let unknown : list_any (has_stamp n.stamp) ms ≡ false = is_new ms n low in
+    let last : join ms (n ∷ []) ≡ ms ++ n ∷ [] = ap (λ b. cond b ms (placed by_stamp ms n)) unknown ∙ stands_last ms n low in
+    let added : new_in ms (n ∷ []) ≡ n ∷ [] = ap (λ b. cond b (new_in ms []) (n ∷ new_in (join_one ms n) [])) unknown in record {
+      message = n;
+      new = none_from_any (has_stamp n.stamp) ms unknown;
+      joined = refl;
+      is_latest = ap (λ all. latest all (field_of dataset row column)) last ∙ latest_last ms n;
+      has_value = refl;
+      pending = ap (map record_of) added;
+      one = refl;
     }
 
 pub read_back : EditsReadBack
 read_back s dataset row column value reading a ahead h = by (names_fault (field_of dataset row column)) h
   where
-    by : (o : Option NameFault) → writing s reading (write_unless o (field_of dataset row column) value) ≡ Ok a → IsReadBack dataset row column value a
+    by : (o : Option NameFault) → writing s reading (write_unless o (field_of dataset row column) value) ≡ Ok a → IsReadBack s.messages dataset row column value a
     by (Some fault) k = absurd (cc)
     by None k =
         let w = write_is s reading (record { field = field_of dataset row column; value = value }) a k in
-        subst (IsReadBack dataset row column value) w.1.1 (read_write s dataset row column value w.0 ahead (draw_later s.clock w.0 reading w.1.0))
+        subst (IsReadBack s.messages dataset row column value) w.1.1 (read_write s dataset row column value w.0 ahead (draw_later s.clock w.0 reading w.1.0))

@@ -1,19 +1,25 @@
 -- What an accepted write leaves.
-use Rattle.std.specs.Prelude.{◌≡◌, ℕ, List, length, Ok, Some}
-use Rattle.std.specs.Option.{option_map}
+use Rattle.std.specs.Prelude.{◌≡◌, ℕ, List, [], ◌∷◌, None, Some, Ok}
 use Rattle.field_values.specs.declared.value.Value.{Value}
 use Rattle.field_values.specs.Names.{field_of}
-use Rattle.field_merge.specs.Log.{latest}
+use Rattle.field_merge.specs.declared.message.Message.{Message}
+use Rattle.field_merge.specs.Log.{at_stamp, join, latest}
 use Rattle.device_core.specs.declared.edit.Edit.TheVariants.{Book}
 use Rattle.device_core.specs.declared.edit.BookEdit.TheVariants.{Set}
+use Rattle.device_core.specs.Records.{record_of}
 use Rattle.device_core.specs.Device.{State, Accepted, IsAhead, edited}
 
--- the field has the value that was written, and as many records are pending as writes were counted
-pub record IsReadBack (dataset row column : List ℕ) (value : Value) (accepted : Accepted) : Type 0 where
-  pub found : option_map (λ m. m.value) (latest accepted.device.state.messages (field_of dataset row column)) ≡ Some value
-  pub pending : length accepted.device.batch ≡ accepted.count
+-- one message under a new timestamp has joined those of before: it has the value that was written, it is the latest of its field, its record alone is pending, and one write was counted
+pub record IsReadBack (before : List Message) (dataset row column : List ℕ) (value : Value) (accepted : Accepted) : Type 0 where
+  pub message : Message
+  pub new : at_stamp before message.stamp ≡ None
+  pub joined : accepted.device.state.messages ≡ join before (message ∷ [])
+  pub is_latest : latest accepted.device.state.messages (field_of dataset row column) ≡ Some message
+  pub has_value : message.value ≡ value
+  pub pending : accepted.device.batch ≡ record_of message ∷ []
+  pub one : accepted.count ≡ 1
 
 -- a write that is accepted is read back, where the clock is not behind a message: its timestamp is new, and no message of its field is later
 abbrev pub EditsReadBack : Type 0
 EditsReadBack = (s : State) (dataset row column : List ℕ) (value : Value) (reading : ℕ) (accepted : Accepted) → IsAhead s.clock s.messages →
-    edited s (Book (Set dataset row column value)) reading ≡ Ok accepted → IsReadBack dataset row column value accepted
+    edited s (Book (Set dataset row column value)) reading ≡ Ok accepted → IsReadBack s.messages dataset row column value accepted

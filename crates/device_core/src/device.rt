@@ -244,8 +244,7 @@ impl Device {
         }
     }
 
-    /// The records of the new messages of the last accepted line that is not kept yet, each new
-    /// timestamp once, in the order in which they came.
+    /// The records that are pending: `prepare` and `incoming` say which.
     pub fn batch(&self) -> &[Kept]
         requires { self.now.spent ≡ false }
         ensures batch { result.now ≡ self.now.batch }

@@ -59,9 +59,10 @@ pub enum BookEdit {
     },
 }
 
-/// An edit.
+/// What a line may change.
 #[derive(Debug, Drop)]
 pub enum Edit {
+    /// An edit of the household's data.
     Book(BookEdit),
 }
 

@@ -9,9 +9,10 @@ pub fn batches_are_kept()
     ensures { BatchesAreKept }
 {}
 
-/// A law: once a write of a value into a field is accepted, the field has that value, and the record
-/// of the write is pending. So a write is never lost to a message that came before it, whatever clock
-/// that message had.
+/// A law: where the clock is not behind a message, a write of a value into a field that is accepted is
+/// one message under a timestamp that no message had. It joins the messages, is the latest of its
+/// field, so that the field has that value, and its record alone is pending. So a write is never lost
+/// to a message that came before it, whatever clock that message had.
 pub fn edits_read_back()
     ensures { EditsReadBack }
 {}

@@ -132,6 +132,8 @@ fn tells_the_bad_record(rt: HostRuntime) -> Result<(), Fail> {
     for (key, body) in [
         ("x", "categories\tfood\tname\tS:Meals"),
         (SECOND, "categories\tfood\tname"),
+        (SECOND, "categories\tfood\tname\tS:\\q"),
+        (SECOND, "\tfood\tname\tS:Meals"),
     ] {
         let records = records(
             alloc,
