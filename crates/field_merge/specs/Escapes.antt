@@ -15,6 +15,13 @@ escaped_byte b =
 abbrev pub escaped : List ℕ → List ℕ
 escaped text = flat_map escaped_byte text
 
+-- a byte of a line, where a byte 0 or LF that stands as it is gets its escape, and any other byte is left
+abbrev pub raw_escaped : ℕ → List ℕ
+raw_escaped b =
+    if b == 0 then 92 ∷ 48 ∷ []
+    else if b == 10 then 92 ∷ 110 ∷ []
+    else b ∷ []
+
 -- whether a part writes the byte by an escape
 abbrev pub is_special : ℕ → Bool
 is_special b = (b == 0) || ((b == 9) || ((b == 10) || (b == 92)))

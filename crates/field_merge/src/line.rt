@@ -6,7 +6,8 @@ ghost use Rattle.field_values.specs.Names.{field_of, names_fault, AreNames};
 ghost use Rattle.field_values.specs.Value.{value_of, IsValue};
 ghost use Rattle.hybrid_clock.specs.Stamp.{stamp_text, IsStamp};
 ghost use Rattle.hybrid_clock.specs.Reading.{read_stamp};
-ghost use Rattle.field_merge.specs.Escapes.{escaped, unescaped, BeginsWith};
+ghost use Rattle.field_merge.specs.Escapes.{escaped, unescaped, raw_escaped, BeginsWith};
+ghost use Rattle.std.specs.List.{flat_map};
 ghost use Rattle.field_merge.specs.Lines.{reading, parts, of_parts, IsFaultIn};
 ghost use Rattle.field_merge.specs.Messages.{IsMessage, message_line};
 ghost use Rattle.field_merge.specs.declared.line.LineFault.TheVariants.{NoMemory as OutOfMemory};
@@ -272,6 +273,9 @@ pub fn message_lines()
 
     // what is read is a message that may be written
     ensures valid { (line : List ℕ) (m : Message) → reading line ≡ Ok m → IsMessage m }
+
+    // a line that is read as a message is the message's line, but for the bytes 0 and LF that stand in it without their escape
+    ensures writes_back { (line : List ℕ) (m : Message) → reading line ≡ Ok m → message_line m ≡ flat_map raw_escaped line }
 
     // a line has no LF, so lines that LF ends can be told apart
     ensures one_line { (m : Message) → All (λ b. b ≢ 10) (message_line m) }
