@@ -1,5 +1,6 @@
 pub mod EscapeLemmas
 pub mod LineLemmas
+pub mod RawLines
 pub mod StampLemmas
 pub mod Orders
 pub mod Members

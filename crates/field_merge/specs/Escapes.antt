@@ -1,5 +1,5 @@
 -- How a part of a line writes the bytes that may not stand in it: by a backslash and a letter.
-use Rattle.std.specs.Prelude.{ℕ, ◌+◌, List, [], ◌∷◌, Bool, ◌&&◌, ◌||◌, ◌==◌, if◌then◌else◌, Option, None, Some}
+use Rattle.std.specs.Prelude.{◌≡◌, ℕ, ◌+◌, List, [], ◌∷◌, ◌++◌, Bool, ◌&&◌, ◌||◌, ◌==◌, if◌then◌else◌, Option, None, Some}
 use Rattle.std.specs.List.{flat_map}
 
 -- a byte as a part writes it: 0 is `\0`, TAB `\t`, LF `\n`, a backslash `\\`, and any other byte itself
@@ -14,6 +14,13 @@ escaped_byte b =
 -- a text as a part writes it
 abbrev pub escaped : List ℕ → List ℕ
 escaped text = flat_map escaped_byte text
+
+-- a byte of a line, where a byte 0 or LF that stands as it is gets its escape, and any other byte is left
+abbrev pub raw_escaped : ℕ → List ℕ
+raw_escaped b =
+    if b == 0 then 92 ∷ 48 ∷ []
+    else if b == 10 then 92 ∷ 110 ∷ []
+    else b ∷ []
 
 -- whether a part writes the byte by an escape
 abbrev pub is_special : ℕ → Bool
@@ -56,3 +63,7 @@ bad_escape (b ∷ c ∷ rest) =
     if is_escape b c then later 2 (bad_escape rest)
     else if b == 92 then Some 0
     else later 1 (bad_escape (c ∷ rest))
+
+-- the second text is the first, and more behind it or nothing
+abbrev pub BeginsWith : List ℕ → List ℕ → Type 0
+BeginsWith front text = (more : List ℕ) × (text ≡ front ++ more)

@@ -1,5 +1,5 @@
 //! The escapes of a line's parts: `\0`, `\t`, `\n` and `\\` for the bytes 0, 9, 10 and 92.
-ghost use Rattle.std.specs.Prelude.{None, ◌≡◌, ◌<◌, ◌≤◌, ◌++◌, ◌∷◌, length, IfOk, IsTrue, OnOk, MatchOption, position, string_bytes};
+ghost use Rattle.std.specs.Prelude.{None, ◌≡◌, ◌<◌, ◌≤◌, ◌++◌, ◌∷◌, length, IfOk, IsTrue, OnErr, OnOk, MatchOption, position, string_bytes};
 ghost use Rattle.std.specs.Bool.{OnTrue};
 ghost use Rattle.field_merge.specs.Escapes as spec;
 ghost use Rattle.field_merge.specs.Escapes.{escaped, escaped_byte, unescaped};
@@ -167,9 +167,10 @@ fn cut_special(text: &str) -> Option<Cut<'_>>
     })
 }
 
-/// Puts a text at the end of a line, as a part writes it.
+/// Puts a text at the end of a line, as a part writes it. After `NoMemory` the line may have got a part of it.
 pub fn push_escaped(line: &mut String, text: &str) -> Result<(), NoMemory>
-    ensures { OnOk result (string_bytes line.new ≡ string_bytes line.old ++ escaped text.now) }
+    ensures line { OnOk result (string_bytes line.new ≡ string_bytes line.old ++ escaped text.now) }
+    ensures front { OnErr result (spec.BeginsWith (string_bytes line.old) (string_bytes line.new)) }
 {
     let mut rest = text;
     'specials: while let Some(cut) = cut_special(rest) {

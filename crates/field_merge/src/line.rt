@@ -1,12 +1,13 @@
 //! The line of a message, read and written.
-ghost use Rattle.std.specs.Prelude.{ℕ, List, All, ◌≡◌, ◌≢◌, ◌==◌, ◌≤◌, ◌∷◌, ◌++◌, [], length, count_by, IfOk, IfErr, OnOk, MatchOption, MatchResult, IsUtf8, Ok, Some, None, string_bytes};
+ghost use Rattle.std.specs.Prelude.{ℕ, List, All, ◌≡◌, ◌≢◌, ◌==◌, ◌≤◌, ◌∷◌, ◌++◌, [], length, count_by, IfOk, IfErr, OnErr, OnOk, MatchOption, MatchResult, IsUtf8, Ok, Some, None, string_bytes};
 ghost use Rattle.hybrid_clock.specs.declared.stamp.Stamp.{Stamp};
 ghost use Rattle.field_merge.specs.declared.message.Message.{Message};
 ghost use Rattle.field_values.specs.Names.{field_of, names_fault, AreNames};
 ghost use Rattle.field_values.specs.Value.{value_of, IsValue};
 ghost use Rattle.hybrid_clock.specs.Stamp.{stamp_text, IsStamp};
 ghost use Rattle.hybrid_clock.specs.Reading.{read_stamp};
-ghost use Rattle.field_merge.specs.Escapes.{escaped, unescaped};
+ghost use Rattle.field_merge.specs.Escapes.{escaped, unescaped, raw_escaped, BeginsWith};
+ghost use Rattle.std.specs.List.{flat_map};
 ghost use Rattle.field_merge.specs.Lines.{reading, parts, of_parts, IsFaultIn};
 ghost use Rattle.field_merge.specs.Messages.{IsMessage, message_line};
 ghost use Rattle.field_merge.specs.declared.line.LineFault.TheVariants.{NoMemory as OutOfMemory};
@@ -221,7 +222,8 @@ fn text_of(bytes: &[u8]) -> &str
 #[tactic(auto, using(crate::proofs::StampLemmas::stamp_text_escaped, crate::proofs::StampLemmas::stamp_text_utf8))]
 fn push_stamp(line: &mut String, stamp: &Stamp) -> Result<(), NoMemory>
     requires { IsStamp stamp.now }
-    ensures { OnOk result (string_bytes line.new ≡ string_bytes line.old ++ escaped (stamp_text stamp.now)) }
+    ensures line { OnOk result (string_bytes line.new ≡ string_bytes line.old ++ escaped (stamp_text stamp.now)) }
+    ensures front { OnErr result (BeginsWith (string_bytes line.old) (string_bytes line.new)) }
 {
     let mut text = [0u8; 46];
     stamp.write_text(&mut text);
@@ -231,17 +233,19 @@ fn push_stamp(line: &mut String, stamp: &Stamp) -> Result<(), NoMemory>
 
 /// Puts a TAB and an escaped text at the end of a line.
 fn push_part(line: &mut String, text: &str) -> Result<(), NoMemory>
-    ensures { OnOk result (string_bytes line.new ≡ string_bytes line.old ++ 9 ∷ escaped text.now) }
+    ensures line { OnOk result (string_bytes line.new ≡ string_bytes line.old ++ 9 ∷ escaped text.now) }
+    ensures front { OnErr result (BeginsWith (string_bytes line.old) (string_bytes line.new)) }
 {
     line.push('\t')?;
     push_escaped(line, text)
 }
 
-/// Puts a message's line at the end of a text. After NoMemory the text may have got a part of it.
+/// Puts a message's line at the end of a text. After `NoMemory` the text may have got a part of it.
 #[tactic(auto, using(crate::proofs::LineLemmas::line_pushed))]
 pub fn push_line(alloc: Global, line: &mut String, message: &Message) -> Result<(), NoMemory>
     requires { IsMessage message.now }
-    ensures { OnOk result (string_bytes line.new ≡ string_bytes line.old ++ message_line message.now) }
+    ensures line { OnOk result (string_bytes line.new ≡ string_bytes line.old ++ message_line message.now) }
+    ensures front { OnErr result (BeginsWith (string_bytes line.old) (string_bytes line.new)) }
 {
     push_stamp(line, &message.stamp)?;
     push_part(line, message.field.dataset())?;
@@ -269,6 +273,9 @@ pub fn message_lines()
 
     // what is read is a message that may be written
     ensures valid { (line : List ℕ) (m : Message) → reading line ≡ Ok m → IsMessage m }
+
+    // a line that is read as a message is the message's line, but for the bytes 0 and LF that stand in it without their escape
+    ensures writes_back { (line : List ℕ) (m : Message) → reading line ≡ Ok m → message_line m ≡ flat_map raw_escaped line }
 
     // a line has no LF, so lines that LF ends can be told apart
     ensures one_line { (m : Message) → All (λ b. b ≢ 10) (message_line m) }

@@ -58,7 +58,7 @@ fn push_first(
 ) -> Result<bool, NoMemory>
     ensures lines { OnOk result (string_bytes text.new ++ flat_map ended_line (iter_rest left.new) ≡ string_bytes text.old ++ flat_map ended_line (iter_rest left.old)) }
     ensures fewer { length (iter_rest left.new) ≤ length (iter_rest left.old) }
-    ensures some { IfOk result (λ some. MatchBool some (length (iter_rest left.new) < length (iter_rest left.old)) (iter_rest left.old ≡ [])) }
+    ensures some { IfOk result (λ some. MatchBool some (length (iter_rest left.new) < length (iter_rest left.old)) ((iter_rest left.old ≡ []) × (iter_rest left.new ≡ []))) }
 {
     let Some(message) = left.next() else {
         return Ok(false);
@@ -75,9 +75,10 @@ impl<'a> FieldLines<'a> {
     }
 
     /// The lines of the next messages, each with a line feed: 64 KiB and the rest of a line, or all that are left. `None` says
-    /// that no message is left.
+    /// that no message is left. No clause bounds the size of a piece. After `NoMemory` lines may be lost, so ask for no more
+    /// pieces then.
     pub fn next_piece(&mut self) -> Result<Option<Txt>, NoMemory>
-        ensures { IfOk result (λ piece. MatchOption piece (self.old ≡ [])
+        ensures { IfOk result (λ piece. MatchOption piece ((self.old ≡ []) × (self.new ≡ []))
             (λ text. (flat_map ended_line self.old ≡ text ++ flat_map ended_line self.new) × (length self.new < length self.old))) }
     {
         let mut text = String::with_capacity(self.alloc, ROOM)?;

@@ -1,5 +1,6 @@
 -- Each law is a lemma.
 use Rattle.field_merge.proofs.LineLemmas.{reading_of_line, reading_is_message, message_line_on_one_line}
+use Rattle.field_merge.proofs.RawLines.{line_writes_back}
 use Rattle.field_merge.proofs.StampLemmas.{stamp_text_escaped}
 use Rattle.field_merge.proofs.line.message_lines.Goals as goal
 
@@ -8,6 +9,9 @@ returns-clause-reads_back c = reading_of_line
 
 pub returns-clause-valid : goal.returns-clause-valid
 returns-clause-valid c = reading_is_message
+
+pub returns-clause-writes_back : goal.returns-clause-writes_back
+returns-clause-writes_back c = line_writes_back
 
 pub returns-clause-one_line : goal.returns-clause-one_line
 returns-clause-one_line c = message_line_on_one_line
