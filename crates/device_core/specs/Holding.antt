@@ -25,7 +25,8 @@ pub record Holds (group : Text) (entry now : Contents) (ms : List Message) : Typ
   pub others : Others group entry now
 
 -- A group that keeps a message set keeps, when the records of the new ones of other messages are appended,
--- that set joined with these messages; and all else stays.
+-- that set joined with these messages; its records are still those of entry, as they were, and records of
+-- messages of the set; and all else stays.
 abbrev pub BatchesAreKept : Type 0
 BatchesAreKept = (group : Text) (entry now : Contents) (ms ns : List Message) → AreMessages ns → Holds group entry now ms →
     Holds group entry (appended now group (map record_of (new_in ms ns))) (join ms ns)

@@ -4,7 +4,9 @@ ghost use Rattle.device_core.specs.News.{NewOnesAreAdded, GreatestIsTold};
 ghost use Rattle.device_core.specs.ReadBack.{EditsReadBack};
 
 /// A law: a group that keeps a message set keeps, with the records of the new ones of other messages
-/// appended, that set joined with these messages; and all else that is kept stays.
+/// appended, that set joined with these messages. It loses none of the records that it had at entry
+/// and changes none, each other one is just the record of a message of the set, and all else that is
+/// kept stays.
 pub fn batches_are_kept()
     ensures { BatchesAreKept }
 {}
