@@ -4,3 +4,4 @@ pub mod LineLemmas
 pub mod ReadingLemmas
 pub mod ReplyLemmas
 pub mod WrittenLemmas
+pub mod RawLemmas

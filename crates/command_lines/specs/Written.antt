@@ -1,8 +1,8 @@
--- How a command is written as a line, and that the line reads back.
+-- How a command is written as a line, that the line reads back, and that a line that was read is written back.
 use Rattle.std.specs.Prelude.{◌≡◌, ◌≤◌, ℕ, List, [], ◌∷◌, length, map, codes, Ok}
-use Rattle.std.specs.List.{join_with_byte}
+use Rattle.std.specs.List.{flat_map, join_with_byte}
 use Rattle.field_values.specs.Value.{value_text}
-use Rattle.field_merge.specs.Escapes.{escaped}
+use Rattle.field_merge.specs.Escapes.{escaped, raw_escaped}
 use Rattle.field_merge.specs.Messages.{message_texts}
 use Rattle.device_core.specs.declared.edit.Edit.TheVariants.{Book}
 use Rattle.device_core.specs.declared.edit.BookEdit.TheVariants.{Set}
@@ -26,3 +26,7 @@ command_line c = join_with_byte 9 (map escaped (command_texts c))
 -- the line of a command, where it is not too long, is read as the command
 abbrev pub CommandsReadBack : Type 0
 CommandsReadBack = (c : Command) → IsCommand c → length (command_line c) ≤ longest_line → command (command_line c) ≡ Ok c
+
+-- a line that is read as a command is the line of the command, but for the bytes 0 and LF that stand in it without their escape
+abbrev pub LinesWriteBack : Type 0
+LinesWriteBack = (line : List ℕ) (c : Command) → command line ≡ Ok c → command_line c ≡ flat_map raw_escaped line

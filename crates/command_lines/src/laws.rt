@@ -1,10 +1,10 @@
 //! Facts about lines and replies, which a proof can call for.
 ghost use Rattle.command_lines.specs.ReplyLines.{RepliesAreLines};
-ghost use Rattle.command_lines.specs.Written.{CommandsReadBack};
+ghost use Rattle.command_lines.specs.Written.{CommandsReadBack, LinesWriteBack};
 
 use field_merge::message_lines;
-use field_values::value::values_read_back;
-use hybrid_clock::text_reads_back;
+use field_values::value::{texts_write_back, values_read_back};
+use hybrid_clock::{read_writes_back, text_reads_back};
 
 /// A law: a reader who cuts the text of a reply at its line feeds finds the lines of the reply, if no
 /// text of it has a line feed. And no text of a reply of this crate has one, unless a row's id has one.
@@ -21,4 +21,14 @@ pub fn commands_read_back()
 {
     values_read_back();
     text_reads_back();
+}
+
+/// A law: a line that is read as a command is the line of that command, but for the bytes 0 and LF that stand in it without
+/// their escape. So each word of it counts, none has a bad escape, and lines that differ in anything else are read as
+/// different commands.
+pub fn lines_write_back()
+    ensures { LinesWriteBack }
+{
+    texts_write_back();
+    read_writes_back();
 }
