@@ -1,7 +1,6 @@
 -- A device's run as a whole.
-use Rattle.std.proofs.Common.{◌≡◌, ℕ, ◌<◌, ◌≤◌, ◌⊎◌, inl, inr, List, [], ◌++◌, refl, ap, sym, ◌∙◌, subst, Bool, true, false, cond, Option, Some, Result, Ok, Err, OnOk, OnErr, length, take, append-nil, arith}
+use Rattle.std.proofs.Common.{◌≡◌, ℕ, ◌≤◌, inl, inr, List, [], refl, ap, sym, ◌∙◌, subst, Bool, true, false, cond, Option, Some, Result, Ok, Err, OnOk, OnErr, length, take, arith}
 use Rattle.std.proofs.KnownBytes.{Consumes-nil, Appends-nil}
-use Rattle.std.proofs.lemmas.Bool.{lt-ltb, le-ltb, cases_lt, cond-true, cond-false}
 use Rattle.std.specs.Io.KnownBytes.{Appends, Consumes, IsAtEnd}
 use Rattle.std.specs.Result.{is_err}
 use Rattle.budget_ports.specs.Faults.{count_after}
@@ -13,18 +12,17 @@ use Rattle.budget_top.specs.declared.session.Session.{Session}
 use Rattle.budget_top.specs.declared.stop.DeviceStop.{DeviceStop}
 use Rattle.budget_top.specs.declared.stop.DeviceStop.TheVariants.{Run, Keeper}
 use Rattle.budget_top.specs.declared.stop.Stop.TheVariants.{Memory, Sink}
-use Rattle.budget_top.specs.Lines.{whole_lines, all_lines, line_if_some, last_piece}
+use Rattle.budget_top.specs.Lines.{whole_lines}
 use Rattle.budget_top.specs.Limits.{most_input, HasRead, AreDue}
 use Rattle.budget_top.specs.Seen.{device_group, Seen, Holds}
 use Rattle.budget_top.specs.Handling.{IsOpened}
 use Rattle.budget_top.specs.Stops.{device_stop_status}
-use Rattle.budget_top.specs.Standing.{Entry, AreFirst, Handles, IsReady, Stands, Ended, BreaksAs}
+use Rattle.budget_top.specs.Standing.{Entry, Handles, IsReady, Stands, Ended, BreaksAs}
 use Rattle.budget_top.specs.DeviceRun.{HandlesAll, HandlesTaken, HandlesLimit, HasAnswered, TellsBadRecord, bad_record_text, entry}
 use Rattle.budget_ports.specs.declared.stream.Failed.{Failed}
 use Rattle.budget_top.specs.Fronts.{AppendsFront}
 use Rattle.budget_top.proofs.Standing.{appends_as, front_as}
 use Rattle.budget_top.proofs.Folding.{takes_none}
-use Rattle.budget_top.proofs.Reading.{all_of}
 use Rattle.budget_top.proofs.Serving.{breaks_from}
 
 -- reading

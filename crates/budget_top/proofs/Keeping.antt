@@ -133,3 +133,6 @@ brings_new law old device b some same = by (new_in old b.news) refl
 -- by the messages that are meant
 pub carries_along : (old new meant : List Message) (before now : Contents) → new ≡ meant → Carries old new before now → Carries old meant before now
 carries_along old new meant before now same h = subst (λ (ms : List Message). Carries old ms before now) same h
+
+pub either_along : (old new meant : List Message) (before now : Contents) → new ≡ meant → CarriesEither old new before now → CarriesEither old meant before now
+either_along old new meant before now same h = subst (λ (ms : List Message). CarriesEither old ms before now) same h

@@ -38,6 +38,6 @@ given_in_part a b c left rest ms piece text g e p f =
     front_as a c (g.given ++ (text ++ flat_map ended_line rest)) (flat_map ended_line ms) (ap (λ t. g.given ++ t) (sym e) ∙ g.whole)
     (front_then a b c g.given (text ++ flat_map ended_line rest) g.written (front_more b c text (flat_map ended_line rest) (front_as b c piece text p f)))
 
-pub told_piece : (o : Option (List ℕ)) (piece : List ℕ) (left rest : List Message) → o ≡ Some piece → MatchOption o (left ≡ []) (λ text. (flat_map ended_line left ≡ text ++ flat_map ended_line rest) × (length rest < length left)) → flat_map ended_line left ≡ piece ++ flat_map ended_line rest
+pub told_piece : (o : Option (List ℕ)) (piece : List ℕ) (left rest : List Message) → o ≡ Some piece → MatchOption o ((left ≡ []) × (rest ≡ [])) (λ text. (flat_map ended_line left ≡ text ++ flat_map ended_line rest) × (length rest < length left)) → flat_map ended_line left ≡ piece ++ flat_map ended_line rest
 told_piece o piece left rest is h =
-    (subst (λ (p : Option (List ℕ)). MatchOption p (left ≡ []) (λ text. (flat_map ended_line left ≡ text ++ flat_map ended_line rest) × (length rest < length left))) is h).0
+    (subst (λ (p : Option (List ℕ)). MatchOption p ((left ≡ []) × (rest ≡ [])) (λ text. (flat_map ended_line left ≡ text ++ flat_map ended_line rest) × (length rest < length left))) is h).0

@@ -1,19 +1,18 @@
 -- The run as a whole.
-use Rattle.std.proofs.Common.{◌≡◌, inl, inr, ℕ, ◌+◌, ◌≤◌, List, [], ◌++◌, refl, sym, subst, Option, length, take, drop, arith}
-use Rattle.std.proofs.lemmas.List.{take-append-drop}
+use Rattle.std.proofs.Common.{◌≡◌, inl, inr, ℕ, ◌+◌, ◌≤◌, List, [], refl, sym, subst, Option, length, take, arith}
 use Rattle.std.proofs.KnownBytes.{Consumes-nil}
 use Rattle.std.specs.Io.KnownBytes.{Appends, Consumes, IsAtEnd}
 use Rattle.budget_top.specs.declared.stop.Stop.{Stop}
 use Rattle.budget_top.specs.declared.stop.Stop.TheVariants.{Memory, Sink}
 use Rattle.budget_top.specs.Lines.{whole_lines}
 use Rattle.budget_top.specs.Verdicts.{bad_lines, merge_text}
-use Rattle.budget_top.specs.Fronts.{IsFront, AppendsFront}
+use Rattle.budget_top.specs.Fronts.{AppendsFront}
 use Rattle.budget_top.specs.Limits.{most_input, HasRead}
 use Rattle.budget_top.specs.MergeRun.{MergeRun, BreaksOff}
 use Rattle.budget_top.specs.declared.merge.Merge.{Merge}
 use Rattle.budget_top.specs.Stops.{stop_status}
 use Rattle.budget_top.specs.Steps.{Stands}
-use Rattle.budget_top.proofs.Standing.{part_of_more, part_of_merge, front_none}
+use Rattle.budget_top.proofs.Standing.{front_none}
 
 -- so many bytes were read and dealt with
 pub record ReadSoFar (left new_left entry now : Option (List ℕ)) (count : ℕ) (m : Merge) : Type 0 where
