@@ -17,7 +17,8 @@ use Rattle.budget_top.specs.Limits.{most_input, HasRead, AreDue}
 use Rattle.budget_top.specs.Seen.{device_group, Seen, Holds}
 use Rattle.budget_top.specs.Handling.{IsOpened}
 use Rattle.budget_top.specs.Stops.{device_stop_status}
-use Rattle.budget_top.specs.Standing.{Entry, Handles, IsReady, Stands, Ended, BreaksAs}
+use Rattle.budget_top.specs.Standing.{Entry, Handles}
+use Rattle.budget_top.specs.DeviceSteps.{IsReady, Stands, Ended, BreaksAs}
 use Rattle.budget_top.specs.DeviceRun.{HandlesAll, HandlesTaken, HandlesLimit, HasAnswered, TellsBadRecord, bad_record_text, entry}
 use Rattle.budget_ports.specs.declared.stream.Failed.{Failed}
 use Rattle.budget_top.specs.Fronts.{AppendsFront}

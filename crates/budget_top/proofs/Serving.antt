@@ -27,7 +27,8 @@ use Rattle.budget_top.specs.Session.{Input, asked, asked_kept, obeyed, step, aft
 use Rattle.budget_top.specs.Seen.{Seen, Holds}
 use Rattle.budget_top.specs.Handling.{IsHandled, Carries, CarriesEither, HoldsEither}
 use Rattle.budget_top.specs.Stops.{stop_of}
-use Rattle.budget_top.specs.Standing.{Entry, lines_of, readings_of, AreFirst, Stands, Ended, Halts, Cuts, BreaksAs}
+use Rattle.budget_top.specs.Standing.{Entry, lines_of, readings_of, AreFirst, Halts, Cuts}
+use Rattle.budget_top.specs.DeviceSteps.{Stands, Ended, BreaksAs}
 use Rattle.budget_top.proofs.Cutting.{whole_lines-within, last_piece-within, whole_lines-end, last_piece-end, whole_lines-append}
 use Rattle.budget_top.proofs.Standing.{appends_as, kept-append}
 use Rattle.budget_top.proofs.Ending.{one_begun}

@@ -8,16 +8,12 @@ use Rattle.budget_ports.specs.Keeper.{Only, LeavesNoMore}
 use Rattle.field_merge.specs.declared.message.Message.{Message}
 use Rattle.device_core.specs.Records.{kept_set}
 use Rattle.device_core.specs.Device.{State, begun}
-use Rattle.budget_top.specs.declared.session.Session.{Session}
-use Rattle.budget_top.specs.declared.stop.DeviceStop.{DeviceStop}
-use Rattle.budget_top.specs.declared.input.End.{End}
-use Rattle.budget_top.specs.declared.input.End.TheVariants.{AtEnd, SourceFailed, TooMuch, Stopped}
 use Rattle.budget_top.specs.Lines.{whole_lines, all_lines}
 use Rattle.budget_top.specs.Limits.{most_input, HasRead, AreDue}
 use Rattle.budget_top.specs.Fronts.{AppendsFront}
 use Rattle.budget_top.specs.Session.{some_refused}
 use Rattle.budget_top.specs.Seen.{device_records, Seen}
-use Rattle.budget_top.specs.Standing.{Entry, Handles, Stands, Halts, FailsToKeep, Cuts, BreaksAs}
+use Rattle.budget_top.specs.Standing.{Entry, Handles, Halts, FailsToKeep, Cuts}
 
 -- a run with these things told began in this state
 abbrev pub entry : Seen → State → Entry
@@ -96,15 +92,3 @@ pub record Opened (node : List ℕ) (status : ℕ) (left new_left : Option (List
 pub record DeviceRun (node : List ℕ) (status : ℕ) (left new_left : Option (List ℕ)) (faults new_faults : ℕ) (old now : Seen) : Type 0 where
   pub told : now.tells → old.tells
   pub opening : Unopened status left new_left faults new_faults old now ⊎ Opened node status left new_left old now
-
--- how reading ended
-abbrev pub EndsAs : End DeviceStop → Entry → Type 0 → Session → List ℕ → Seen → Type 0
-EndsAs AtEnd e alone session read now = (length read ≤ most_input) × Stands e read session now
-EndsAs SourceFailed e alone session read now = (length read ≤ most_input) × Handles e (whole_lines read) now
-EndsAs TooMuch e alone session read now = (most_input < length read) × Handles e (whole_lines (take most_input read)) now
-EndsAs (Stopped stop) e alone session read now = BreaksAs stop e alone (whole_lines (take most_input read)) now
-
--- it ended by itself
-abbrev pub IsWhole : End DeviceStop → Type 0
-IsWhole (Stopped stop) = ⊥
-IsWhole end = Unit {0}

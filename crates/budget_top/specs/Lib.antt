@@ -16,3 +16,4 @@ pub mod Seen
 pub mod Handling
 pub mod Standing
 pub mod DeviceRun
+pub mod DeviceSteps

@@ -1,20 +1,14 @@
 -- Where a device's run stands between two lines, and how it breaks off.
-use Rattle.std.specs.Prelude.{◌≡◌, ◌≢◌, ◌≤◌, ℕ, List, [], ◌∷◌, ◌++◌, length, map, false, Option}
+use Rattle.std.specs.Prelude.{◌≡◌, ◌≢◌, ◌≤◌, ℕ, List, [], ◌∷◌, ◌++◌, length, map, Option}
 use Rattle.std.specs.Io.KnownBytes.{Appends}
 use Rattle.budget_ports.specs.Contents.{Contents}
 use Rattle.budget_ports.specs.Keeper.{Only}
 use Rattle.budget_ports.specs.Readings.{Readings, Takes}
 use Rattle.device_core.specs.Device.{State}
 use Rattle.command_lines.specs.Replies.{reply_text_of}
-use Rattle.budget_top.specs.declared.session.Session.{Session}
-use Rattle.budget_top.specs.declared.stop.DeviceStop.{DeviceStop}
-use Rattle.budget_top.specs.declared.stop.DeviceStop.TheVariants.{Run, Keeper}
-use Rattle.budget_top.specs.declared.stop.Stop.TheVariants.{Memory, Sink}
-use Rattle.budget_top.specs.Lines.{whole_lines, last_piece, all_lines}
-use Rattle.budget_top.specs.Kept.{kept}
 use Rattle.budget_top.specs.Fronts.{IsFront}
-use Rattle.budget_top.specs.Session.{Input, step, after, replies, some_refused}
-use Rattle.budget_top.specs.Seen.{device_group, Seen, Holds}
+use Rattle.budget_top.specs.Session.{Input, step, after, replies}
+use Rattle.budget_top.specs.Seen.{Seen, Holds}
 use Rattle.budget_top.specs.Handling.{HoldsEither}
 
 -- how a run began: what the sink, the clock and the keeper told, and the state that the device had
@@ -42,24 +36,6 @@ pub record Handles (e : Entry) (handled : List (List ℕ)) (now : Seen) : Type 0
   pub took : Takes e.readings now.readings (readings_of inputs)
   pub written : Appends e.taken now.taken (replies e.start inputs)
   pub keeper : now.tells → Holds e.contents now.contents (after e.start inputs).messages
-
--- no line is in hand: all that was made is kept, and the group is the device's
-pub record IsReady (session : Session) : Type 0 where
-  pub live : session.device.spent ≡ false
-  pub idle : session.device.batch ≡ []
-  pub group : session.group ≡ device_group
-
--- these bytes were read, and their whole lines handled
-pub record Stands (e : Entry) (read : List ℕ) (session : Session) (now : Seen) : Type 0 where
-  pub handled : Handles e (whole_lines read) now
-  pub line : session.line ≡ kept (last_piece read)
-  pub state : session.device.state ≡ after e.start handled.inputs
-  pub bad : session.bad ≡ some_refused e.start handled.inputs
-
--- these bytes were read to their end, and all lines handled
-pub record Ended (e : Entry) (read : List ℕ) (session : Session) (now : Seen) : Type 0 where
-  pub handled : Handles e (all_lines read) now
-  pub bad : session.bad ≡ some_refused e.start handled.inputs
 
 -- The run broke off between the lines that were due, or in one of them before its reply. That line took its reading, and
 -- nothing that it made is kept; but a stop may leave all that it made, where it could leave the contents alone before.
@@ -90,9 +66,3 @@ pub record Cuts (e : Entry) (alone : Type 0) (due : List (List ℕ)) (now : Seen
   pub written : Appends e.taken now.taken (replies e.start inputs ++ part)
   pub keeper : now.tells → Holds e.contents now.contents (after e.start (inputs ++ last ∷ [])).messages
   pub stops : now.tells → alone → Only now.contents now.left
-
--- how it breaks off for this cause
-abbrev pub BreaksAs : DeviceStop → Entry → Type 0 → List (List ℕ) → Seen → Type 0
-BreaksAs (Run Memory) e alone due now = Halts e alone due now
-BreaksAs Keeper e alone due now = FailsToKeep e alone due now
-BreaksAs (Run Sink) e alone due now = Cuts e alone due now

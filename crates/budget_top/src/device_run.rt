@@ -7,8 +7,10 @@ ghost use Rattle.budget_ports.specs.Keeper.{Only};
 ghost use Rattle.budget_top.specs.Limits.{HasRead};
 ghost use Rattle.budget_top.specs.Stops.{device_end_status};
 ghost use Rattle.budget_top.specs.Seen.{seen};
-ghost use Rattle.budget_top.specs.Standing.{Entry, IsReady, Stands};
-ghost use Rattle.budget_top.specs.DeviceRun.{HasAnswered, DeviceRun, EndsAs, IsWhole, TellsBadRecord};
+ghost use Rattle.budget_top.specs.Standing.{Entry};
+ghost use Rattle.budget_top.specs.DeviceSteps.{IsReady, Stands};
+ghost use Rattle.budget_top.specs.DeviceRun.{HasAnswered, DeviceRun, TellsBadRecord};
+ghost use Rattle.budget_top.specs.DeviceSteps.{EndsAs, IsWhole};
 
 use crate::begun::Begun;
 use crate::dispatch::{

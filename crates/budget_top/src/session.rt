@@ -27,7 +27,8 @@ impl Session {
     ghost use Rattle.budget_top.specs.Stops.{device_step_status};
     ghost use Rattle.budget_top.specs.Lines.{whole_lines, all_lines};
     ghost use Rattle.budget_top.specs.Seen.{seen};
-    ghost use Rattle.budget_top.specs.Standing.{Entry, IsReady, Stands, Ended, BreaksAs};
+    ghost use Rattle.budget_top.specs.Standing.{Entry};
+    ghost use Rattle.budget_top.specs.DeviceSteps.{IsReady, Stands, Ended, BreaksAs};
 
     /// Handles the line that has begun, and begins the next one.
     fn end_line<W: Sink, K: Keeper, C: WallClock, G: Ledger>(

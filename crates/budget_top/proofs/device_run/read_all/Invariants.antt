@@ -1,7 +1,7 @@
 use Rattle.std.proofs.Common.{◌≡◌, ◌≤◌, ◌-◌}
 use Rattle.budget_ports.specs.Keeper.{Only}
 use Rattle.budget_top.specs.Seen.{seen}
-use Rattle.budget_top.specs.Standing.{IsReady}
+use Rattle.budget_top.specs.DeviceSteps.{IsReady}
 use Rattle.budget_top.proofs.Answering.{ReadSoFar}
 use Rattle.budget_top.proofs.device_run.read_all.Given as goal
 

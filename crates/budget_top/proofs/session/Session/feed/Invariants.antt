@@ -1,7 +1,8 @@
 use Rattle.std.proofs.Common.{◌≡◌, ◌≤◌, ◌-◌, ◌++◌, List, ℕ, take, length}
 use Rattle.budget_ports.specs.Keeper.{Only}
 use Rattle.budget_top.specs.Seen.{seen}
-use Rattle.budget_top.specs.Standing.{Entry, IsReady, Stands}
+use Rattle.budget_top.specs.Standing.{Entry}
+use Rattle.budget_top.specs.DeviceSteps.{IsReady, Stands}
 use Rattle.budget_top.proofs.session.Session.feed.Given as goal
 
 abbrev pub invariant-lines : goal.invariant-lines
