@@ -7,7 +7,7 @@ use Rattle.std.specs.FinMap.{FinMap, IsAntisymmetric, nat_cmp-IsAntisymmetric, s
 use Rattle.std.specs.FinMap.{from_entries}
 use Rattle.std.specs.BTreeMap.{is_at}
 use Rattle.std.specs.Map.{lookup}
-use Rattle.budget_ports.specs.declared.keeper.Kept.{Kept}
+use Rattle.budget_ports.specs.declared.keeper.Record.{Record}
 use Rattle.budget_ports.specs.Contents.{Text, text_cmp, Place, place_cmp, with_record}
 use Rattle.budget_ports.proofs.Maps.{get_is, one_put}
 use Rattle.budget_ports.specs.Undoing.{taken_out}
@@ -74,12 +74,12 @@ at_place es p = lookup (is_at (place_cmp p)) es
 pub has : (es : List (Place × Text)) (m : FinMap place_cmp Text) (p : Place) → from_entries es ≡ m → contains_key m p ≡ is_some (at_place es p)
 has es m p is = ap is_some (ap (λ n. get n p) (sym is) ∙ get_is place_total place_same es p)
 
-pub there_already : (m : FinMap place_cmp Text) (p : Place) (group : Text) (r : Kept) → p ≡ (group, r.key) → contains_key m p ≡ true → m ≡ with_record group m r
+pub there_already : (m : FinMap place_cmp Text) (p : Place) (group : Text) (r : Record) → p ≡ (group, r.key) → contains_key m p ≡ true → m ≡ with_record group m r
 there_already m p group r at there =
     let known : contains_key m (group, r.key) ≡ true = ap (contains_key m) (sym at) ∙ there in
     rw known refl
 
-pub one_added : (es fs : List (Place × Text)) (m : FinMap place_cmp Text) (p : Place) (body group : Text) (r : Kept) → from_entries es ≡ m → p ≡ (group, r.key) → body ≡ r.body → contains_key m p ≡ false
+pub one_added : (es fs : List (Place × Text)) (m : FinMap place_cmp Text) (p : Place) (body group : Text) (r : Record) → from_entries es ≡ m → p ≡ (group, r.key) → body ≡ r.body → contains_key m p ≡ false
     → ((q : Place) → at_place fs q ≡ cond (is_at (place_cmp p) q) (Some body) (at_place es q)) → from_entries fs ≡ with_record group m r
 one_added es fs m p body group r is at what new puts =
     let unknown : contains_key m (group, r.key) ≡ false = ap (contains_key m) (sym at) ∙ new in
@@ -87,7 +87,7 @@ one_added es fs m p body group r is at what new puts =
     ∙ ap (insert m (group, r.key)) what ∙ sym (rw unknown refl)
 
 -- what was added last is taken out first
-pub last_out : (es fs : List (Place × Text)) (m : FinMap place_cmp Text) (p q : Place) (body group : Text) (r : Kept) (ps : List Place) → from_entries es ≡ m → p ≡ (group, r.key) → q ≡ (group, r.key) → contains_key m p ≡ false
+pub last_out : (es fs : List (Place × Text)) (m : FinMap place_cmp Text) (p q : Place) (body group : Text) (r : Record) (ps : List Place) → from_entries es ≡ m → p ≡ (group, r.key) → q ≡ (group, r.key) → contains_key m p ≡ false
     → ((q : Place) → at_place fs q ≡ cond (is_at (place_cmp p) q) (Some body) (at_place es q)) → taken_out (from_entries fs) (ps ++ q ∷ []) ≡ taken_out m ps
 last_out es fs m p q body group r ps is at also new puts =
     let same : q ≡ p = also ∙ sym at in
@@ -95,7 +95,7 @@ last_out es fs m p q body group r ps is at also new puts =
     ∙ ap (λ n. taken_out n ps) (ap₂ (λ (n : FinMap place_cmp Text) (x : Place). remove n x) (one_put place_total place_same es fs p body puts ∙ ap (λ n. insert n p body) is) same ∙ in_and_out m p body new)
 
 -- what was not added is not taken out
-pub none_out : (es fs : List (Place × Text)) (m : FinMap place_cmp Text) (p q : Place) (group : Text) (r : Kept) (ps : List Place) → from_entries es ≡ m → p ≡ (group, r.key) → q ≡ (group, r.key) → contains_key m p ≡ false
+pub none_out : (es fs : List (Place × Text)) (m : FinMap place_cmp Text) (p q : Place) (group : Text) (r : Record) (ps : List Place) → from_entries es ≡ m → p ≡ (group, r.key) → q ≡ (group, r.key) → contains_key m p ≡ false
     → fs ≡ es → taken_out (from_entries fs) (ps ++ q ∷ []) ≡ taken_out m ps
 none_out es fs m p q group r ps is at also new same =
     taken_out_push (from_entries fs) ps q

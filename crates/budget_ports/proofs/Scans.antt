@@ -5,7 +5,7 @@ use Rattle.std.specs.List.{AllByRecursion}
 use Rattle.std.specs.Cmp.{tied_itself}
 use Rattle.std.specs.Cmp.Lexicographic.{texts_ties}
 use Rattle.std.proofs.lemmas.Bool.{cases_Bool, and_parts}
-use Rattle.budget_ports.specs.declared.keeper.Kept.{Kept}
+use Rattle.budget_ports.specs.declared.keeper.Record.{Record}
 use Rattle.std.specs.FinMap.{FinMap, entries, from_entries}
 use Rattle.std.specs.Map.{keys_of}
 use Rattle.std.specs.List.Sorted.{IsStrictlySortedBy}
@@ -14,7 +14,7 @@ use Rattle.budget_ports.proofs.Maps.{IsRising, rising, entries_are}
 use Rattle.budget_ports.proofs.Places.{text_total, text_same, place_total, place_same}
 
 -- the records of a group among entries
-abbrev pub of_group : Text → Text → List (Place × Text) → List Kept
+abbrev pub of_group : Text → Text → List (Place × Text) → List Record
 of_group group after es = map of_entry (filter (is_in group after) es)
 
 -- each entry stands above a place
@@ -147,13 +147,13 @@ tells_apart a b h = sym (texts_ties a b) ∙ go (bytes_eq a b) h
     go false h = refl
 
 -- what the scan has found and what is left
-pub one_found : (found new : List Kept) (group after : Text) (e : Place × Text) (es old : List (Place × Text)) (r : Kept) (all : List Kept) → old ≡ e ∷ es → Above (group, after) old → is_eq (text_cmp e.0.0 group) ≡ true
+pub one_found : (found new : List Record) (group after : Text) (e : Place × Text) (es old : List (Place × Text)) (r : Record) (all : List Record) → old ≡ e ∷ es → Above (group, after) old → is_eq (text_cmp e.0.0 group) ≡ true
     → new ≡ found ++ r ∷ [] → r ≡ of_entry e → found ++ of_group group after old ≡ all → new ++ of_group group after es ≡ all
 one_found found new group after e es old r all is above tied push what so_far =
     ap (λ l. l ++ of_group group after es) (push ∙ ap (λ x. found ++ x ∷ []) what) ∙ append_assoc found (of_entry e ∷ []) (of_group group after es)
     ∙ ap (λ l. found ++ l) (sym (scan_next group after e es (subst (Above (group, after)) is above) tied)) ∙ ap (λ l. found ++ of_group group after l) (sym is) ∙ so_far
 
-pub all_found : (found : List Kept) (group after : Text) (e : Place × Text) (es old : List (Place × Text)) (all : List Kept) → old ≡ e ∷ es → Above (group, after) old → IsRising place_cmp old → is_eq (text_cmp e.0.0 group) ≡ false
+pub all_found : (found : List Record) (group after : Text) (e : Place × Text) (es old : List (Place × Text)) (all : List Record) → old ≡ e ∷ es → Above (group, after) old → IsRising place_cmp old → is_eq (text_cmp e.0.0 group) ≡ false
     → found ++ of_group group after old ≡ all → found ≡ all
 all_found found group after e es old all is above up apart so_far =
     sym (append-nil found) ∙ ap (λ l. found ++ l) (sym (scan_end group after e es (subst (Above (group, after)) is above) (subst (IsRising place_cmp) is up) apart)) ∙ ap (λ l. found ++ of_group group after l) (sym is) ∙ so_far

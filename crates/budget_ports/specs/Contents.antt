@@ -4,7 +4,7 @@ use Rattle.std.specs.Ordering.{nat_cmp, ordering_then, is_lt, is_eq}
 use Rattle.std.specs.declared.cmp.Ordering.{Ordering}
 use Rattle.std.specs.Cmp.Lexicographic.{slice_cmp}
 use Rattle.std.specs.FinMap.{FinMap, entries, empty, contains_key, insert}
-use Rattle.budget_ports.specs.declared.keeper.Kept.{Kept}
+use Rattle.budget_ports.specs.declared.keeper.Record.{Record}
 
 -- the bytes of a text
 abbrev pub Text : Type 0
@@ -35,26 +35,26 @@ abbrev pub is_in : Text → Text → Place × Text → Bool
 is_in group after entry = is_eq (text_cmp entry.0.0 group) && is_lt (text_cmp after entry.0.1)
 
 -- an entry as a record, whose group is known
-abbrev pub of_entry : Place × Text → Kept
+abbrev pub of_entry : Place × Text → Record
 of_entry entry = record { key = entry.0.1; body = entry.1 }
 
 -- the records of a group with a key above this one, by key
-abbrev pub records_of_after : FinMap place_cmp Text → Text → Text → List Kept
+abbrev pub records_of_after : FinMap place_cmp Text → Text → Text → List Record
 records_of_after m group after = map of_entry (filter (is_in group after) (entries m))
 
-abbrev pub records_after : Contents → Text → Text → List Kept
+abbrev pub records_after : Contents → Text → Text → List Record
 records_after k group after = records_of_after k.records group after
 
 -- a record whose key is there is left out
-abbrev pub with_record : Text → FinMap place_cmp Text → Kept → FinMap place_cmp Text
+abbrev pub with_record : Text → FinMap place_cmp Text → Record → FinMap place_cmp Text
 with_record group m r = if contains_key m (group, r.key) then m else insert m (group, r.key) r.body
 
 -- so of several records of one key the first counts
-abbrev pub with_records : Text → FinMap place_cmp Text → List Kept → FinMap place_cmp Text
+abbrev pub with_records : Text → FinMap place_cmp Text → List Record → FinMap place_cmp Text
 with_records group m [] = m
 with_records group m (r ∷ rs) = with_records group (with_record group m r) rs
 
-abbrev pub appended : Contents → Text → List Kept → Contents
+abbrev pub appended : Contents → Text → List Record → Contents
 appended k group batch = record k { records = with_records group k.records batch }
 
 -- a name has one text, the last that was put

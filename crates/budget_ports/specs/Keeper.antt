@@ -4,7 +4,7 @@ use Rattle.std.specs.List.{AllByRecursion}
 use Rattle.std.specs.declared.cmp.Ordering.TheVariants.{Less}
 use Rattle.budget_ports.specs.declared.keeper.PortFault.{PortFault}
 use Rattle.budget_ports.specs.declared.keeper.PortFault.TheVariants.{Failed, NoMemory}
-use Rattle.budget_ports.specs.declared.keeper.Kept.{Kept}
+use Rattle.budget_ports.specs.declared.keeper.Record.{Record}
 use Rattle.budget_ports.specs.Contents.{Contents, text_cmp}
 
 -- whether the outside failed: a want of memory is no failure of it
@@ -14,11 +14,11 @@ has_failed (Err Failed) = true
 has_failed (Err NoMemory) = false
 
 -- each key has at least one byte
-abbrev pub HaveKeys : List Kept → Type 0
+abbrev pub HaveKeys : List Record → Type 0
 HaveKeys = AllByRecursion (λ r. 0 < length r.key)
 
 -- each key has at least one byte and is below each later one
-abbrev pub Rise : List Kept → Type 0
+abbrev pub Rise : List Record → Type 0
 Rise [] = Unit {0}
 Rise (r ∷ rs) = (0 < length r.key) × AllByRecursion (λ s. text_cmp r.key s.key ≡ Less) rs × Rise rs
 

@@ -37,25 +37,25 @@ impl From<NoMemory> for PortFault {
 
 /// A record that is kept under its key.
 #[derive(Debug, PartialEq, Eq, Drop)]
-pub struct Kept {
+pub struct Record {
     pub key: Txt,
     pub body: Txt,
 }
 
-impl Kept {
+impl Record {
     /// A record with the same key and body.
-    pub fn copy(&self) -> Result<Kept, NoMemory>
+    pub fn copy(&self) -> Result<Record, NoMemory>
         ensures { IfOk result (λ r. r ≡ self.now) }
     {
-        Ok(Kept {
+        Ok(Record {
             key: self.key.copy()?,
             body: self.body.copy()?,
         })
     }
 }
 
-impl Copied for Kept {
-    fn copied(&self) -> Result<Kept, NoMemory> {
+impl Copied for Record {
+    fn copied(&self) -> Result<Record, NoMemory> {
         self.copy()
     }
 }
@@ -83,7 +83,7 @@ pub trait Keeper {
     ///
     /// It is one commit: a stop leaves all of it or nothing of it. After `Failed` and after
     /// `NoMemory` the contents are as before.
-    fn append(&mut self, group: &Txt, batch: &[Kept]) -> Result<(), PortFault>
+    fn append(&mut self, group: &Txt, batch: &[Record]) -> Result<(), PortFault>
         requires { HaveKeys batch.now }
         ensures told { tells self.new → tells self.old }
         ensures ok { tells self.new → OnOk result (contents self.new ≡ appended (contents self.old) group.now batch.now) }
@@ -97,7 +97,7 @@ pub trait Keeper {
     ///
     /// Their keys rise and none is empty, whether the keeper tells or not. So after an empty text
     /// all records of the group are given.
-    fn since(&mut self, group: &Txt, after: &Txt) -> Result<Items<Kept>, PortFault>
+    fn since(&mut self, group: &Txt, after: &Txt) -> Result<Items<Record>, PortFault>
         ensures told { tells self.new → tells self.old }
         ensures records { tells self.new → IfOk result (λ rs. rs ≡ records_after (contents self.old) group.now after.now) }
         ensures rise { IfOk result Rise }

@@ -1,14 +1,14 @@
 ghost use Rattle.std.specs.Prelude.{◌≡◌, IfOk};
 
-use crate::{Keeper, Kept, ListClock, MemoryKeeper, PortFault, WallClock};
+use crate::{Keeper, ListClock, MemoryKeeper, PortFault, Record, WallClock};
 use field_values::{NoMemory, Txt};
 use std::alloc::Global;
 use std::test::Fail;
 
-fn kept(alloc: Global, key: &str, body: &str) -> Result<Kept, NoMemory>
+fn kept(alloc: Global, key: &str, body: &str) -> Result<Record, NoMemory>
     ensures { IfOk result (λ r. r ≡ record { key = key.now; body = body.now }) }
 {
-    Ok(Kept {
+    Ok(Record {
         key: Txt::from_text(alloc, key)?,
         body: Txt::from_text(alloc, body)?,
     })

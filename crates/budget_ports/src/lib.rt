@@ -17,7 +17,7 @@ mod stream;
 mod tests;
 
 pub use clock::{ListClock, WallClock};
-pub use keeper::{Keeper, Kept, PortFault};
+pub use keeper::{Keeper, PortFault, Record};
 pub use memory_keeper::MemoryKeeper;
 pub use memory_sink::MemorySink;
 pub use memory_source::MemorySource;

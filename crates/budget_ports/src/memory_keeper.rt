@@ -9,7 +9,7 @@ ghost use Rattle.budget_ports.specs.KeeperState.{counted, holds};
 ghost use Rattle.budget_ports.specs.declared.keeper.PortFault.TheVariants.{Failed as HasFailed};
 
 use crate::calls::Calls;
-use crate::keeper::{Keeper, Kept, PortFault};
+use crate::keeper::{Keeper, PortFault, Record};
 use crate::records::{Records, Texts};
 use field_values::{Items, Txt};
 use std::alloc::Global;
@@ -67,7 +67,7 @@ impl Keeper for MemoryKeeper {
     ghost faults = { λ k. k.calls.faults };
 
     /// Fails exactly where the call is listed.
-    fn append(&mut self, group: &Txt, batch: &[Kept]) -> Result<(), PortFault>
+    fn append(&mut self, group: &Txt, batch: &[Record]) -> Result<(), PortFault>
         requires { HaveKeys batch.now }
 
         // what each keeper promises
@@ -88,7 +88,7 @@ impl Keeper for MemoryKeeper {
     }
 
     /// Fails exactly where the call is listed.
-    fn since(&mut self, group: &Txt, after: &Txt) -> Result<Items<Kept>, PortFault>
+    fn since(&mut self, group: &Txt, after: &Txt) -> Result<Items<Record>, PortFault>
         // what each keeper promises
         ensures records { IfOk result (λ rs. rs ≡ records_after self.old.contents group.now after.now) }
         ensures rise { IfOk result Rise }

@@ -4,7 +4,7 @@ ghost use Rattle.std.specs.FinMap as map;
 ghost use Rattle.budget_ports.specs.Contents.{records_of_after, with_record, with_records};
 ghost use Rattle.budget_ports.specs.Undoing.{taken_out};
 
-use crate::keeper::Kept;
+use crate::keeper::Record;
 use field_values::{Items, NoMemory, Txt};
 use std::alloc::Global;
 use std::collections::BTreeMap;
@@ -50,7 +50,7 @@ impl Records {
     }
 
     /// Adds the records whose key is not there, or none of them where memory runs out.
-    pub fn append(&mut self, group: &Txt, batch: &[Kept]) -> Result<(), NoMemory>
+    pub fn append(&mut self, group: &Txt, batch: &[Record]) -> Result<(), NoMemory>
         ensures ok { OnOk result (self.new ≡ with_records group.now self.old batch.now) }
         ensures err { OnErr result (self.new ≡ self.old) }
     {
@@ -68,7 +68,7 @@ impl Records {
     fn add_all(
         &mut self,
         group: &Txt,
-        batch: &[Kept],
+        batch: &[Record],
         added: &mut Vec<Place>,
     ) -> Result<(), NoMemory>
         ensures ok { OnOk result (self.new ≡ with_records group.now self.old batch.now) }
@@ -87,7 +87,7 @@ impl Records {
     }
 
     /// Adds a record whose key is not there, and its place to `added`.
-    fn add(&mut self, group: &Txt, kept: &Kept, added: &mut Vec<Place>) -> Result<(), NoMemory>
+    fn add(&mut self, group: &Txt, kept: &Record, added: &mut Vec<Place>) -> Result<(), NoMemory>
         ensures ok { OnOk result (self.new ≡ with_record group.now self.old kept.now) }
         ensures undone { taken_out self.new added.new.items ≡ taken_out self.old added.old.items }
     {
@@ -111,7 +111,7 @@ impl Records {
     }
 
     /// The records of a group with a key above this one, by key.
-    pub fn after(&self, group: &Txt, after: &Txt) -> Result<Items<Kept>, NoMemory>
+    pub fn after(&self, group: &Txt, after: &Txt) -> Result<Items<Record>, NoMemory>
         ensures { IfOk result (λ rs. rs ≡ records_of_after self.now group.now after.now) }
     {
         let start = place(group, after)?;
@@ -123,7 +123,7 @@ impl Records {
             if key.0 != *group {
                 break;
             }
-            found.push(Kept {
+            found.push(Record {
                 key: key.1.copy()?,
                 body: body.copy()?,
             })?;

@@ -212,7 +212,7 @@ pub only_same : (old now : Contents) (left new_left : Contents → Type 0) → n
 only_same old now left new_left same fewer only = λ k h. only k (fewer k h) ∙ sym same
 
 -- a text was written, or the sink failed at it
-pub told_or_cut : (result : Result (Unit {0}) Failed) (index : ℕ) (taken new_taken : Option (List ℕ)) (faults new_faults : ℕ) (text : List ℕ) → text ≡ bad_record_text index
+pub reported_or_cut : (result : Result (Unit {0}) Failed) (index : ℕ) (taken new_taken : Option (List ℕ)) (faults new_faults : ℕ) (text : List ℕ) → text ≡ bad_record_text index
     → OnOk result (Appends taken new_taken text) → OnErr result (AppendsFront taken new_taken text) → new_faults ≡ count_after (is_err result) faults → TellsBadRecord index taken new_taken faults new_faults
-told_or_cut (Ok done) index taken new_taken faults new_faults text same all front count = inl (count, appends_as taken new_taken _ _ same all)
-told_or_cut (Err fault) index taken new_taken faults new_faults text same all front count = inr (count, front_as taken new_taken _ _ same front)
+reported_or_cut (Ok done) index taken new_taken faults new_faults text same all front count = inl (count, appends_as taken new_taken _ _ same all)
+reported_or_cut (Err fault) index taken new_taken faults new_faults text same all front count = inr (count, front_as taken new_taken _ _ same front)

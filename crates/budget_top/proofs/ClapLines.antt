@@ -11,7 +11,7 @@ use Rattle.clap.specs.Walk.{Rule, Row, Held, Walk, Waiting, idle, option, settle
 use Rattle.clap.specs.Takes.{is_given}
 use Rattle.clap.specs.Faults.{use_fault, repeat_fault, long_fault, bundle_fault, flags_fault, positional_fault, settle_fault, turn_fault, step_fault, flag_word_fault}
 use Rattle.clap.specs.declared.error.kind.ErrorKind.TheVariants as kind
-use Rattle.budget_top.specs.Line.{Pair, dashes, is_line, is_option, mode, anywhere, value_of, after_dashes, joined, has, each_once}
+use Rattle.budget_top.specs.Line.{Pair, dashes, is_line, is_option, mode, anywhere, value_of, after_dashes, pair_then, has, each_once}
 use Rattle.budget_top.specs.Clap.{row}
 use Rattle.budget_top.proofs.ClapWords as own
 use Rattle.budget_top.proofs.ClapWords.{Text, IsSpelled, AreSpelled, taken}
@@ -50,7 +50,7 @@ first_some [] b some = absurd (some refl)
 first_some (k ∷ ks) b some = some_kind k ks
 
 -- a pair of a word and then those of the rest
-with_pair : (sofar : List Pair) (p : Pair) (o : Option (List Pair)) (ks : Kinds) (rows : List Row) → Agrees (sofar ++ p ∷ []) o ks rows → Agrees sofar (joined p o) ks rows
+with_pair : (sofar : List Pair) (p : Pair) (o : Option (List Pair)) (ks : Kinds) (rows : List Row) → Agrees (sofar ++ p ∷ []) o ks rows → Agrees sofar (pair_then p o) ks rows
 with_pair sofar p None ks rows h = h
 with_pair sofar p (Some more) ks rows h = let P : List Pair → Type 0 = λ ps. MatchBool (is_line ps) ((ks ≡ []) × (rows ≡ map row ps)) (NonEmpty ks) in
     subst P (append_assoc sofar (p ∷ []) more) h
@@ -121,20 +121,20 @@ Follows sofar o w words = Agrees sofar o (faults w words) (rows_end w words)
 
 to_mode : (ps : List Pair) (q : Pending) → Settles ps q → (word : Text) (t : Bool) (words : List Text) (o : Option (List Pair))
     → (each_once (ps ++ pairs q) ≡ true → Follows ((ps ++ pairs q) ++ (mode, word) ∷ []) o (at (held (ps ++ pairs q) (complete mode word)) idle 2 t) words)
-    → Agrees (ps ++ pairs q) (joined (mode, word) o)
+    → Agrees (ps ++ pairs q) (pair_then (mode, word) o)
     (or_else (positional_fault rules false filled_mode (held ps q)) (faults (at (positional_held rules filled_mode word (held ps q)) idle 2 t) words))
     (rows_end (at (positional_held rules filled_mode word (held ps q)) idle 2 t) words)
 to_mode ps q (clash some never) word t words o later =
-    clashes (ps ++ pairs q) (joined (mode, word) o) _ _ never
+    clashes (ps ++ pairs q) (pair_then (mode, word) o) _ _ never
     (first_some _ _ (subst NonEmpty (sym (skip_if (is_pending filled_mode (pend q)) (settle_fault rules false (held ps q)))) some))
 to_mode ps q (fine none is once) word t words o later =
-    known_step (ps ++ pairs q) (joined (mode, word) o) words (positional_fault rules false filled_mode (held ps q)) []
+    known_step (ps ++ pairs q) (pair_then (mode, word) o) words (positional_fault rules false filled_mode (held ps q)) []
     (at (positional_held rules filled_mode word (held ps q)) idle 2 t) (at (held (ps ++ pairs q) (complete mode word)) idle 2 t)
     (skip_if (is_pending filled_mode (pend q)) (settle_fault rules false (held ps q)) ∙ none)
     (ap (λ h. at (pushed mode word h) idle 2 t) (keep_if (is_pending filled_mode (pend q)) (held ps q) (settled rules (held ps q)) ∙ is))
     (with_pair (ps ++ pairs q) (mode, word) o _ _ (later once))
 
-second_mode : (sofar : List Pair) (word : Text) (o : Option (List Pair)) (ks : Kinds) (rows : List Row) → has mode sofar ≡ true → NonEmpty ks → Agrees sofar (joined (mode, word) o) ks rows
+second_mode : (sofar : List Pair) (word : Text) (o : Option (List Pair)) (ks : Kinds) (rows : List Row) → has mode sofar ≡ true → NonEmpty ks → Agrees sofar (pair_then (mode, word) o) ks rows
 second_mode sofar word o ks rows e some =
     with_pair sofar (mode, word) o ks rows (clashes (sofar ++ (mode, word) ∷ []) o ks rows (λ more. ap each_once (append_assoc sofar ((mode, word) ∷ []) more) ∙ twice sofar mode word more e) some)
 
@@ -154,7 +154,7 @@ bundle_fails : (flags : Text) (h : Held) (y : ℕ) (ys : Text) (x : ℕ) → fla
 unfolding flags_fault
 bundle_fails flags h y ys x is first none = rw (none, ap length is) (rw first refl)
 
-no_more : (sofar : List Pair) (n v : Text) (o : Option (List Pair)) (ks : Kinds) (rows : List Row) → has n sofar ≡ true → NonEmpty ks → Agrees sofar (joined (n, v) o) ks rows
+no_more : (sofar : List Pair) (n v : Text) (o : Option (List Pair)) (ks : Kinds) (rows : List Row) → has n sofar ≡ true → NonEmpty ks → Agrees sofar (pair_then (n, v) o) ks rows
 no_more sofar n v o ks rows e some =
     with_pair sofar (n, v) o ks rows (clashes (sofar ++ (n, v) ∷ []) o ks rows (λ more. ap each_once (append_assoc sofar ((n, v) ∷ []) more) ∙ twice sofar n v more e) some)
 
@@ -181,13 +181,13 @@ rows_only rs = record { rows = rs; pending = None; skip = 0 }
 
 value_given : (ps : List Pair) (q : Pending) → Settles ps q → (position : ℕ) (word n v : Text) (words : List Text) (o : Option (List Pair)) (b : Bool) → has n (ps ++ pairs q) ≡ b
     → (each_once (ps ++ pairs q) ≡ true → b ≡ false → Follows ((ps ++ pairs q) ++ (n, v) ∷ []) o (at (held ((ps ++ pairs q) ++ (n, v) ∷ []) nothing) idle position false) words)
-    → LongStep (ps ++ pairs q) (held ps q) position word n (Some v) (joined (n, v) o) words (Some (filled_option n))
+    → LongStep (ps ++ pairs q) (held ps q) position word n (Some v) (pair_then (n, v) o) words (Some (filled_option n))
 value_given ps q (clash some never) position word n v words o b e later =
-    clashes (ps ++ pairs q) (joined (n, v) o) _ _ never (first_some _ _ (first_some _ _ (first_some _ _ some)))
+    clashes (ps ++ pairs q) (pair_then (n, v) o) _ _ never (first_some _ _ (first_some _ _ (first_some _ _ some)))
 value_given ps q (fine none is once) position word n v words o true e later =
     no_more (ps ++ pairs q) n v o _ _ e (first_some _ _ (subst NonEmpty (sym (long_fault_is ps q n v true none is e)) (some_kind kind.ArgumentConflict [])))
 value_given ps q (fine none is once) position word n v words o false e later =
-    known_step (ps ++ pairs q) (joined (n, v) o) words
+    known_step (ps ++ pairs q) (pair_then (n, v) o) words
     (or_else (long_fault rules false (Some (filled_option n)) (Some v) (held ps q)) []) []
     (at (reacted rules (filled_option n) (v ∷ []) (held ps q)) idle position false) (at (held ((ps ++ pairs q) ++ (n, v) ∷ []) nothing) idle position false)
     (long_fault_is ps q n v false none is e)
@@ -223,9 +223,9 @@ end_none sofar m e = ap (has mode) (append-nil sofar) ∙ e
 
 named_value : (words : List Text) → SimAt words → (ps : List Pair) (q : Pending) (m : Bool) → has mode (ps ++ pairs q) ≡ m → Settles ps q → (word n v : Text) (b : Bool) → is_option n ≡ b
     → (found : Option Rule) → found ≡ cond b (Some (filled_option n)) None
-    → LongStep (ps ++ pairs q) (held ps q) (place_for m) word n (Some v) (cond b (joined (n, v) (taken anywhere words)) None) words found
+    → LongStep (ps ++ pairs q) (held ps q) (place_for m) word n (Some v) (cond b (pair_then (n, v) (taken anywhere words)) None) words found
 named_value words later ps q m e set word n v true name found is =
-    subst (LongStep (ps ++ pairs q) (held ps q) (place_for m) word n (Some v) (joined (n, v) (taken anywhere words)) words) (sym is)
+    subst (LongStep (ps ++ pairs q) (held ps q) (place_for m) word n (Some v) (pair_then (n, v) (taken anywhere words)) words) (sym is)
     (value_given ps q set (place_for m) word n v words (taken anywhere words) (has n (ps ++ pairs q)) refl
     (λ once apart. let sofar = (ps ++ pairs q) ++ (n, v) ∷ [] in
     let P : List Pair → Type 0 = λ x. Follows x (taken anywhere words) (at (held sofar nothing) idle (place_for m) false) words in
@@ -252,7 +252,7 @@ WordStep sofar h w position word o words ks m =
     (rows_end (after_step rules word (at h w position false) m.0 m.1) words)
 
 plain_anywhere : (words : List Text) → SimAt words → (ps : List Pair) (q : Pending) (m : Bool) → has mode (ps ++ pairs q) ≡ m → Settles ps q → (word : Text)
-    → WordStep (ps ++ pairs q) (held ps q) idle (place_for m) word (joined (mode, word) (taken anywhere words)) words [] (plain_word rules idle word (held ps q))
+    → WordStep (ps ++ pairs q) (held ps q) idle (place_for m) word (pair_then (mode, word) (taken anywhere words)) words [] (plain_word rules idle word (held ps q))
 plain_anywhere words later ps q true e set word =
     second_mode (ps ++ pairs q) word (taken anywhere words) _ _ e (some_kind kind.UnknownArgument [])
 plain_anywhere words later ps q false e set word =
@@ -311,9 +311,9 @@ no_longer : (ps : List Pair) (n word : Text) (a : Rule) → IsEntry n a → (opt
 no_longer ps n word a entry = rw (entry.id, same_text n, entry.most) refl
 
 value_taken : (words : List Text) → SimAt words → (ps : List Pair) (n : Text) (m : Bool) → has mode ps ≡ m → each_once ps ≡ true → is_option n ≡ true → (word : Text) → (found : Option Rule) → Found n → arg_by_id rules n ≡ found
-    → WordStep ps (held ps (unfinished n)) (option n) (place_for m) word (joined (n, word) (taken anywhere words)) words [] ((option_word found n word (held ps (unfinished n))).0, next (option_word found n word (held ps (unfinished n))).1)
+    → WordStep ps (held ps (unfinished n)) (option n) (place_for m) word (pair_then (n, word) (taken anywhere words)) words [] ((option_word found n word (held ps (unfinished n))).0, next (option_word found n word (held ps (unfinished n))).1)
 value_taken words later ps n m e once name word found (a, is, entry) at_id =
-    known_step ps (joined (n, word) (taken anywhere words)) words [] []
+    known_step ps (pair_then (n, word) (taken anywhere words)) words [] []
     (at (option_word found n word (held ps (unfinished n))).0 (option_word found n word (held ps (unfinished n))).1 (place_for m) false) (at (held ps (complete n word)) idle (place_for m) false)
     refl
     (ap (λ f. at (option_word f n word (held ps (unfinished n))).0 (option_word f n word (held ps (unfinished n))).1 (place_for m) false) (sym at_id ∙ is)

@@ -4,7 +4,7 @@ use Rattle.std.specs.Prelude.{if◌then◌else◌, bytes_eq}
 use Rattle.std.specs.List.{slice_get}
 use Rattle.std.specs.Str.{chars}
 use Rattle.clap.specs.Lexer.{long_of, short_of}
-use Rattle.budget_top.specs.Line.{Pair, Look, dashes, long, short, plain, look, Place, anywhere, value_of, after_dashes, joined, is_option, mode}
+use Rattle.budget_top.specs.Line.{Pair, Look, dashes, long, short, plain, look, Place, anywhere, value_of, after_dashes, pair_then, is_option, mode}
 
 abbrev pub Text : Type 0
 Text = List ℕ
@@ -23,13 +23,13 @@ abbrev pub kind : Text → Look
 kind word = if bytes_eq word (45 ∷ 45 ∷ []) then dashes else long_or_other (long_of word) word
 
 abbrev pub taken_part : Place → Look → Text → (Place → Option (List Pair)) → Option (List Pair)
-taken_part after_dashes k word rest = joined (mode, word) (rest after_dashes)
+taken_part after_dashes k word rest = pair_then (mode, word) (rest after_dashes)
 taken_part anywhere dashes word rest = rest after_dashes
-taken_part anywhere (long n (Some v)) word rest = if is_option n then joined (n, v) (rest anywhere) else None
+taken_part anywhere (long n (Some v)) word rest = if is_option n then pair_then (n, v) (rest anywhere) else None
 taken_part anywhere (long n None) word rest = if is_option n then rest (value_of n) else None
 taken_part anywhere short word rest = None
-taken_part anywhere plain word rest = joined (mode, word) (rest anywhere)
-taken_part (value_of n) plain word rest = joined (n, word) (rest anywhere)
+taken_part anywhere plain word rest = pair_then (mode, word) (rest anywhere)
+taken_part (value_of n) plain word rest = pair_then (n, word) (rest anywhere)
 taken_part (value_of n) k word rest = None
 
 abbrev pub taken : Place → List Text → Option (List Pair)

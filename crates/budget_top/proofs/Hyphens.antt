@@ -1,7 +1,7 @@
 -- A hyphen alone behind an option: what `clap` takes otherwise is just what the line takes.
 use Rattle.std.proofs.Common.{◌≡◌, ◌&&◌, ◌||◌, List, [], ◌∷◌, Bool, true, false, not, Option, Some, None, refl, sym, ap, ◌∙◌, true≢false, unwrap_or}
 use Rattle.std.specs.Prelude.{if◌then◌else◌, codes, bytes_eq}
-use Rattle.budget_top.specs.Line.{Pair, Look, dashes, long, short, plain, look, Place, anywhere, value_of, after_dashes, joined, part, parts, is_option, mode, has, each_once, is_line, line_of, line}
+use Rattle.budget_top.specs.Line.{Pair, Look, dashes, long, short, plain, look, Place, anywhere, value_of, after_dashes, pair_then, part, parts, is_option, mode, has, each_once, is_line, line_of, line}
 use Rattle.budget_top.specs.Clap.{wants, wants_value, hyphen_after}
 use Rattle.budget_top.proofs.ClapWords.{Text, kind, look_is, taken, taken_part}
 
@@ -19,17 +19,17 @@ pub record Same (words : List Text) : Type 0 where
 same_anywhere : (word : Text) (words : List Text) → Same words → (shape : Look) → hyphen_after (wants shape) words ≡ false
     → part anywhere shape word (λ next. parts next words) ≡ taken_part anywhere shape word (λ next. taken next words)
 same_anywhere word words later dashes h = later.after
-same_anywhere word words later (long name (Some value)) h = ap (λ o. if is_option name then joined (name, value) o else None) (later.anywhere false h)
+same_anywhere word words later (long name (Some value)) h = ap (λ o. if is_option name then pair_then (name, value) o else None) (later.anywhere false h)
 same_anywhere word words later (long name None) h = ap (λ o. if is_option name then o else None) (later.value name h)
 same_anywhere word words later short h = refl
-same_anywhere word words later plain h = ap (joined (mode, word)) (later.anywhere false h)
+same_anywhere word words later plain h = ap (pair_then (mode, word)) (later.anywhere false h)
 
 same_value : (name word : Text) (words : List Text) → Same words → (shape : Look) → bytes_eq word (codes "-") ≡ false → hyphen_after (wants shape) words ≡ false
     → part (value_of name) shape word (λ next. parts next words) ≡ taken_part (value_of name) shape word (λ next. taken next words)
 same_value name word words later dashes e h = refl
 same_value name word words later (long other value) e h = refl
 same_value name word words later short e h = refl
-same_value name word words later plain e h = rw e (ap (joined (name, word)) (later.anywhere false h))
+same_value name word words later plain e h = rw e (ap (pair_then (name, word)) (later.anywhere false h))
 
 at_kind : (place : Place) (word : Text) (words : List Text) → part place (look word) word (λ next. parts next words) ≡ taken_part place (look word) word (λ next. taken next words)
     → part place (look word) word (λ next. parts next words) ≡ taken_part place (kind word) word (λ next. taken next words)
@@ -42,7 +42,7 @@ same (word ∷ words) =
     record {
       anywhere = λ wanted h. at_kind anywhere word words (same_anywhere word words later (look word) (or_none _ _ h).1);
       value = λ name h. at_kind (value_of name) word words (same_value name word words later (look word) (or_none _ _ h).0 (or_none _ _ h).1);
-      after = ap (joined (mode, word)) later.after;
+      after = ap (pair_then (mode, word)) later.after;
     }
 
 -- ---- with such a hyphen there is no line
@@ -57,7 +57,7 @@ and_none : (a : Bool) → (a && false) ≡ false
 and_none true = refl
 and_none false = refl
 
-never_joined : (pair : Pair) (o : Option (List Pair)) → Never o → Never (joined pair o)
+never_joined : (pair : Pair) (o : Option (List Pair)) → Never o → Never (pair_then pair o)
 never_joined pair None never ps e = absurd (let bad : None ≡ Some ps = e in cc)
 never_joined pair (Some more) never ps e =
     let is : pair ∷ more ≡ ps = ap (λ o. unwrap_or o ps) e in
@@ -68,7 +68,7 @@ never_if true o never = never
 never_if false o never = never_none
 
 -- two mode words
-pub never_two : (a b : Text) (o : Option (List Pair)) → Never (joined (mode, a) (joined (mode, b) o))
+pub never_two : (a b : Text) (o : Option (List Pair)) → Never (pair_then (mode, a) (pair_then (mode, b) o))
 never_two a b None ps e = absurd (let bad : None ≡ Some ps = e in cc)
 never_two a b (Some more) ps e =
     let is : (mode, a) ∷ (mode, b) ∷ more ≡ ps = ap (λ o. unwrap_or o ps) e in
@@ -95,11 +95,11 @@ refused_value name word words later short b e h = never_none
 refused_value name word words later plain true e h = rw e never_none
 refused_value name word words later plain false e h = rw e (never_joined (name, word) _ (later.anywhere h))
 
-after_wanted : (word : Text) (words : List Text) → hyphen_after true words ≡ true → Never (joined (mode, word) (parts after_dashes words))
+after_wanted : (word : Text) (words : List Text) → hyphen_after true words ≡ true → Never (pair_then (mode, word) (parts after_dashes words))
 after_wanted word [] h = absurd (true≢false (sym h))
 after_wanted word (next ∷ words) h = never_two word next (parts after_dashes words)
 
-refused_after : (word : Text) (words : List Text) → Refused words → (wanted : Bool) → hyphen_after wanted words ≡ true → Never (joined (mode, word) (parts after_dashes words))
+refused_after : (word : Text) (words : List Text) → Refused words → (wanted : Bool) → hyphen_after wanted words ≡ true → Never (pair_then (mode, word) (parts after_dashes words))
 refused_after word words later true h = after_wanted word words h
 refused_after word words later false h = never_joined (mode, word) _ (later.after h)
 

@@ -5,7 +5,7 @@ use Rattle.std.proofs.lemmas.Bool.{eqb-true}
 use Rattle.std.specs.List.{list_any, AllByRecursion}
 use Rattle.std.specs.Ordering.{is_lt}
 use Rattle.std.specs.declared.cmp.Ordering.{Ordering}
-use Rattle.budget_ports.specs.declared.keeper.Kept.{Kept}
+use Rattle.budget_ports.specs.declared.keeper.Record.{Record}
 use Rattle.budget_ports.specs.Contents.{Contents, Text, appended}
 use Rattle.budget_ports.specs.Keeper.{Commits, Only}
 use Rattle.field_merge.specs.declared.message.Message.{Message}
@@ -81,19 +81,19 @@ kept_all law old device before valid b = λ entry h.
     let records : map record_of (new_in old ns) ≡ device.batch = ap (map record_of) (new_new old b.news) ∙ sym b.batch in
     let messages : join old ns ≡ device.state.messages = join_new old b.news ∙ sym b.messages in
     subst (λ (ms : List Message). Holds entry (appended before device_group device.batch) ms) messages
-    (subst (λ (rs : List Kept). Holds entry (appended before device_group rs) (join old ns)) records (law device_group entry before old ns new h))
+    (subst (λ (rs : List Record). Holds entry (appended before device_group rs) (join old ns)) records (law device_group entry before old ns new h))
 
 -- the same of what was appended
-pub carries : BatchesAreKept → (old : List Message) (device : DeviceState) (group : Text) (batch : List Kept) (before now : Contents)
+pub carries : BatchesAreKept → (old : List Message) (device : DeviceState) (group : Text) (batch : List Record) (before now : Contents)
     → AreMessages device.state.messages → group ≡ device_group → batch ≡ device.batch → now ≡ appended before group batch → Brings old device → Carries old device.state.messages before now
 carries law old device group batch before now valid named all is b =
-    let appends : appended before device_group device.batch ≡ now = ap (λ (g : Text). appended before g device.batch) (sym named) ∙ ap (λ (rs : List Kept). appended before group rs) (sym all) ∙ sym is in
+    let appends : appended before device_group device.batch ≡ now = ap (λ (g : Text). appended before g device.batch) (sym named) ∙ ap (λ (rs : List Record). appended before group rs) (sym all) ∙ sym is in
     subst (λ (k : Contents). Carries old device.state.messages before k) appends (kept_all law old device before valid b)
 
-pub none_of : (batch rs : List Kept) (is_empty : Bool) → rs ≡ batch → is_empty ≡ (length rs == 0) → is_empty ≡ true → batch ≡ []
+pub none_of : (batch rs : List Record) (is_empty : Bool) → rs ≡ batch → is_empty ≡ (length rs == 0) → is_empty ≡ true → batch ≡ []
 none_of batch rs is_empty same tells is = sym same ∙ by rs (sym tells ∙ is)
   where
-    by : (rs : List Kept) → (length rs == 0) ≡ true → rs ≡ []
+    by : (rs : List Record) → (length rs == 0) ≡ true → rs ≡ []
     by [] h = refl
     by (r ∷ rs) h = let none : length (r ∷ rs) ≡ 0 = eqb-true _ _ h in absurd (omega arith)
 
@@ -110,7 +110,7 @@ pub either_new : (old new : List Message) (before now : Contents) → Carries ol
 either_new old new before now c = λ entry h. record { messages = new; holds = c entry h; which = inr refl }
 
 -- what a stop may leave
-pub stops_kept : BatchesAreKept → (old : List Message) (device : DeviceState) (group : Text) (batch : List Kept) (before c : Contents) (left new_left : Contents → Type 0)
+pub stops_kept : BatchesAreKept → (old : List Message) (device : DeviceState) (group : Text) (batch : List Record) (before c : Contents) (left new_left : Contents → Type 0)
     → AreMessages device.state.messages → group ≡ device_group → batch ≡ device.batch → Only before left → Commits left new_left (appended before group batch) → new_left c
     → Brings old device → CarriesEither old device.state.messages before c
 stops_kept law old device group batch before c left new_left valid named all only commits h b = elim (commits c h) [

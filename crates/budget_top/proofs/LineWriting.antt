@@ -3,9 +3,9 @@ use Rattle.std.proofs.Common.{◌≡◌, ◌≢◌, ℕ, suc, ◌+◌, ◌&&◌,
 use Rattle.std.specs.Prelude.{if◌then◌else◌, bytes_eq}
 use Rattle.std.specs.List.{list_any, before_first, after_first, position_or_len}
 use Rattle.std.proofs.lemmas.Slice.Eq.{bytes_eq-Decides}
-use Rattle.budget_top.specs.Line.{Pair, Look, dashes, long, short, plain, look, look_short, look_long, is_equals, Place, anywhere, value_of, after_dashes, joined, part, parts, option_names, is_option, mode, each_once, is_line, line_of}
+use Rattle.budget_top.specs.Line.{Pair, Look, dashes, long, short, plain, look, look_short, look_long, is_equals, Place, anywhere, value_of, after_dashes, pair_then, part, parts, option_names, is_option, mode, each_once, is_line, line_of}
 use Rattle.budget_top.specs.Written as written
-use Rattle.budget_top.specs.Written.{IsWritten, lines_as_written}
+use Rattle.budget_top.specs.Written.{IsWritten, LinesAreWritten}
 use Rattle.budget_top.proofs.Hyphens.{never_two}
 
 Text : Type 0
@@ -47,15 +47,15 @@ read_back pairs words written.nothing = refl
 read_back pairs words written.dashes = refl
 read_back pairs words (written.last_word text) = refl
 read_back pairs words (written.word text more rest shape h) =
-    ap (λ l. part anywhere l text (Next rest)) shape ∙ ap (joined (mode, text)) (read_back more rest h)
+    ap (λ l. part anywhere l text (Next rest)) shape ∙ ap (pair_then (mode, text)) (read_back more rest h)
 read_back pairs words (written.joined name value more rest known h) =
     ap (λ l. part anywhere l (codes "--" ++ name ++ 61 ∷ value) (Next rest)) (look_joined name value known)
-    ∙ ap (λ b. if b then joined (name, value) (parts anywhere rest) else None) known ∙ ap (joined (name, value)) (read_back more rest h)
+    ∙ ap (λ b. if b then pair_then (name, value) (parts anywhere rest) else None) known ∙ ap (pair_then (name, value)) (read_back more rest h)
 read_back pairs words (written.apart name value more rest known shape plainly h) =
     ap (λ l. part anywhere l (codes "--" ++ name) (Next (value ∷ rest))) (look_apart name known)
     ∙ ap (λ b. if b then parts (value_of name) (value ∷ rest) else None) known
     ∙ ap (λ l. part (value_of name) l value (Next rest)) shape
-    ∙ ap (λ b. if b then None else joined (name, value) (parts anywhere rest)) (not_hyphen value _ refl plainly) ∙ ap (joined (name, value)) (read_back more rest h)
+    ∙ ap (λ b. if b then None else pair_then (name, value) (parts anywhere rest)) (not_hyphen value _ refl plainly) ∙ ap (pair_then (name, value)) (read_back more rest h)
 
 -- ---- what the words are, by their looks
 
@@ -126,7 +126,7 @@ second_true false b h = absurd (true≢false (sym h))
 
 -- a pair before others, where these are written
 with_pair : (W : List Pair → Type 0) (pair : Pair) (o : Option (List Pair)) → ((more : List Pair) → o ≡ Some more → each_once more ≡ true → W (pair ∷ more))
-    → (pairs : List Pair) → joined pair o ≡ Some pairs → each_once pairs ≡ true → W pairs
+    → (pairs : List Pair) → pair_then pair o ≡ Some pairs → each_once pairs ≡ true → W pairs
 with_pair W pair None h pairs e once = absurd (let bad : None ≡ Some pairs = e in cc)
 with_pair W pair (Some more) h pairs e once =
     let is : pair ∷ more ≡ pairs = ap (λ o. unwrap_or o pairs) e in
@@ -149,7 +149,7 @@ writes_anywhere : (text : List ℕ) (words : List (List ℕ)) → Writes words �
     → (pairs : List Pair) → part anywhere shape text (Next words) ≡ Some pairs → each_once pairs ≡ true → IsWritten pairs (text ∷ words)
 writes_anywhere text words later dashes e is pairs h once = subst (λ t. IsWritten pairs (t ∷ words)) (sym is) (later.after pairs h once)
 writes_anywhere text words later (long name (Some value)) e is pairs h once =
-    let both = if_some (is_option name) (joined (name, value) (parts anywhere words)) pairs h in
+    let both = if_some (is_option name) (pair_then (name, value) (parts anywhere words)) pairs h in
     subst (λ t. IsWritten pairs (t ∷ words)) (sym is)
     (with_pair (λ ps. IsWritten ps ((codes "--" ++ name ++ 61 ∷ value) ∷ words)) (name, value) (parts anywhere words)
     (λ more is once. written.joined name value more words both.0 (later.anywhere more is once)) pairs both.1 once)
@@ -169,11 +169,11 @@ writes_value name text words later known dashes e pairs h once = absurd (let bad
 writes_value name text words later known (long other value) e pairs h once = absurd (let bad : None ≡ Some pairs = h in cc)
 writes_value name text words later known short e pairs h once = absurd (let bad : None ≡ Some pairs = h in cc)
 writes_value name text words later known plain e pairs h once =
-    let both = unless_some (bytes_eq text (codes "-")) (joined (name, text) (parts anywhere words)) pairs h in
+    let both = unless_some (bytes_eq text (codes "-")) (pair_then (name, text) (parts anywhere words)) pairs h in
     with_pair (λ ps. IsWritten ps ((codes "--" ++ name) ∷ text ∷ words)) (name, text) (parts anywhere words)
     (λ more is once. written.apart name text more words known e (is_hyphen text both.0) (later.anywhere more is once)) pairs both.1 once
 
-writes_after : (text : List ℕ) (words : List (List ℕ)) (pairs : List Pair) → joined (mode, text) (parts after_dashes words) ≡ Some pairs → each_once pairs ≡ true → IsWritten pairs (codes "--" ∷ text ∷ words)
+writes_after : (text : List ℕ) (words : List (List ℕ)) (pairs : List Pair) → pair_then (mode, text) (parts after_dashes words) ≡ Some pairs → each_once pairs ≡ true → IsWritten pairs (codes "--" ∷ text ∷ words)
 writes_after text [] pairs h once =
     let is : (mode, text) ∷ [] ≡ pairs = ap (λ o. unwrap_or o pairs) h in
     subst (λ ps. IsWritten ps (codes "--" ∷ text ∷ [])) is (written.last_word text)
@@ -208,7 +208,7 @@ first_true : (a b : Bool) → (a && b) ≡ true → a ≡ true
 first_true true b h = refl
 first_true false b h = h
 
-pub as_written : lines_as_written
+pub as_written : LinesAreWritten
 as_written words pairs = (
   λ e. let both = line_some (parts anywhere words) pairs e in (both.0, (writes words).anywhere pairs both.1 (first_true _ _ both.0)),
   λ h. ap line_of (read_back pairs words h.1) ∙ ap (λ b. if b then Some pairs else None) h.0,

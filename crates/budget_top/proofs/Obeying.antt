@@ -15,27 +15,27 @@ use Rattle.device_core.specs.declared.edit.EditFault.TheVariants.{TooManyWrites}
 use Rattle.device_core.specs.declared.edit.LineRefusal.{LineRefusal}
 use Rattle.device_core.specs.declared.edit.LineRefusal.TheVariants.{Edit as OfEdit, Clock as OfClock, NoMemory}
 use Rattle.device_core.specs.Edits.{writes_of}
-use Rattle.device_core.specs.Device.{State, DeviceState, Accepted, at_rest, written, writing, edited, joined, receiving, received, greatest_of, IsAccepted, IsRefused}
+use Rattle.device_core.specs.Device.{State, DeviceState, Accepted, at_rest, written, writing, edited, taken_in, receiving, received, greatest_of, IsAccepted, IsRefused}
 use Rattle.command_lines.specs.declared.command.Command.{Command}
 use Rattle.command_lines.specs.declared.command.CommandFault.{CommandFault}
 use Rattle.command_lines.specs.declared.reply.Reply.{Reply}
 use Rattle.command_lines.specs.Commands.{command, IsRead}
 use Rattle.command_lines.specs.Replies.{refused}
-use Rattle.budget_top.specs.Session.{asked_kept, reply_to_refusal, settled}
+use Rattle.budget_top.specs.Session.{asked_kept_line, reply_to_refusal, settled}
 use Rattle.budget_top.specs.Handling.{Brings}
 
 -- ---- what is asked
 
-pub asked_text : (kept : Option (List ℕ)) (line text : List ℕ) (read : Result Command CommandFault) → kept ≡ Some line → text ≡ line → IsUtf8 line → IsRead (command text) read → IsRead (asked_kept kept) read
+pub asked_text : (kept : Option (List ℕ)) (line text : List ℕ) (read : Result Command CommandFault) → kept ≡ Some line → text ≡ line → IsUtf8 line → IsRead (command text) read → IsRead (asked_kept_line kept) read
 asked_text kept line text read is same utf8 h =
     let yes : is_utf8 line ≡ true = is_utf8-from_IsUtf8 line utf8 in
-    let asks : asked_kept kept ≡ command text = ap asked_kept is ∙ ap (λ b. cond b (command line) (Err 0)) yes ∙ ap command (sym same) in
+    let asks : asked_kept_line kept ≡ command text = ap asked_kept_line is ∙ ap (λ b. cond b (command line) (Err 0)) yes ∙ ap command (sym same) in
     subst (λ (m : Result Command ℕ). IsRead m read) (sym asks) h
 
-pub asked_none : (kept : Option (List ℕ)) (line : List ℕ) → kept ≡ Some line → (IsUtf8 line → ⊥) → asked_kept kept ≡ Err 0
+pub asked_none : (kept : Option (List ℕ)) (line : List ℕ) → kept ≡ Some line → (IsUtf8 line → ⊥) → asked_kept_line kept ≡ Err 0
 asked_none kept line is h =
     let no : is_utf8 line ≡ false = false_from_ne_true (is_utf8 line) (λ e. h (IsUtf8-from_is_utf8 line e)) in
-    ap asked_kept is ∙ ap (λ b. cond b (command line) (Err 0)) no
+    ap asked_kept_line is ∙ ap (λ b. cond b (command line) (Err 0)) no
 
 -- ---- what is refused
 
@@ -86,13 +86,13 @@ brings_writing s reading (Ok (w ∷ ws)) done is = by (nat_lt 65_536 (length (w 
 pub brings_edited : (s : State) (edit : Edit) (reading : ℕ) (device : DeviceState) (count : ℕ) → IsAccepted (edited s edit reading) device count → Brings s.messages device
 brings_edited s edit reading device count is = brings_writing s reading (writes_of edit) (record { device = device; count = count }) is
 
-brings_joined : (s : State) (ns : List Message) (clock : Result Stamp ClockFault) (done : Accepted) → joined s ns clock ≡ Ok done → Brings s.messages done.device
-brings_joined s ns (Err fault) done is = absurd (cc)
-brings_joined s ns (Ok clock) done is = brings_at s.messages _ done is (record { news = ns; batch = refl; messages = refl })
+brings_taken_in : (s : State) (ns : List Message) (clock : Result Stamp ClockFault) (done : Accepted) → taken_in s ns clock ≡ Ok done → Brings s.messages done.device
+brings_taken_in s ns (Err fault) done is = absurd (cc)
+brings_taken_in s ns (Ok clock) done is = brings_at s.messages _ done is (record { news = ns; batch = refl; messages = refl })
 
 brings_receiving : (s : State) (ns : List Message) (reading : ℕ) (stamp : Option Stamp) (done : Accepted) → receiving s ns reading stamp ≡ Ok done → Brings s.messages done.device
 brings_receiving s ns reading None done is = brings_at s.messages _ done is (brings_none s.messages (at_rest s) refl refl)
-brings_receiving s ns reading (Some stamp) done is = brings_joined s ns (receive s.clock reading stamp) done is
+brings_receiving s ns reading (Some stamp) done is = brings_taken_in s ns (receive s.clock reading stamp) done is
 
 pub brings_received : (s : State) (ns : List Message) (reading : ℕ) (device : DeviceState) (count : ℕ) → IsAccepted (received s ns reading) device count → Brings s.messages device
 brings_received s ns reading device count is = brings_receiving s ns reading (greatest_of ns) (record { device = device; count = count }) is

@@ -7,7 +7,7 @@ use Rattle.budget_top.specs.declared.words.Mode.TheVariants.{Merge}
 use Rattle.budget_top.specs.declared.words.Plan.{Plan}
 use Rattle.budget_top.specs.declared.words.WordFault.{WordFault}
 use Rattle.budget_top.specs.declared.words.WordFault.TheVariants.{Words, Mode as BadMode, NodeMissing, Node as BadNode, Count, Token, Name, NoMemory}
-use Rattle.budget_top.specs.Words.{planned, planned_mode, HasFault, refusal_status}
+use Rattle.budget_top.specs.Words.{planned, planned_mode, IsWordFault, refusal_status}
 use Rattle.budget_top.specs.MergeRun.{MergeRun}
 use Rattle.budget_top.proofs.Running.{run_untouched}
 
@@ -15,7 +15,7 @@ use Rattle.budget_top.proofs.Running.{run_untouched}
 at_fault : (due : Result Plan WordFault) (fault : WordFault) → due ≡ Err fault → IsErr due
 at_fault due fault e = subst IsErr (sym e) refl
 
-refusal : (due : Result Plan WordFault) (fault : WordFault) → HasFault due fault → IsErr due ⊎ (refusal_status fault ≡ 7)
+refusal : (due : Result Plan WordFault) (fault : WordFault) → IsWordFault due fault → IsErr due ⊎ (refusal_status fault ≡ 7)
 refusal due Words h = inl (at_fault due Words h)
 refusal due BadMode h = inl (at_fault due BadMode h)
 refusal due NodeMissing h = inl (at_fault due NodeMissing h)
@@ -29,7 +29,7 @@ no_mode : (due : Result Plan WordFault) → IsErr due → option_map (λ (plan :
 no_mode (Ok plan) h e = true≢false (sym h)
 no_mode (Err fault) h e = cc
 
-pub refused_merge : (words : List (List ℕ)) (fault : WordFault) (left taken : Option (List ℕ)) → HasFault (planned words) fault → planned_mode words ≡ Some Merge → MergeRun (refusal_status fault) left left taken taken
+pub refused_merge : (words : List (List ℕ)) (fault : WordFault) (left taken : Option (List ℕ)) → IsWordFault (planned words) fault → planned_mode words ≡ Some Merge → MergeRun (refusal_status fault) left left taken taken
 refused_merge words fault left taken h e =
     elim (refusal (planned words) fault h) [
       | inl p ↦ absurd (no_mode (planned words) p e)

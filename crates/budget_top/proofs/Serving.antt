@@ -20,17 +20,17 @@ use Rattle.budget_top.specs.declared.stop.DeviceStop.{DeviceStop}
 use Rattle.budget_top.specs.declared.stop.DeviceStop.TheVariants.{Run, Keeper}
 use Rattle.budget_top.specs.declared.stop.Stop.TheVariants.{Memory, Sink}
 use Rattle.budget_top.specs.Lines.{IsWithinLine, FirstEnd, whole_lines, last_piece, all_lines, line_if_some}
-use Rattle.budget_top.specs.Kept.{kept, kept_with}
+use Rattle.budget_top.specs.KeptLine.{kept_line, kept_line_with}
 use Rattle.command_lines.specs.Commands.{longest_line}
 use Rattle.budget_top.specs.Fronts.{AppendsFront}
-use Rattle.budget_top.specs.Session.{Input, asked, asked_kept, obeyed, step, after, replies, some_refused, is_refused}
+use Rattle.budget_top.specs.Session.{Input, asked, asked_kept_line, obeyed, step, after, replies, some_refused, is_refused}
 use Rattle.budget_top.specs.Seen.{Seen, Holds}
 use Rattle.budget_top.specs.Handling.{IsHandled, Carries, CarriesEither, HoldsEither}
 use Rattle.budget_top.specs.Stops.{stop_of}
 use Rattle.budget_top.specs.Standing.{Entry, lines_of, readings_of, AreFirst, Halts, Cuts}
 use Rattle.budget_top.specs.DeviceSteps.{Stands, Ended, BreaksAs}
 use Rattle.budget_top.proofs.Cutting.{whole_lines-within, last_piece-within, whole_lines-end, last_piece-end, whole_lines-append}
-use Rattle.budget_top.proofs.Standing.{appends_as, kept-append}
+use Rattle.budget_top.proofs.Standing.{appends_as, kept_line-append}
 use Rattle.budget_top.proofs.Ending.{one_begun}
 use Rattle.budget_top.proofs.Feeding.{all_taken, taken_line}
 use Rattle.budget_top.proofs.Writing.{whole_rest}
@@ -43,17 +43,17 @@ both_same true x = refl
 both_same false x = refl
 
 -- a line that is too long asks the same as one of which nothing is kept
-pub asked_kept-kept : (line : List ℕ) → asked_kept (kept line) ≡ asked line
-asked_kept-kept line =
+pub asked-kept_line : (line : List ℕ) → asked_kept_line (kept_line line) ≡ asked line
+asked-kept_line line =
     let no_command : Result Command ℕ = Err 0 in
-    elim (nat_lt longest_line (length line)) as (λ t. nat_lt longest_line (length line) ≡ t → asked_kept (cond t None (Some line)) ≡ asked line) [
+    elim (nat_lt longest_line (length line)) as (λ t. nat_lt longest_line (length line) ≡ t → asked_kept_line (cond t None (Some line)) ≡ asked line) [
       | true ↦ λ long. sym (ap (λ t. cond (is_utf8 line) (cond t no_command (of_words (parts line))) no_command) long ∙ both_same (is_utf8 line) no_command)
       | false ↦ λ short. refl
     ] refl
 
 -- what is made of the line that has begun
 abbrev pub done : Session → ℕ → State × Reply
-done session reading = obeyed session.device.state reading (asked_kept session.line)
+done session reading = obeyed session.device.state reading (asked_kept_line session.line)
 
 -- that line as an input
 abbrev pub in_hand : List ℕ → ℕ → Input
@@ -82,9 +82,9 @@ module _ (e : Entry) (read : List ℕ) (old : Session) (before now : Seen) (s : 
 
   as_step : done old reading ≡ step (after e.start had) (in_hand read reading)
   as_step =
-      ap (λ (t : State). obeyed t reading (asked_kept old.line)) s.state
-      ∙ ap (λ l. obeyed (after e.start had) reading (asked_kept l)) s.line
-      ∙ ap (λ a. obeyed (after e.start had) reading a) (asked_kept-kept (last_piece read))
+      ap (λ (t : State). obeyed t reading (asked_kept_line old.line)) s.state
+      ∙ ap (λ l. obeyed (after e.start had) reading (asked_kept_line l)) s.line
+      ∙ ap (λ a. obeyed (after e.start had) reading a) (asked-kept_line (last_piece read))
 
   state_now : (done old reading).0 ≡ after e.start have
   state_now = ap (λ (d : State × Reply). d.0) as_step ∙ sym (after-last e.start had (in_hand read reading))
@@ -127,7 +127,7 @@ module _ (e : Entry) (read : List ℕ) (old : Session) (before now : Seen) (s : 
           (Appends-trans e.taken before.taken now.taken (replies e.start had) text s.handled.written written);
       keeper = λ t. holds_now t now.contents (carries t);
     };
-    line = line ∙ ap kept (sym (last_piece-end read));
+    line = line ∙ ap kept_line (sym (last_piece-end read));
     state = handled_line.state ∙ state_now;
     bad =
         bad ∙ ap (λ b. b || refused) s.bad ∙ ap (λ b. some_refused e.start had || b) (handled_line.is_bad ∙ ap is_refused reply_now)
@@ -183,7 +183,7 @@ module _ (e : Entry) (read : List ℕ) (old : Session) (before now : Seen) (s : 
   }
 
 -- bytes within a line
-pub stands_within : (e : Entry) (read bytes : List ℕ) (old new : Session) (now : Seen) → IsWithinLine bytes → new.device ≡ old.device → new.bad ≡ old.bad → new.line ≡ kept_with old.line bytes → Stands e read old now → Stands e (read ++ bytes) new now
+pub stands_within : (e : Entry) (read bytes : List ℕ) (old new : Session) (now : Seen) → IsWithinLine bytes → new.device ≡ old.device → new.bad ≡ old.bad → new.line ≡ kept_line_with old.line bytes → Stands e read old now → Stands e (read ++ bytes) new now
 stands_within e read bytes old new now within device bad line s = record {
   handled = record {
     inputs = s.handled.inputs;
@@ -192,7 +192,7 @@ stands_within e read bytes old new now within device bad line s = record {
     written = s.handled.written;
     keeper = s.handled.keeper;
   };
-  line = line ∙ ap (λ k. kept_with k bytes) s.line ∙ kept-append (last_piece read) bytes ∙ ap kept (sym (last_piece-within read bytes within));
+  line = line ∙ ap (λ k. kept_line_with k bytes) s.line ∙ kept_line-append (last_piece read) bytes ∙ ap kept_line (sym (last_piece-within read bytes within));
   state = ap (λ d. d.state) device ∙ s.state;
   bad = bad ∙ s.bad;
 }
@@ -268,7 +268,7 @@ stands_rest e read bytes at session now s =
 
 -- the end of the input
 
-no_bytes : (line : List ℕ) → kept line ≡ Some [] → line ≡ []
+no_bytes : (line : List ℕ) → kept_line line ≡ Some [] → line ≡ []
 no_bytes line h = by (nat_lt longest_line (length line)) h
   where
     by : (t : Bool) → cond t None (Some line) ≡ Some [] → line ≡ []

@@ -11,7 +11,7 @@ use Rattle.budget_top.specs.declared.merge.Merge.{Merge}
 use Rattle.budget_top.specs.Lines.{IsWithinLine, whole_lines, last_piece, all_lines, line_if_some}
 use Rattle.command_lines.specs.Commands.{longest_line}
 use Rattle.budget_top.specs.Verdicts.{Verdict, judged, judged_short, bad_line, bad_lines, bad_lines_from, messages_of, message_in, some_bad, merge_text}
-use Rattle.budget_top.specs.Kept.{kept, kept_with, judged_kept}
+use Rattle.budget_top.specs.KeptLine.{kept_line, kept_line_with, judged_kept_line}
 use Rattle.budget_top.specs.Fronts.{IsFront, AppendsFront}
 use Rattle.budget_top.specs.Steps.{Settles, Stands}
 use Rattle.budget_top.proofs.Cutting.{whole_lines-within, last_piece-within, whole_lines-end, last_piece-end, whole_lines-append}
@@ -75,15 +75,15 @@ long_more line more h =
     let P : ℕ → Type 0 = λ k. nat_lt longest_line k ≡ true in
     subst P (sym (length-append line more)) (wider longest_line (length line) (length more) h)
 
-pub kept-append : (line more : List ℕ) → kept_with (kept line) more ≡ kept (line ++ more)
-kept-append line more =
-    elim (nat_lt longest_line (length line)) as (λ t. nat_lt longest_line (length line) ≡ t → kept_with (cond t None (Some line)) more ≡ kept (line ++ more)) [
+pub kept_line-append : (line more : List ℕ) → kept_line_with (kept_line line) more ≡ kept_line (line ++ more)
+kept_line-append line more =
+    elim (nat_lt longest_line (length line)) as (λ t. nat_lt longest_line (length line) ≡ t → kept_line_with (cond t None (Some line)) more ≡ kept_line (line ++ more)) [
       | true ↦ λ e. sym (cond-true _ _ _ (long_more line more e))
       | false ↦ λ e. refl
     ] refl
 
-pub judged-kept : (line : List ℕ) → judged_kept (kept line) ≡ judged line
-judged-kept line = elim (nat_lt longest_line (length line)) as (λ t. judged_kept (cond t None (Some line)) ≡ cond t (judged_kept None) (judged_short line)) [ true ↦ refl | false ↦ refl ]
+pub judged-kept_line : (line : List ℕ) → judged_kept_line (kept_line line) ≡ judged line
+judged-kept_line line = elim (nat_lt longest_line (length line)) as (λ t. judged_kept_line (cond t None (Some line)) ≡ cond t (judged_kept_line None) (judged_short line)) [ true ↦ refl | false ↦ refl ]
 
 -- the steps
 
@@ -100,7 +100,7 @@ settles_good old new a verdict m is live came line number bad =
     (record { live = live; messages = came; line = line; number = number; bad = bad ∙ or_false old.has_bad; written = Appends-nil a })
 
 pub stands_within : (entry now : Option (List ℕ)) (read bytes : List ℕ) (old new : Merge) → IsWithinLine bytes
-    → new.latest ≡ old.latest → new.line ≡ kept_with old.line bytes → new.number ≡ old.number → new.has_bad ≡ old.has_bad
+    → new.latest ≡ old.latest → new.line ≡ kept_line_with old.line bytes → new.number ≡ old.number → new.has_bad ≡ old.has_bad
     → Stands entry now read old → Stands entry now (read ++ bytes) new
 stands_within entry now read bytes old new within latest line number bad h =
     let same = sym (whole_lines-within read bytes within) in
@@ -110,8 +110,8 @@ stands_within entry now read bytes old new within latest line number bad h =
           subst (λ (ls : List (List ℕ)). CameFrom (messages_of ls) new.latest) same
           (subst (λ (l : LatestState). CameFrom (messages_of (whole_lines read)) l) (sym latest) h.messages);
       line =
-          line ∙ ap (λ k. kept_with k bytes) h.line ∙ kept-append (last_piece read) bytes
-          ∙ ap kept (sym (last_piece-within read bytes within));
+          line ∙ ap (λ k. kept_line_with k bytes) h.line ∙ kept_line-append (last_piece read) bytes
+          ∙ ap kept_line (sym (last_piece-within read bytes within));
       number = number ∙ h.number ∙ ap length same;
       bad = bad ∙ h.bad ∙ ap some_bad same;
       written = appends_as entry now _ _ (ap bad_lines same) h.written;
@@ -121,11 +121,11 @@ stands_within entry now read bytes old new within latest line number bad h =
 due : (read : List ℕ) → bad_lines (whole_lines (read ++ 10 ∷ [])) ≡ bad_lines (whole_lines read) ++ bad_line (length (whole_lines read) + 1) (judged (last_piece read))
 due read = ap bad_lines (whole_lines-end read) ∙ bad_lines-push (whole_lines read) (last_piece read)
 
-pub stands_end : (entry now then : Option (List ℕ)) (read : List ℕ) (old mid new : Merge) (verdict : Verdict) → verdict ≡ judged_kept old.line → Settles old mid now then verdict
+pub stands_end : (entry now then : Option (List ℕ)) (read : List ℕ) (old mid new : Merge) (verdict : Verdict) → verdict ≡ judged_kept_line old.line → Settles old mid now then verdict
     → new.latest ≡ mid.latest → new.line ≡ Some [] → new.number ≡ mid.number + 1 → new.has_bad ≡ mid.has_bad
     → Stands entry now read old → Stands entry then (read ++ 10 ∷ []) new
 stands_end entry now then read old mid new verdict judges s latest line number bad h =
-    let is : verdict ≡ judged (last_piece read) = judges ∙ ap judged_kept h.line ∙ judged-kept (last_piece read) in
+    let is : verdict ≡ judged (last_piece read) = judges ∙ ap judged_kept_line h.line ∙ judged-kept_line (last_piece read) in
     let lines = sym (whole_lines-end read) in
     record {
       live = ap (λ (l : LatestState). l.spent) latest ∙ s.live;
@@ -133,7 +133,7 @@ stands_end entry now then read old mid new verdict judges s latest line number b
           subst (λ (ms : List Message). CameFrom ms new.latest)
           (ap (λ v. messages_of (whole_lines read) ++ message_in v) is ∙ sym (messages-push (whole_lines read) (last_piece read)) ∙ ap messages_of lines)
           (subst (λ (l : LatestState). CameFrom (messages_of (whole_lines read) ++ message_in verdict) l) (sym latest) (s.messages (messages_of (whole_lines read)) h.messages));
-      line = line ∙ ap kept (sym (last_piece-end read));
+      line = line ∙ ap kept_line (sym (last_piece-end read));
       number = omega (arith, number, s.number, h.number, ap length lines, length-push (whole_lines read) (last_piece read));
       bad =
           bad ∙ s.bad ∙ ap (λ b. b || is_err verdict) h.bad ∙ ap (λ v. some_bad (whole_lines read) || is_err v) is
@@ -145,10 +145,10 @@ stands_end entry now then read old mid new verdict judges s latest line number b
     }
 
 -- the line that has begun was not written whole
-pub breaks_end : (entry now then : Option (List ℕ)) (read : List ℕ) (old : Merge) (verdict : Verdict) → verdict ≡ judged_kept old.line → AppendsFront now then (bad_line (old.number + 1) verdict)
+pub breaks_end : (entry now then : Option (List ℕ)) (read : List ℕ) (old : Merge) (verdict : Verdict) → verdict ≡ judged_kept_line old.line → AppendsFront now then (bad_line (old.number + 1) verdict)
     → Stands entry now read old → AppendsFront entry then (bad_lines (whole_lines (read ++ 10 ∷ [])))
 breaks_end entry now then read old verdict judges f h =
-    let is : verdict ≡ judged (last_piece read) = judges ∙ ap judged_kept h.line ∙ judged-kept (last_piece read) in
+    let is : verdict ≡ judged (last_piece read) = judges ∙ ap judged_kept_line h.line ∙ judged-kept_line (last_piece read) in
     front_as entry then _ _
     (ap (λ n. bad_lines (whole_lines read) ++ bad_line (n + 1) verdict) h.number ∙ ap (λ v. bad_lines (whole_lines read) ++ bad_line (length (whole_lines read) + 1) v) is ∙ sym (due read))
     (front_then entry now then (bad_lines (whole_lines read)) (bad_line (old.number + 1) verdict) h.written f)

@@ -67,11 +67,11 @@ abbrev pub TellsBadRecord : ℕ → Option (List ℕ) → Option (List ℕ) → 
 TellsBadRecord index taken new_taken faults new_faults =
     (new_faults ≡ faults) × Appends taken new_taken (bad_record_text index) ⊎ (new_faults ≡ risen faults) × AppendsFront taken new_taken (bad_record_text index)
 
--- such a record is the first one, and was told
+-- such a record is the first one, and was reported
 pub record BadRecord (faults new_faults : ℕ) (old now : Seen) : Type 0 where
   pub index : ℕ
   pub first_bad : now.tells → kept_set (device_records old.contents) ≡ Err index
-  pub told : TellsBadRecord index old.taken now.taken faults new_faults
+  pub reported : TellsBadRecord index old.taken now.taken faults new_faults
 
 -- The group was not opened, and nothing was read. A record of it keeps no message, or the keeper failed or memory ran out
 -- before anything was written

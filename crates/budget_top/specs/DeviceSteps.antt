@@ -8,7 +8,7 @@ use Rattle.budget_top.specs.declared.input.End.{End}
 use Rattle.budget_top.specs.declared.input.End.TheVariants.{AtEnd, SourceFailed, TooMuch, Stopped}
 use Rattle.budget_top.specs.Lines.{whole_lines, last_piece, all_lines}
 use Rattle.budget_top.specs.Limits.{most_input}
-use Rattle.budget_top.specs.Kept.{kept}
+use Rattle.budget_top.specs.KeptLine.{kept_line}
 use Rattle.budget_top.specs.Session.{after, some_refused}
 use Rattle.budget_top.specs.Seen.{device_group, Seen}
 use Rattle.budget_top.specs.Standing.{Entry, Handles, Halts, FailsToKeep, Cuts}
@@ -22,7 +22,7 @@ pub record IsReady (session : Session) : Type 0 where
 -- these bytes were read, and their whole lines handled
 pub record Stands (e : Entry) (read : List ℕ) (session : Session) (now : Seen) : Type 0 where
   pub handled : Handles e (whole_lines read) now
-  pub line : session.line ≡ kept (last_piece read)
+  pub line : session.line ≡ kept_line (last_piece read)
   pub state : session.device.state ≡ after e.start handled.inputs
   pub bad : session.bad ≡ some_refused e.start handled.inputs
 

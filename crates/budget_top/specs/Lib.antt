@@ -5,7 +5,7 @@ pub mod Written
 pub mod Lines
 pub mod Limits
 pub mod Verdicts
-pub mod Kept
+pub mod KeptLine
 pub mod Fronts
 pub mod MergeRun
 pub mod Stops

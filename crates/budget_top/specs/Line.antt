@@ -53,18 +53,18 @@ pub data Place : Type 0 where
   after_dashes : Place
 
 -- a pair before those of the words to come
-abbrev pub joined : Pair → Option (List Pair) → Option (List Pair)
-joined pair rest = option_map (λ more. pair ∷ more) rest
+abbrev pub pair_then : Pair → Option (List Pair) → Option (List Pair)
+pair_then pair rest = option_map (λ more. pair ∷ more) rest
 
 -- the pairs of a word at a place, and of the words after it; none where the word may not stand there
 abbrev pub part : Place → Look → List ℕ → (Place → Option (List Pair)) → Option (List Pair)
-part after_dashes shape word rest = joined (mode, word) (rest after_dashes)
+part after_dashes shape word rest = pair_then (mode, word) (rest after_dashes)
 part anywhere dashes word rest = rest after_dashes
-part anywhere (long name (Some value)) word rest = if is_option name then joined (name, value) (rest anywhere) else None
+part anywhere (long name (Some value)) word rest = if is_option name then pair_then (name, value) (rest anywhere) else None
 part anywhere (long name None) word rest = if is_option name then rest (value_of name) else None
 part anywhere short word rest = None
-part anywhere plain word rest = joined (mode, word) (rest anywhere)
-part (value_of name) plain word rest = if bytes_eq word (codes "-") then None else joined (name, word) (rest anywhere)
+part anywhere plain word rest = pair_then (mode, word) (rest anywhere)
+part (value_of name) plain word rest = if bytes_eq word (codes "-") then None else pair_then (name, word) (rest anywhere)
 part (value_of name) shape word rest = None
 
 -- the pairs of the words from a place on

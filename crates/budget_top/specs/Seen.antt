@@ -1,7 +1,7 @@
 -- What the objects of the outside tell a device's run.
 use Rattle.std.specs.Prelude.{ℕ, List, [], Option, Some, codes}
 use Rattle.budget_ports.specs.Contents.{Contents, Text, records_after}
-use Rattle.budget_ports.specs.declared.keeper.Kept.{Kept}
+use Rattle.budget_ports.specs.declared.keeper.Record.{Record}
 use Rattle.budget_ports.specs.Readings.{Readings}
 use Rattle.budget_ports.specs.Memory.{SinkState}
 use Rattle.budget_ports.specs.KeeperState.{KeeperState, holds}
@@ -13,7 +13,7 @@ abbrev pub device_group : Text
 device_group = codes "device"
 
 -- its records
-abbrev pub device_records : Contents → List Kept
+abbrev pub device_records : Contents → List Record
 device_records contents = records_after contents device_group []
 
 -- the group keeps this message set, and all else is as it was at entry

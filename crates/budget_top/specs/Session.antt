@@ -21,9 +21,9 @@ abbrev pub asked : List ℕ → Result Command ℕ
 asked line = if is_utf8 line then command line else Err 0
 
 -- the same of what is kept of a line: nothing of one that is too long
-abbrev pub asked_kept : Option (List ℕ) → Result Command ℕ
-asked_kept None = Err 0
-asked_kept (Some line) = asked line
+abbrev pub asked_kept_line : Option (List ℕ) → Result Command ℕ
+asked_kept_line None = Err 0
+asked_kept_line (Some line) = asked line
 
 -- the reply to a refusal. A want of memory would have none, and no line is refused for that by what it says
 abbrev pub reply_to_refusal : Option Reply → Reply

@@ -10,7 +10,7 @@ use Rattle.budget_top.specs.declared.input.End.{End}
 use Rattle.budget_top.specs.declared.input.End.TheVariants.{AtEnd, SourceFailed, TooMuch, Stopped}
 use Rattle.budget_top.specs.Lines.{whole_lines, last_piece, all_lines}
 use Rattle.budget_top.specs.Verdicts.{Verdict, bad_line, bad_lines, message_in, messages_of, some_bad}
-use Rattle.budget_top.specs.Kept.{kept}
+use Rattle.budget_top.specs.KeptLine.{kept_line}
 use Rattle.budget_top.specs.Fronts.{AppendsFront}
 use Rattle.budget_top.specs.Limits.{most_input}
 
@@ -27,7 +27,7 @@ pub record Settles (old new : Merge) (a b : Option (List ℕ)) (verdict : Verdic
 pub record Stands (entry now : Option (List ℕ)) (read : List ℕ) (m : Merge) : Type 0 where
   pub live : m.latest.spent ≡ false
   pub messages : CameFrom (messages_of (whole_lines read)) m.latest
-  pub line : m.line ≡ kept (last_piece read)
+  pub line : m.line ≡ kept_line (last_piece read)
   pub number : m.number ≡ length (whole_lines read)
   pub bad : m.has_bad ≡ some_bad (whole_lines read)
   pub written : Appends entry now (bad_lines (whole_lines read))

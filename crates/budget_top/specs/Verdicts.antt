@@ -1,5 +1,5 @@
 -- What merging makes of each line, and what it writes.
-use Rattle.std.specs.Prelude.{ℕ, ◌+◌, Bool, nat_lt, if◌then◌else◌, List, [], ◌∷◌, ◌++◌, length, Result, Ok, Err, codes}
+use Rattle.std.specs.Prelude.{ℕ, ◌+◌, Bool, if◌then◌else◌, List, [], ◌∷◌, ◌++◌, Result, Ok, Err, codes}
 use Rattle.std.specs.List.{list_any, flat_map}
 use Rattle.std.specs.Result.{is_err}
 use Rattle.std.specs.Str.{is_utf8}
@@ -9,7 +9,7 @@ use Rattle.field_merge.specs.declared.line.LineFault.{LineFault}
 use Rattle.field_merge.specs.declared.line.LineFault.TheVariants.{Columns as BadColumns, Escape as BadEscape, Stamp as BadStamp, Name as BadName, NoMemory}
 use Rattle.field_merge.specs.Lines.{reading}
 use Rattle.field_merge.specs.Log.{join, field_text}
-use Rattle.command_lines.specs.Commands.{longest_line}
+use Rattle.command_lines.specs.Commands.{is_too_long}
 use Rattle.budget_top.specs.declared.verdict.Word.{Word}
 use Rattle.budget_top.specs.declared.verdict.Word.TheVariants.{Long, Utf8, Columns, Escape, Stamp, Name}
 use Rattle.budget_top.specs.Lines.{all_lines}
@@ -36,7 +36,7 @@ judged_short line = if is_utf8 line then worded (reading line) else Err Utf8
 
 -- the verdict on a line: it is too long, or no UTF-8, or what it reads as
 abbrev pub judged : List ℕ → Verdict
-judged line = if nat_lt longest_line (length line) then Err Long else judged_short line
+judged line = if is_too_long line then Err Long else judged_short line
 
 abbrev pub word_text : Word → List ℕ
 word_text Long = codes "long"

@@ -116,13 +116,9 @@ abbrev pub IsPlan : Plan → Type 0
 IsPlan plan = IsNodeFor plan.mode plan.node
 
 -- memory ran out, or it is the fault of the result
-abbrev pub HasFault : {A : Type 0} → Result A WordFault → WordFault → Type 0
-HasFault due NoMemory = Unit {0}
-HasFault due fault = due ≡ Err fault
-
--- memory ran out, or it is the fault of the words
-abbrev pub IsFaultOf : List (List ℕ) → WordFault → Type 0
-IsFaultOf words fault = HasFault (planned words) fault
+abbrev pub IsWordFault : {A : Type 0} → Result A WordFault → WordFault → Type 0
+IsWordFault due NoMemory = Unit {0}
+IsWordFault due fault = due ≡ Err fault
 
 -- the name of a fault
 abbrev pub fault_name : WordFault → List ℕ

@@ -19,5 +19,5 @@ pub data IsWritten : List Pair → List (List ℕ) → Type 0 where
       → IsWritten ((name, value) ∷ pairs) ((codes "--" ++ name) ∷ value ∷ words)
 
 -- the lines are the words that write one mode word and each option at most once
-abbrev pub lines_as_written : Type 0
-lines_as_written = (words : List (List ℕ)) (pairs : List Pair) → (line words ≡ Some pairs) ↔ ((is_line pairs ≡ true) × IsWritten pairs words)
+abbrev pub LinesAreWritten : Type 0
+LinesAreWritten = (words : List (List ℕ)) (pairs : List Pair) → (line words ≡ Some pairs) ↔ ((is_line pairs ≡ true) × IsWritten pairs words)

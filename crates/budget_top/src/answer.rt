@@ -9,7 +9,7 @@ ghost use Rattle.budget_ports.specs.Faults.{count_after};
 ghost use Rattle.budget_ports.specs.Contents.{Contents};
 ghost use Rattle.budget_ports.specs.Keeper.{has_failed, Only};
 ghost use Rattle.budget_ports.specs.declared.keeper.PortFault.TheVariants.{Failed as HasFailed};
-ghost use Rattle.budget_top.specs.Session.{asked_kept, settled, wrote_all, added_all, obeyed, is_refused};
+ghost use Rattle.budget_top.specs.Session.{asked_kept_line, settled, wrote_all, added_all, obeyed, is_refused};
 ghost use Rattle.budget_top.specs.Seen.{device_group};
 ghost use Rattle.budget_top.specs.Handling.{IsHandled, Brings, Carries, CarriesEither};
 
@@ -36,7 +36,7 @@ pub struct Answer {
 /// The command of a line, or the index of its first word that is not of its form: 0 for a line that
 /// is too long or no UTF-8.
 fn ask(alloc: Global, line: &Begun) -> Result<Command, CommandFault>
-    ensures read { IsRead (asked_kept line.now) result }
+    ensures read { IsRead (asked_kept_line line.now) result }
     ensures valid { IfOk result IsCommand }
 {
     let Some(bytes) = line.bytes() else {
@@ -123,7 +123,7 @@ fn reply_to<G: Ledger>(
 ) -> Result<Reply, NoMemory>
     requires live { device.old.spent ≡ false }
     requires idle { device.old.batch ≡ [] }
-    ensures ok { IfOk result (λ reply. obeyed device.old.state reading (asked_kept line.now) ≡ (device.new.state, reply)) }
+    ensures ok { IfOk result (λ reply. obeyed device.old.state reading (asked_kept_line line.now) ≡ (device.new.state, reply)) }
     ensures live { OnOk result (device.new.spent ≡ false) }
     ensures brings { OnOk result (Brings device.old.state.messages device.new) }
 {
@@ -181,14 +181,14 @@ pub fn handle_line<K: Keeper, G: Ledger>(
     requires live { device.old.spent ≡ false }
     requires idle { device.old.batch ≡ [] }
     requires group { group.now ≡ device_group }
-    ensures ok { IfOk result (λ a. IsHandled (obeyed device.old.state reading (asked_kept line.now)) device.new.state a.text a.refused) }
+    ensures ok { IfOk result (λ a. IsHandled (obeyed device.old.state reading (asked_kept_line line.now)) device.new.state a.text a.refused) }
     ensures live { OnOk result (device.new.spent ≡ false) }
     ensures idle { OnOk result (device.new.batch ≡ []) }
-    ensures carries { K.tells keeper.new → OnOk result (Carries device.old.state.messages (obeyed device.old.state reading (asked_kept line.now)).0.messages (K.contents keeper.old) (K.contents keeper.new)) }
+    ensures carries { K.tells keeper.new → OnOk result (Carries device.old.state.messages (obeyed device.old.state reading (asked_kept_line line.now)).0.messages (K.contents keeper.old) (K.contents keeper.new)) }
     ensures alone { K.tells keeper.new → OnOk result (Only (K.contents keeper.old) (K.left keeper.old) → Only (K.contents keeper.new) (K.left keeper.new)) }
     ensures same { K.tells keeper.new → OnErr result (K.contents keeper.new ≡ K.contents keeper.old) }
-    ensures new { IsErrOf result HasFailed → (obeyed device.old.state reading (asked_kept line.now)).0.messages ≢ device.old.state.messages }
-    ensures stops { K.tells keeper.new → OnErr result (Only (K.contents keeper.old) (K.left keeper.old) → (c : Contents) → K.left keeper.new c → CarriesEither device.old.state.messages (obeyed device.old.state reading (asked_kept line.now)).0.messages (K.contents keeper.old) c) }
+    ensures new { IsErrOf result HasFailed → (obeyed device.old.state reading (asked_kept_line line.now)).0.messages ≢ device.old.state.messages }
+    ensures stops { K.tells keeper.new → OnErr result (Only (K.contents keeper.old) (K.left keeper.old) → (c : Contents) → K.left keeper.new c → CarriesEither device.old.state.messages (obeyed device.old.state reading (asked_kept_line line.now)).0.messages (K.contents keeper.old) c) }
     ensures told { K.tells keeper.new → K.tells keeper.old }
     ensures count { K.faults keeper.new ≡ count_after (has_failed result) (K.faults keeper.old) }
 {

@@ -1,7 +1,7 @@
 //! The line that has begun.
 ghost use Rattle.std.specs.Prelude.{◌≡◌, ◌↔◌, IfOk, OnOk, IsTrue, MatchOption, None, Some, []};
 ghost use Rattle.field_merge.specs.Messages.{IsMessage};
-ghost use Rattle.budget_top.specs.Kept.{judged_kept, kept_with};
+ghost use Rattle.budget_top.specs.KeptLine.{judged_kept_line, kept_line_with};
 
 use crate::verdict::{Word, judge};
 use command_lines::LONGEST_LINE;
@@ -46,7 +46,7 @@ impl Begun {
     ///
     /// `NoMemory`; the line is then not to be used any more.
     pub fn push(&mut self, bytes: &[u8]) -> Result<(), NoMemory>
-        ensures { OnOk result (self.new ≡ kept_with self.old bytes.now) }
+        ensures { OnOk result (self.new ≡ kept_line_with self.old bytes.now) }
     {
         if self.is_long {
             return Ok(());
@@ -83,7 +83,7 @@ impl Begun {
     ///
     /// `NoMemory`. The line stays as it is.
     pub fn judge(&self, alloc: Global) -> Result<Result<Message, Word>, NoMemory>
-        ensures verdict { IfOk result (λ verdict. verdict ≡ judged_kept self.now) }
+        ensures verdict { IfOk result (λ verdict. verdict ≡ judged_kept_line self.now) }
         ensures valid { IfOk result (λ verdict. IfOk verdict IsMessage) }
     {
         if self.is_long {

@@ -100,15 +100,15 @@ fn answer_lines<S: Source, W: Sink, K: Keeper, C: WallClock, G: Ledger>(
 /// Tells that the record with this index keeps no message. Where the sink fails at that, the record
 /// still decides the status.
 fn bad_record<W: Sink>(alloc: Global, sink: &mut W, index: usize) -> u8
-    ensures told { result ≡ 3 → TellsBadRecord index (W.taken sink.old) (W.taken sink.new) (W.faults sink.old) (W.faults sink.new) }
-    ensures untold { result ≡ 7 → (W.taken sink.new ≡ W.taken sink.old) × (W.faults sink.new ≡ W.faults sink.old) }
+    ensures reported { result ≡ 3 → TellsBadRecord index (W.taken sink.old) (W.taken sink.new) (W.faults sink.old) (W.faults sink.new) }
+    ensures unreported { result ≡ 7 → (W.taken sink.new ≡ W.taken sink.old) × (W.faults sink.new ≡ W.faults sink.old) }
     ensures known { (result ≡ 3) ⊎ (result ≡ 7) }
 {
     let text = match format!(in alloc; "bad-record {index}\n") {
         Ok(text) => text,
         Err(_) => return NO_MEMORY,
     };
-    let _told = write_and_flush(sink, text.as_str().as_bytes());
+    let _reported = write_and_flush(sink, text.as_str().as_bytes());
     BAD_RECORD
 }
 

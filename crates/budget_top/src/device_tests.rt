@@ -1,5 +1,5 @@
 use crate::tests::{FOOD, joined, uncounted};
-use budget_ports::{Keeper, Kept, ListClock, MemoryKeeper, MemorySink, MemorySource, PortFault};
+use budget_ports::{Keeper, ListClock, MemoryKeeper, MemorySink, MemorySource, PortFault, Record};
 use field_values::{Items, Txt};
 use std::alloc::Global;
 use std::marker::Brand;
@@ -135,7 +135,7 @@ fn kept_lines(rt: HostRuntime) -> Result<(), Fail> {
 /// Keeps a record of the device whose body is `x`.
 fn keep_bad(alloc: Global, keeper: &mut MemoryKeeper) -> Result<(), PortFault> {
     let group = Txt::from_text(alloc, "device")?;
-    let record = Kept {
+    let record = Record {
         key: Txt::from_text(alloc, "2024-01-05T10:00:00.000Z-0000-00000000000000aa")?,
         body: Txt::from_text(alloc, "x")?,
     };

@@ -1,5 +1,5 @@
 //! What holds of all command lines, and of all replies.
-ghost use Rattle.budget_top.specs.Written.{lines_as_written};
+ghost use Rattle.budget_top.specs.Written.{LinesAreWritten};
 ghost use Rattle.budget_top.specs.Replies.{RepliesAreCut};
 
 use command_lines::replies_are_lines;
@@ -7,7 +7,7 @@ use command_lines::replies_are_lines;
 /// The command lines are the words that write one mode word and options, each at most once: an
 /// option as `--name=value`, or as `--name value` where the value has no hyphen in front.
 pub fn lines_are_written()
-    ensures { lines_as_written }
+    ensures { LinesAreWritten }
 {}
 
 /// Whoever cuts what a device has written at its line feeds finds one reply behind the other, each as

@@ -2,7 +2,7 @@
 ghost use Rattle.std.specs.Prelude.{◌≡◌, ◌≢◌, IfOk, IfErr, Ok, Err, IsUtf8, map, option_map, unwrap_or};
 ghost use Rattle.std.specs.List.{All};
 ghost use Rattle.clap.specs.Words.{first_value, found_of};
-ghost use Rattle.budget_top.specs.Words.{IsFaultOf, HasFault, IsPlan, IsNodeFor, planned, planned_by, plan_with, mode_named, node_for, count_from, name_or};
+ghost use Rattle.budget_top.specs.Words.{IsWordFault, IsPlan, IsNodeFor, planned, planned_by, plan_with, mode_named, node_for, count_from, name_or};
 
 use crate::line::line_matches;
 use crate::values::{count_of, is_name};
@@ -60,7 +60,7 @@ fn count_from(text: Option<&str>) -> Result<u32, WordFault>
 fn name_or(alloc: Global, fault: WordFault, text: &str) -> Result<Txt, WordFault>
     requires { fault ≢ WordFault.NoMemory }
     ensures ok { IfOk result (λ name. name_or fault text.now ≡ Ok name) }
-    ensures err { IfErr result (HasFault (name_or fault text.now)) }
+    ensures err { IfErr result (IsWordFault (name_or fault text.now)) }
 {
     if !is_name(text) {
         return Err(fault);
@@ -77,7 +77,7 @@ fn plan_with(
     count: u32,
 ) -> Result<Plan, WordFault>
     ensures ok { IfOk result (λ plan. plan_with (λ name. first_value (found_of given.now) name) mode node count ≡ Ok plan) }
-    ensures err { IfErr result (HasFault (plan_with (λ name. first_value (found_of given.now) name) mode node count)) }
+    ensures err { IfErr result (IsWordFault (plan_with (λ name. first_value (found_of given.now) name) mode node count)) }
     ensures node { IfOk result (λ plan. (plan.mode ≡ mode) × (plan.node ≡ node)) }
 {
     let token = given.get_str("token").unwrap_or("local");
@@ -101,7 +101,7 @@ fn plan_with(
 /// The plan, from what was found in the words.
 fn plan_of(alloc: Global, given: &ArgMatches<'_>) -> Result<Plan, WordFault>
     ensures ok { IfOk result (λ plan. planned_by (λ name. first_value (found_of given.now) name) ≡ Ok plan) }
-    ensures err { IfErr result (HasFault (planned_by (λ name. first_value (found_of given.now) name))) }
+    ensures err { IfErr result (IsWordFault (planned_by (λ name. first_value (found_of given.now) name))) }
     ensures whole { IfOk result IsPlan }
 {
     if given.get_str("store").is_some() {
@@ -133,7 +133,7 @@ fn texts_of<'a>(alloc: Global, words: &'a [Txt]) -> Result<Vec<&'a str>, NoMemor
 /// can run out before.
 pub fn plan(alloc: Global, words: &Items<Txt>) -> Result<Plan, WordFault>
     ensures ok { IfOk result (λ plan. planned words.now ≡ Ok plan) }
-    ensures err { IfErr result (IsFaultOf words.now) }
+    ensures err { IfErr result (IsWordFault (planned words.now)) }
     ensures whole { IfOk result IsPlan }
 {
     let texts = texts_of(alloc, words.as_slice())?;

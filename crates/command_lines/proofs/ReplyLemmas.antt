@@ -12,7 +12,8 @@ use Rattle.hybrid_clock.specs.declared.clock.ClockFault.{ClockFault}
 use Rattle.hybrid_clock.specs.declared.clock.ClockFault.TheVariants.{Drift, Overflow, Beyond}
 use Rattle.field_merge.specs.declared.message.Message.{Message}
 use Rattle.field_merge.specs.Messages.{message_line}
-use Rattle.field_merge.specs.Log.{fields, later}
+use Rattle.field_merge.specs.Lines.{ended}
+use Rattle.field_merge.specs.Log.{fields, messages_after}
 use Rattle.field_merge.proofs.EscapeLemmas.{Lacks, Fails-append, escaped-no_feed}
 use Rattle.minute_trie.specs.declared.key.Digit.{Digit}
 use Rattle.minute_trie.specs.declared.key.Digit.TheVariants.{Zero, One, Two}
@@ -28,7 +29,7 @@ use Rattle.command_lines.specs.declared.command.Command.TheVariants.{Edit, Recei
 use Rattle.command_lines.specs.declared.reply.Reply.{Reply}
 use Rattle.command_lines.specs.declared.reply.Reply.TheVariants.{Done, Refused}
 use Rattle.command_lines.specs.Readings.{shown, value_in, answer}
-use Rattle.command_lines.specs.Replies.{ended, detail_text, reply_lines, refused_clock, refused}
+use Rattle.command_lines.specs.Replies.{detail_text, reply_lines, refused_clock, refused}
 use Rattle.command_lines.specs.ReplyLines.{IsLine, AreLines, IsReply, RepliesAreLines}
 use Rattle.command_lines.proofs.Cutting.{pieces, pieces-at}
 use Rattle.command_lines.proofs.LineLemmas.{OnOneLine}
@@ -127,7 +128,7 @@ message_lines_are law (m ∷ ms) = (law m, message_lines_are law ms)
 
 answer_is : OnOneLine → (messages : List Message) (command : Command) → IsReply (answer messages command)
 answer_is law messages Fields = message_lines_are law (fields messages)
-answer_is law messages (Messages since) = message_lines_are law (later since messages)
+answer_is law messages (Messages since) = message_lines_are law (messages_after since messages)
 answer_is law messages (Value dataset row column) =
     let value : Option AnyValue = value_in messages (field_of dataset row column) in (is_line (shown value) (shown_plain value), tt)
 answer_is law messages Trie =

@@ -8,7 +8,7 @@ use Rattle.std.proofs.lemmas.List.Sums.{count_by-le-length}
 use Rattle.field_merge.specs.Lines.{parts}
 use Rattle.command_lines.specs.declared.command.Command.{Command}
 use Rattle.command_lines.specs.declared.command.CommandFault.{CommandFault}
-use Rattle.command_lines.specs.Commands.{no_more, command_of, IsFault, IsRead}
+use Rattle.command_lines.specs.Commands.{no_more, command_of, IsCommandFault, IsRead}
 
 surplus_front : (c : Command) (last x : ℕ) (ps : List (List ℕ)) → command_of (no_more c) last (onto_first x ps) ≡ Err (last + 1)
 surplus_front c last x [] = refl
@@ -24,13 +24,13 @@ surplus c last [] = refl
 surplus c last (x ∷ xs) = surplus_at c last x (eqb x 9) (parts xs)
 
 -- the fault with which a `?` leaves a function is what the call gave
-pub at_exit : (meant : Result Command ℕ) (r : Result Command CommandFault) (fault : CommandFault) → IsErrAnd r (λ given. given ≡ fault) → IsFault meant fault → IsRead meant r
+pub at_exit : (meant : Result Command ℕ) (r : Result Command CommandFault) (fault : CommandFault) → IsErrAnd r (λ given. given ≡ fault) → IsCommandFault meant fault → IsRead meant r
 at_exit meant (Ok c) fault h f = absurd h
-at_exit meant (Err given) fault h f = subst (IsFault meant) (sym h) f
+at_exit meant (Err given) fault h f = subst (IsCommandFault meant) (sym h) f
 
 -- the same where the words before the fault were read
-pub at_later_exit : (meant left : Result Command ℕ) (r : Result Command CommandFault) (fault : CommandFault) → meant ≡ left → IsErrAnd r (λ given. given ≡ fault) → IsFault left fault → IsRead meant r
-at_later_exit meant left r fault e h f = at_exit meant r fault h (subst (λ m. IsFault m fault) (sym e) f)
+pub at_later_exit : (meant left : Result Command ℕ) (r : Result Command CommandFault) (fault : CommandFault) → meant ≡ left → IsErrAnd r (λ given. given ≡ fault) → IsCommandFault left fault → IsRead meant r
+at_later_exit meant left r fault e h f = at_exit meant r fault h (subst (λ m. IsCommandFault m fault) (sym e) f)
 
 -- a line has at most one word more than bytes
 pub few_words : (line name : List ℕ) (ws : List (List ℕ)) → parts line ≡ name ∷ ws → length line ≤ 1_048_576 → length ws < 2 ^ 31

@@ -7,7 +7,7 @@ use Rattle.std.proofs.lemmas.List.{append-nil}
 use Rattle.field_values.specs.declared.name.NamePart.{NamePart}
 use Rattle.field_values.specs.declared.name.NamePart.TheVariants.{Dataset, Row, Column}
 use Rattle.field_values.specs.declared.value.Value.{Value as AnyValue}
-use Rattle.field_values.specs.Names.{IsName, name_fault}
+use Rattle.field_values.specs.Names.{IsName, field_of, name_fault}
 use Rattle.field_values.specs.Value.{value_text, value_of, IsValue, ValuesReadBack}
 use Rattle.field_values.proofs.NameLemmas.{name_fault-none}
 use Rattle.hybrid_clock.specs.declared.stamp.Stamp.{Stamp}
@@ -16,14 +16,14 @@ use Rattle.hybrid_clock.specs.Reading.{read_stamp}
 use Rattle.field_merge.specs.declared.message.Message.{Message}
 use Rattle.field_merge.specs.Escapes.{escaped, bad_escape}
 use Rattle.field_merge.specs.Lines.{parts}
-use Rattle.field_merge.specs.Messages.{IsMessage, message_texts}
+use Rattle.field_merge.specs.Messages.{IsMessage, message_of, message_texts}
 use Rattle.field_merge.proofs.EscapeLemmas.{escaped-no_tab, unescaped-escaped, bad_escape-escaped}
 use Rattle.field_merge.proofs.LineLemmas.{parts-none, parts-at}
 use Rattle.device_core.specs.declared.edit.Edit.TheVariants.{Book}
 use Rattle.device_core.specs.declared.edit.BookEdit.TheVariants.{Set}
 use Rattle.command_lines.specs.declared.command.Command.{Command}
 use Rattle.command_lines.specs.declared.command.Command.TheVariants.{Edit, Receive, Fields, Messages, Value, Trie}
-use Rattle.command_lines.specs.Commands.{Wanted, word, no_more, of_stamp, of_name, stamp_word, name_word, message_of, unescaped_for, command_of, of_words, longest_line, IsCommand}
+use Rattle.command_lines.specs.Commands.{Wanted, word, no_more, of_stamp, of_name, stamp_word, name_word, unescaped_for, command_of, of_words, longest_line, IsCommand}
 use Rattle.command_lines.specs.Written.{command_texts, command_line, CommandsReadBack}
 
 -- timestamps are read back from their texts
@@ -64,14 +64,14 @@ receive_back values stamps m is =
     let r : List ℕ = m.field.row in
     let c : List ℕ = m.field.column in
     let v : List ℕ = escaped (value_text m.value) in
-    let value_word : List ℕ → List ℕ → List ℕ → Wanted = λ dataset row column. word (λ value. no_more (Receive (message_of s dataset row column value))) in
+    let value_word : List ℕ → List ℕ → List ℕ → Wanted = λ dataset row column. word (λ value. no_more (Receive (message_of s (field_of dataset row column) value))) in
     let column_word : List ℕ → List ℕ → Wanted = λ dataset row. name_word Column (λ column. value_word dataset row column) in
     let row_word : List ℕ → Wanted = λ dataset. name_word Row (λ row. column_word dataset row) in
     read_stamp_word _ 0 s (escaped d ∷ escaped r ∷ escaped c ∷ v ∷ []) (stamps s is.stamp)
     ∙ read_name Dataset row_word 1 d (escaped r ∷ escaped c ∷ v ∷ []) is.field.dataset
     ∙ read_name Row (column_word d) 2 r (escaped c ∷ v ∷ []) is.field.row
     ∙ read_name Column (value_word d r) 3 c (v ∷ []) is.field.column
-    ∙ read_word (λ value. no_more (Receive (message_of s d r c value))) 4 (value_text m.value) []
+    ∙ read_word (λ value. no_more (Receive (message_of s (field_of d r c) value))) 4 (value_text m.value) []
     ∙ ap (λ value. Ok (Receive (record m { value = value }))) (values m.value is.value)
 
 set_back : ValuesReadBack → (d r c : List ℕ) (v : AnyValue) → IsValue v → of_words (map escaped (command_texts (Edit (Book (Set d r c v))))) ≡ Ok (Edit (Book (Set d r c v)))

@@ -9,10 +9,9 @@ use Rattle.field_values.specs.Value.{value_of}
 use Rattle.hybrid_clock.specs.declared.stamp.Stamp.{Stamp}
 use Rattle.hybrid_clock.specs.declared.stamp.StampFault.{StampFault}
 use Rattle.hybrid_clock.specs.Reading.{read_stamp}
-use Rattle.field_merge.specs.declared.message.Message.{Message}
 use Rattle.field_merge.specs.Escapes.{unescaped, bad_escape}
 use Rattle.field_merge.specs.Lines.{parts}
-use Rattle.field_merge.specs.Messages.{IsMessage}
+use Rattle.field_merge.specs.Messages.{IsMessage, message_of}
 use Rattle.device_core.specs.declared.edit.Edit.TheVariants.{Book}
 use Rattle.device_core.specs.declared.edit.BookEdit.TheVariants.{Set}
 use Rattle.device_core.specs.Edits.{IsEdit}
@@ -49,13 +48,9 @@ abbrev pub set_words : Wanted
 set_words = word (λ dataset. word (λ row. word (λ column. word (λ value.
     no_more (Edit (Book (Set dataset row column (value_of value))))))))
 
--- the message of a timestamp, three names and a value text
-abbrev pub message_of : Stamp → List ℕ → List ℕ → List ℕ → List ℕ → Message
-message_of stamp dataset row column value = record { stamp = stamp; field = field_of dataset row column; value = value_of value }
-
 abbrev pub receive_words : Wanted
 receive_words = stamp_word (λ stamp. name_word Dataset (λ dataset. name_word Row (λ row. name_word Column (λ column. word (λ value.
-    no_more (Receive (message_of stamp dataset row column value)))))))
+    no_more (Receive (message_of stamp (field_of dataset row column) value)))))))
 
 -- `fields`
 abbrev pub fields_words : Wanted
@@ -105,19 +100,23 @@ of_words (name ∷ ws) = command_of (line_words name) 0 ws
 abbrev pub longest_line : ℕ
 longest_line = 1_048_576
 
+-- whether a line is too long
+abbrev pub is_too_long : List ℕ → Bool
+is_too_long line = nat_lt longest_line (length line)
+
 -- the command of a line, or the index of the first of its words that is not of its form: 0 for a line that is too long
 abbrev pub command : List ℕ → Result Command ℕ
-command line = if nat_lt longest_line (length line) then Err 0 else of_words (parts line)
+command line = if is_too_long line then Err 0 else of_words (parts line)
 
 -- memory ran out, or this is the index
-abbrev pub IsFault : Result Command ℕ → CommandFault → Type 0
-IsFault meant (BadCommand index) = meant ≡ Err index
-IsFault meant NoMemory = Unit {0}
+abbrev pub IsCommandFault : Result Command ℕ → CommandFault → Type 0
+IsCommandFault meant (BadCommand index) = meant ≡ Err index
+IsCommandFault meant NoMemory = Unit {0}
 
 -- memory ran out, or this is the command or the index
 abbrev pub IsRead : Result Command ℕ → Result Command CommandFault → Type 0
 IsRead meant (Ok found) = meant ≡ Ok found
-IsRead meant (Err fault) = IsFault meant fault
+IsRead meant (Err fault) = IsCommandFault meant fault
 
 -- a command that the device can take as it stands: the values of its edit, or its message, are valid
 abbrev pub IsCommand : Command → Type 0

@@ -6,7 +6,7 @@ use Rattle.field_values.specs.Value.{value_text}
 use Rattle.field_merge.specs.declared.message.Message.{Message}
 use Rattle.field_merge.specs.Escapes.{escaped}
 use Rattle.field_merge.specs.Messages.{message_line}
-use Rattle.field_merge.specs.Log.{fields, later, latest}
+use Rattle.field_merge.specs.Log.{fields, messages_after, latest}
 use Rattle.minute_trie.specs.Trie.{trie_of}
 use Rattle.minute_trie.specs.Json.{trie_text}
 use Rattle.device_core.specs.Device.{pairs_of}
@@ -28,7 +28,7 @@ value_in messages field = option_map (λ m. m.value) (latest messages field)
 -- the value of a field, or the text of the trie of all messages. The other lines are answered elsewhere.
 abbrev pub answer : List Message → Command → Reply
 answer messages Fields = Done (map message_line (fields messages))
-answer messages (Messages since) = Done (map message_line (later since messages))
+answer messages (Messages since) = Done (map message_line (messages_after since messages))
 answer messages (Value dataset row column) = Done (shown (value_in messages (field_of dataset row column)) ∷ [])
 answer messages Trie = Done (trie_text (trie_of (pairs_of messages)) ∷ [])
 answer messages (Edit edit) = Done []

@@ -5,6 +5,7 @@ use Rattle.std.specs.Fmt.{decimal}
 use Rattle.hybrid_clock.specs.declared.clock.ClockFault.{ClockFault}
 use Rattle.hybrid_clock.specs.declared.clock.ClockFault.TheVariants.{Drift, Overflow, Beyond}
 use Rattle.field_merge.specs.Escapes.{escaped}
+use Rattle.field_merge.specs.Lines.{ended}
 use Rattle.device_core.specs.declared.edit.EditFault.{EditFault}
 use Rattle.device_core.specs.declared.edit.EditFault.TheVariants.{BadId, TooManyWrites, NoMemory as EditNoMemory}
 use Rattle.device_core.specs.declared.edit.LineRefusal.{LineRefusal}
@@ -41,10 +42,6 @@ abbrev pub refused : LineRefusal → Option Reply
 refused (Edit fault) = refused_edit fault
 refused (Clock fault) = Some (refused_clock fault)
 refused NoMemory = None
-
--- a line of a reply, with its end
-abbrev pub ended : List ℕ → List ℕ
-ended line = line ++ 10 ∷ []
 
 -- the detail of a refusal, behind its code: nothing where it is empty
 abbrev pub detail_text : List ℕ → List ℕ

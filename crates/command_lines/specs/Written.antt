@@ -1,9 +1,9 @@
 -- How a command is written as a line, that the line reads back, and that a line that was read is written back.
-use Rattle.std.specs.Prelude.{◌≡◌, ◌≤◌, ℕ, List, [], ◌∷◌, length, map, codes, Ok}
-use Rattle.std.specs.List.{flat_map, join_with_byte}
+use Rattle.std.specs.Prelude.{◌≡◌, ◌≤◌, ℕ, List, [], ◌∷◌, length, codes, Ok}
+use Rattle.std.specs.List.{flat_map}
 use Rattle.field_values.specs.Value.{value_text}
-use Rattle.field_merge.specs.Escapes.{escaped, raw_escaped}
-use Rattle.field_merge.specs.Messages.{message_texts}
+use Rattle.field_merge.specs.Escapes.{raw_escaped}
+use Rattle.field_merge.specs.Messages.{message_texts, line_of_texts}
 use Rattle.device_core.specs.declared.edit.Edit.TheVariants.{Book}
 use Rattle.device_core.specs.declared.edit.BookEdit.TheVariants.{Set}
 use Rattle.command_lines.specs.declared.command.Command.{Command}
@@ -19,9 +19,9 @@ command_texts (Messages since) = codes "messages" ∷ since ∷ []
 command_texts (Value dataset row column) = codes "value" ∷ dataset ∷ row ∷ column ∷ []
 command_texts Trie = codes "trie" ∷ []
 
--- the line of a command: these texts, each escaped, with a TAB between them
+-- the line of a command
 abbrev pub command_line : Command → List ℕ
-command_line c = join_with_byte 9 (map escaped (command_texts c))
+command_line c = line_of_texts (command_texts c)
 
 -- the line of a command, where it is not too long, is read as the command
 abbrev pub CommandsReadBack : Type 0

@@ -2,7 +2,8 @@
 ghost use Rattle.std.specs.Prelude.{◌≡◌, ◌++◌, codes, string_bytes, IfOk, OnOk, Some};
 ghost use Rattle.std.specs.Fmt.{decimal};
 ghost use Rattle.command_lines.specs.declared.reply.Reply.TheVariants.{Done, Refused};
-ghost use Rattle.command_lines.specs.Replies.{wrote, added, faulty, refused, refused_edit, refused_clock, reply_text_of, detail_text, ended};
+ghost use Rattle.command_lines.specs.Replies.{wrote, added, faulty, refused, refused_edit, refused_clock, reply_text_of, detail_text};
+ghost use Rattle.field_merge.specs.Lines.{ended};
 
 use device_core::{EditFault, LineRefusal};
 use field_merge::push_escaped;

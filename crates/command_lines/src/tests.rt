@@ -6,7 +6,7 @@ use crate::{
     Command, CommandFault, Reply, added_reply, faulty_reply, read_command, read_reply,
     refusal_reply, reply_text, wrote_reply,
 };
-use budget_ports::Kept;
+use budget_ports::Record;
 use device_core::{Device, EditFault, LineRefusal};
 use field_values::{Items, NoMemory, Txt};
 use hybrid_clock::{ClockFault, Node};
@@ -188,11 +188,11 @@ const TRIE: &str =
     sh\":16148298},\"hash\":16148298},\"hash\":16148298},\"hash\":16148298},\"hash\":1614829\
     8}\n";
 
-fn record(alloc: Global, text: (&str, &str)) -> Result<Kept, Fail> {
+fn record(alloc: Global, text: (&str, &str)) -> Result<Record, Fail> {
     let (key, body) = text;
     let key = Txt::from_text(alloc, key)?;
     let body = Txt::from_text(alloc, body)?;
-    Ok(Kept { key, body })
+    Ok(Record { key, body })
 }
 
 /// A device with both messages.

@@ -6,7 +6,7 @@ ghost use Rattle.field_merge.specs.Lines.{parts};
 ghost use Rattle.hybrid_clock.specs.Stamp.{IsStamp};
 ghost use Rattle.hybrid_clock.specs.declared.stamp.Stamp.{Stamp};
 ghost use Rattle.command_lines.specs.declared.command.Command.{Command};
-ghost use Rattle.command_lines.specs.Commands.{Wanted, word, no_more, stamp_word, name_word, IsFault};
+ghost use Rattle.command_lines.specs.Commands.{Wanted, word, no_more, stamp_word, name_word, IsCommandFault};
 ghost use Rattle.command_lines.specs.Unread.{words_of, given};
 
 use crate::command::CommandFault;
@@ -90,7 +90,7 @@ impl<'a> Words<'a> {
     /// The text of the next word. It is at fault where it is missing or has a bad escape.
     pub(crate) fn text(&mut self, alloc: Global) -> Result<Txt, CommandFault>
         ensures ok { IfOk result (λ text. (next : List ℕ → Wanted) → given (word next) self.old ≡ given (next text) self.new) }
-        ensures err { IfErr result (λ fault. (next : List ℕ → Wanted) → IsFault (given (word next) self.old) fault) }
+        ensures err { IfErr result (λ fault. (next : List ℕ → Wanted) → IsCommandFault (given (word next) self.old) fault) }
     {
         let Some(written) = self.next() else {
             return Err(self.behind_last());
@@ -107,7 +107,7 @@ impl<'a> Words<'a> {
     pub(crate) fn stamp(&mut self, alloc: Global) -> Result<Stamp, CommandFault>
         ensures ok { IfOk result (λ stamp. (next : Stamp → Wanted) → given (stamp_word next) self.old ≡ given (next stamp) self.new) }
         ensures valid { IfOk result IsStamp }
-        ensures err { IfErr result (λ fault. (next : Stamp → Wanted) → IsFault (given (stamp_word next) self.old) fault) }
+        ensures err { IfErr result (λ fault. (next : Stamp → Wanted) → IsCommandFault (given (stamp_word next) self.old) fault) }
     {
         let text = self.text(alloc)?;
         match Stamp::parse(text.bytes()) {
@@ -121,7 +121,7 @@ impl<'a> Words<'a> {
     pub(crate) fn name(&mut self, alloc: Global, part: NamePart) -> Result<Txt, CommandFault>
         ensures ok { IfOk result (λ name. (next : List ℕ → Wanted) → given (name_word part next) self.old ≡ given (next name) self.new) }
         ensures good { IfOk result (λ name. name_fault part name ≡ None) }
-        ensures err { IfErr result (λ fault. (next : List ℕ → Wanted) → IsFault (given (name_word part next) self.old) fault) }
+        ensures err { IfErr result (λ fault. (next : List ℕ → Wanted) → IsCommandFault (given (name_word part next) self.old) fault) }
     {
         let name = self.text(alloc)?;
         match check_name(part, name.bytes()) {
@@ -133,7 +133,7 @@ impl<'a> Words<'a> {
     /// Nothing, where no word is left. The next word is one too many, and at fault.
     pub(crate) fn end(&self) -> Result<(), CommandFault>
         ensures ok { OnOk result ((command : Command) → given (no_more command) self.now ≡ Ok command) }
-        ensures err { IfErr result (λ fault. (command : Command) → IsFault (given (no_more command) self.now) fault) }
+        ensures err { IfErr result (λ fault. (command : Command) → IsCommandFault (given (no_more command) self.now) fault) }
     {
         match self.rest {
             Some(_) => Err(self.behind_last()),

@@ -6,20 +6,20 @@ use Rattle.std.specs.Result.{result_ok}
 use Rattle.hybrid_clock.specs.declared.stamp.StampFault.{StampFault}
 use Rattle.field_merge.specs.declared.line.LineFault.{LineFault}
 use Rattle.field_merge.specs.declared.line.LineFault.TheVariants.{Columns, Escape, Stamp as BadStamp, Name as BadName, NoMemory}
-use Rattle.field_merge.specs.Lines.{IsFaultIn}
+use Rattle.field_merge.specs.Lines.{IsLineFault}
 use Rattle.hybrid_clock.specs.Stamp.{stamp_text}
 use Rattle.hybrid_clock.proofs.Writing.{text_passes, text_reads}
 use Rattle.budget_ports.specs.Keeper.{HaveKeys}
 use Rattle.field_merge.specs.declared.message.Message.{Message}
 use Rattle.field_merge.specs.Lines.{reading}
-use Rattle.field_merge.specs.Messages.{IsMessage, AreMessages, message_line}
+use Rattle.field_merge.specs.Messages.{IsMessage, AreMessages, message_line, message_body}
 use Rattle.field_merge.proofs.StampLemmas.{stamp_text_escaped}
 use Rattle.field_merge.proofs.LineLemmas.{reading_of_line}
-use Rattle.device_core.specs.Records.{body_of, record_of, message_in}
+use Rattle.device_core.specs.Records.{record_of, message_in}
 
 -- the text of a record's message
-line_of : (m : Message) → IsMessage m → stamp_text m.stamp ++ 9 ∷ body_of m ≡ message_line m
-line_of m valid = ap (λ t. t ++ 9 ∷ body_of m) (sym (stamp_text_escaped m.stamp valid.stamp))
+line_of : (m : Message) → IsMessage m → stamp_text m.stamp ++ 9 ∷ message_body m ≡ message_line m
+line_of m valid = ap (λ t. t ++ 9 ∷ message_body m) (sym (stamp_text_escaped m.stamp valid.stamp))
 
 pub reads_back : (m : Message) → IsMessage m → message_in (record_of m) ≡ Some m
 reads_back m valid =
@@ -31,12 +31,8 @@ have_keys (m ∷ ms) valid =
     let long = (text_passes m.stamp valid.0.stamp).long in
     ((let some : 0 < length (stamp_text m.stamp) = omega (arith, long) in some), have_keys ms valid.1)
 
--- three parts are pushed after the first
-pub body_pushed : (a b c d : List ℕ) → ((([] ++ a) ++ 9 ∷ b) ++ 9 ∷ c) ++ 9 ∷ d ≡ a ++ (9 ∷ (b ++ (9 ∷ (c ++ (9 ∷ d)))))
-body_pushed a b c d = simp append_assoc
-
 -- a line with a fault is no message's
-pub no_message : (line : List ℕ) (fault : LineFault) → (fault ≡ NoMemory → ⊥) → IsFaultIn (reading line) fault → None ≡ result_ok (reading line)
+pub no_message : (line : List ℕ) (fault : LineFault) → (fault ≡ NoMemory → ⊥) → IsLineFault (reading line) fault → None ≡ result_ok (reading line)
 no_message line (Columns found) other is = rw is refl
 no_message line (Escape at) other is = rw is refl
 no_message line (BadStamp found) other is = rw is refl

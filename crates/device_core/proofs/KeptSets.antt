@@ -16,7 +16,7 @@ use Rattle.hybrid_clock.proofs.Texts.{read_valid, read_text}
 use Rattle.hybrid_clock.proofs.TextOrder.{text_order}
 use Rattle.field_values.specs.declared.name.NameFault.{NameFault}
 use Rattle.field_values.specs.Names.{FieldNames, field_of, names_fault}
-use Rattle.budget_ports.specs.declared.keeper.Kept.{Kept}
+use Rattle.budget_ports.specs.declared.keeper.Record.{Record}
 use Rattle.budget_ports.specs.Contents.{Text, Contents, Place, text_cmp, place_cmp, records_after, with_record, appended}
 use Rattle.budget_ports.specs.Keeper.{Rise}
 use Rattle.budget_ports.proofs.Places.{place_same}
@@ -70,7 +70,7 @@ record IsKeyOf (key : List ℕ) (s : Stamp) : Type 0 where
   valid : IsStamp s
   text : stamp_text s ≡ key
 
-key_is : (r : Kept) (m : Message) → message_in r ≡ Some m → IsKeyOf r.key m.stamp
+key_is : (r : Record) (m : Message) → message_in r ≡ Some m → IsKeyOf r.key m.stamp
 key_is r m h = by (read_stamp r.key) refl h
   where
     by : (stamp : Result Stamp StampFault) → read_stamp r.key ≡ stamp → (if is_ok stamp then result_ok (reading (r.key ++ 9 ∷ r.body)) else None) ≡ Some m → IsKeyOf r.key m.stamp
@@ -87,7 +87,7 @@ key_is r m h = by (read_stamp r.key) refl h
         subst (IsKeyOf r.key) (sym stamp) (record { valid = valid; text = text })
 
 -- records are ordered by key as their messages are by timestamp
-same_order : (r s : Kept) (m n : Message) → message_in r ≡ Some m → message_in s ≡ Some n → text_cmp r.key s.key ≡ stamp_cmp m.stamp n.stamp
+same_order : (r s : Record) (m n : Message) → message_in r ≡ Some m → message_in s ≡ Some n → text_cmp r.key s.key ≡ stamp_cmp m.stamp n.stamp
 same_order r s m n h k =
     let a = key_is r m h in
     let b = key_is s n k in
@@ -96,20 +96,20 @@ same_order r s m n h k =
 -- ---- the messages of records
 
 -- each record keeps the message at its place
-abbrev Reads : List Kept → List Message → Type 0
+abbrev Reads : List Record → List Message → Type 0
 Reads [] [] = Unit {0}
 Reads [] (m ∷ ms) = ⊥
 Reads (r ∷ rs) [] = ⊥
 Reads (r ∷ rs) (m ∷ ms) = (message_in r ≡ Some m) × Reads rs ms
 
-below : (r : Kept) (m : Message) (rs : List Kept) (ms : List Message) → message_in r ≡ Some m → AllByRecursion (λ s. text_cmp r.key s.key ≡ Less) rs → Reads rs ms → IsBelow stamp_of stamp_cmp m.stamp ms
+below : (r : Record) (m : Message) (rs : List Record) (ms : List Message) → message_in r ≡ Some m → AllByRecursion (λ s. text_cmp r.key s.key ≡ Less) rs → Reads rs ms → IsBelow stamp_of stamp_cmp m.stamp ms
 below r m [] [] is low reads = tt
 below r m [] (n ∷ ms) is low reads = absurd reads
 below r m (s ∷ rs) [] is low reads = absurd reads
 below r m (s ∷ rs) (n ∷ ms) is low reads = (sym (same_order r s m n is reads.0) ∙ low.0, below r m rs ms is low.1 reads.1)
 
 -- messages of records with rising keys rise
-rise_too : (rs : List Kept) (ms : List Message) → Rise rs → Reads rs ms → IsRising ms
+rise_too : (rs : List Record) (ms : List Message) → Rise rs → Reads rs ms → IsRising ms
 rise_too [] [] up reads = in_order_nil stamp_of stamp_cmp
 rise_too [] (m ∷ ms) up reads = absurd reads
 rise_too (r ∷ rs) [] up reads = absurd reads
@@ -119,10 +119,10 @@ rise_too (r ∷ rs) (m ∷ ms) up reads = cons stamp_of stamp_cmp m ms (below r 
 join_itself : (ms : List Message) → IsRising ms → join [] ms ≡ ms
 join_itself ms up = same stamp_of stamp_cmp stamps_total (join [] ms) ms (rising [] ms (in_order_nil stamp_of stamp_cmp)) up (λ s. found [] ms s)
 
-abbrev keeps_none : Kept → Bool
+abbrev keeps_none : Record → Bool
 keeps_none r = is_none (message_in r)
 
-all_read : (rs : List Kept) (index : ℕ) → position_from keeps_none index rs ≡ None → Reads rs (filter_map message_in rs)
+all_read : (rs : List Record) (index : ℕ) → position_from keeps_none index rs ≡ None → Reads rs (filter_map message_in rs)
 all_read [] index h = tt
 all_read (r ∷ rs) index h = by (message_in r) refl h (all_read rs (index + 1))
   where
@@ -131,20 +131,20 @@ all_read (r ∷ rs) index h = by (message_in r) refl h (all_read rs (index + 1))
     by None is k rest = absurd (cc)
     by (Some m) is k rest = (is, rest k)
 
-none_bad : (rs : List Kept) (ms : List Message) (index : ℕ) → Reads rs ms → position_from keeps_none index rs ≡ None
+none_bad : (rs : List Record) (ms : List Message) (index : ℕ) → Reads rs ms → position_from keeps_none index rs ≡ None
 none_bad [] [] index reads = refl
 none_bad [] (m ∷ ms) index reads = absurd reads
 none_bad (r ∷ rs) [] index reads = absurd reads
 none_bad (r ∷ rs) (m ∷ ms) index reads = ap (λ o. cond (is_none o) (Some index) (position_from keeps_none (index + 1) rs)) reads.0 ∙ none_bad rs ms (index + 1) reads.1
 
-all_are : (rs : List Kept) (ms : List Message) → Reads rs ms → filter_map message_in rs ≡ ms
+all_are : (rs : List Record) (ms : List Message) → Reads rs ms → filter_map message_in rs ≡ ms
 all_are [] [] reads = refl
 all_are [] (m ∷ ms) reads = absurd reads
 all_are (r ∷ rs) [] reads = absurd reads
 all_are (r ∷ rs) (m ∷ ms) reads = ap₂ (λ (o : Option Message) (xs : List Message). cons_option o xs) reads.0 (all_are rs ms reads.1)
 
 -- records with rising keys keep a message set just where they read as its messages
-kept_reads : (rs : List Kept) (ms : List Message) → Rise rs → kept_set rs ≡ Ok ms → Reads rs ms
+kept_reads : (rs : List Record) (ms : List Message) → Rise rs → kept_set rs ≡ Ok ms → Reads rs ms
 kept_reads rs ms up h = by (position_from keeps_none 0 rs) refl h
   where
     by : (o : Option ℕ) → position_from keeps_none 0 rs ≡ o → set_of (unless_bad o (filter_map message_in rs)) ≡ Ok ms → Reads rs ms
@@ -154,20 +154,20 @@ kept_reads rs ms up h = by (position_from keeps_none 0 rs) refl h
         subst (Reads rs) (sym (join_itself (filter_map message_in rs) (rise_too rs (filter_map message_in rs) up reads)) ∙ joined) reads
     by (Some index) is k = absurd (cc)
 
-reads_kept : (rs : List Kept) (ms : List Message) → Rise rs → Reads rs ms → kept_set rs ≡ Ok ms
+reads_kept : (rs : List Record) (ms : List Message) → Rise rs → Reads rs ms → kept_set rs ≡ Ok ms
 reads_kept rs ms up reads =
     ap₂ (λ (o : Option ℕ) (read : List Message). set_of (unless_bad o read)) (none_bad rs ms 0 reads) (all_are rs ms reads)
     ∙ ap (λ x. Ok x) (join_itself ms (rise_too rs ms up reads))
 
 -- ---- one message more
 
-reads_added : (rs : List Kept) (ms : List Message) (n : Message) → IsMessage n → list_any (has_stamp n.stamp) ms ≡ false → Reads rs ms → Reads (add_record rs (record_of n)) (placed by_stamp ms n)
+reads_added : (rs : List Record) (ms : List Message) (n : Message) → IsMessage n → list_any (has_stamp n.stamp) ms ≡ false → Reads rs ms → Reads (add_record rs (record_of n)) (placed by_stamp ms n)
 reads_added [] [] n valid new reads = (reads_back n valid, tt)
 reads_added [] (m ∷ ms) n valid new reads = absurd reads
 reads_added (r ∷ rs) [] n valid new reads = absurd reads
 reads_added (r ∷ rs) (m ∷ ms) n valid new reads =
     let order : text_cmp (stamp_text n.stamp) r.key ≡ stamp_cmp n.stamp m.stamp = same_order (record_of n) r n m (reads_back n valid) reads.0 in
-    let q : Kept = record_of n in
+    let q : Record = record_of n in
     let P : Ordering → Type 0 = λ o. Reads (by_order o (q ∷ r ∷ rs) (r ∷ rs) (r ∷ add_record rs q)) (cond (is_lt (stamp_cmp n.stamp m.stamp)) (n ∷ m ∷ ms) (m ∷ placed by_stamp ms n)) in
     subst P (sym order) (elim (stamp_cmp n.stamp m.stamp) as (λ o. (is_eq o || list_any (has_stamp n.stamp) ms) ≡ false
     → Reads (by_order o (q ∷ r ∷ rs) (r ∷ rs) (r ∷ add_record rs q)) (cond (is_lt o) (n ∷ m ∷ ms) (m ∷ placed by_stamp ms n))) [
@@ -209,7 +209,7 @@ holds_one group entry now ms n valid new h =
     let reads = reads_added old ms n valid new (kept_reads old ms (records_rise now.records group []) h.messages) in
     record {
       messages = reads_kept (records_after after group []) (placed by_stamp ms n) (records_rise after.records group [])
-          (let P : List Kept → Type 0 = λ rs. Reads rs (placed by_stamp ms n) in subst P (sym grown) reads);
+          (let P : List Record → Type 0 = λ rs. Reads rs (placed by_stamp ms n) in subst P (sym grown) reads);
       kept = λ key body had. get_with now.records group (record_of n) (group, key)
           ∙ ap (λ o. option_or o (cond (is_eq (place_cmp (group, key) (group, stamp_text n.stamp))) (Some (body_of n)) None)) (h.kept key body had);
       written = written_one group entry now ms n h;

@@ -7,7 +7,7 @@ use Rattle.field_merge.specs.declared.message.Message.{Message}
 use Rattle.field_merge.specs.Log.{has_stamp, by_stamp, placed, join_one, join, at_stamp}
 use Rattle.field_merge.proofs.Members.{here, there}
 use Rattle.field_merge.proofs.Placing.{all_placed}
-use Rattle.budget_ports.specs.declared.keeper.Kept.{Kept}
+use Rattle.budget_ports.specs.declared.keeper.Record.{Record}
 use Rattle.device_core.specs.Records.{record_of}
 use Rattle.device_core.specs.Device.{new_in}
 
@@ -59,7 +59,7 @@ new_on ms n ns = go (list_any (has_stamp n.stamp) ms) refl
     go false is = rw is refl
 
 -- the records of the new ones, taken on from a batch
-pub batch_on : (before batch : List Kept) (ms : List Message) (n : Message) (ns : List Message) (all : List Kept) → batch ≡ before ++ map record_of (new_in ms (n ∷ []))
+pub batch_on : (before batch : List Record) (ms : List Message) (n : Message) (ns : List Message) (all : List Record) → batch ≡ before ++ map record_of (new_in ms (n ∷ []))
     → before ++ map record_of (new_in ms (n ∷ ns)) ≡ all → batch ++ map record_of (new_in (join_one ms n) ns) ≡ all
 batch_on before batch ms n ns all is rest =
     ap (λ b. b ++ map record_of (new_in (join_one ms n) ns)) is
@@ -76,7 +76,7 @@ found_any p (m ∷ ms) = go (p m) refl (found_any p ms)
     go false h rest = rw h rest
 
 -- one message's record is in the batch where its timestamp is new
-pub one_new : (ms : List Message) (n : Message) (is_new : Bool) (kept : Kept) → is_new ≡ is_none (at_stamp ms n.stamp) → kept ≡ record_of n → cond is_new (kept ∷ []) [] ≡ map record_of (new_in ms (n ∷ []))
+pub one_new : (ms : List Message) (n : Message) (is_new : Bool) (kept : Record) → is_new ≡ is_none (at_stamp ms n.stamp) → kept ≡ record_of n → cond is_new (kept ∷ []) [] ≡ map record_of (new_in ms (n ∷ []))
 one_new ms n is_new kept fresh is = go (list_any (has_stamp n.stamp) ms) refl
   where
     go : (b : Bool) → list_any (has_stamp n.stamp) ms ≡ b → cond is_new (kept ∷ []) [] ≡ map record_of (new_in ms (n ∷ []))

@@ -6,7 +6,7 @@ use Rattle.std.specs.Cmp.{tied_itself}
 use Rattle.std.proofs.lemmas.Bool.{cases_Bool}
 use Rattle.std.specs.FinMap.{FinMap, find, put, entries, entries_sorted, entries-insert, get, get-entries, get-insert, contains_key, insert}
 use Rattle.std.specs.FinMap.Entries.{by_order}
-use Rattle.budget_ports.specs.declared.keeper.Kept.{Kept}
+use Rattle.budget_ports.specs.declared.keeper.Record.{Record}
 use Rattle.budget_ports.specs.Contents.{Text, text_cmp, Place, place_cmp, is_in, of_entry, records_of_after, with_record}
 use Rattle.budget_ports.proofs.Maps.{IsRising}
 use Rattle.budget_ports.proofs.Rising.{is_true, in_order}
@@ -30,7 +30,7 @@ none_below p (e ∷ es) h = ap (λ r. cond (is_eq r) (Some e.1) (find place_cmp 
 
 -- ---- the records of one group
 
-abbrev group : Text → List (Place × Text) → List Kept
+abbrev group : Text → List (Place × Text) → List Record
 group g es = of_group g [] es
 
 skip : (g : Text) (e : Place × Text) (es : List (Place × Text)) → is_in g [] e ≡ false → group g (e ∷ es) ≡ group g es
@@ -73,7 +73,7 @@ absent : (p : Place) (b : Text) (es : List (Place × Text)) → find place_cmp p
 absent p b es h = ap (λ o. cond (is_some o) es (put place_cmp p b es)) h
 
 -- records with one more, whose key is not there
-abbrev pub add_record : List Kept → Kept → List Kept
+abbrev pub add_record : List Record → Record → List Record
 add_record [] r = r ∷ []
 add_record (s ∷ rs) r = by_order (text_cmp r.key s.key) (r ∷ s ∷ rs) (s ∷ rs) (s ∷ add_record rs r)
 
@@ -98,7 +98,7 @@ module _ (g k : Text) (b : Text) (some : text_cmp [] k ≡ Less) where
       put_by : (r : Ordering) → place_cmp (g, k) e.0 ≡ r → put place_cmp (g, k) b (e ∷ es) ≡ by_order r (new ∷ e ∷ es) ((e.0, b) ∷ es) (e ∷ put place_cmp (g, k) b es)
       put_by r h = ap (λ s. by_order s (new ∷ e ∷ es) ((e.0, b) ∷ es) (e ∷ put place_cmp (g, k) b es)) h
 
-      add_by : (xs : List Kept) (r : Ordering) → text_cmp k e.0.1 ≡ r → add_record (of_entry e ∷ xs) (of_entry new) ≡ by_order r (of_entry new ∷ of_entry e ∷ xs) (of_entry e ∷ xs) (of_entry e ∷ add_record xs (of_entry new))
+      add_by : (xs : List Record) (r : Ordering) → text_cmp k e.0.1 ≡ r → add_record (of_entry e ∷ xs) (of_entry new) ≡ by_order r (of_entry new ∷ of_entry e ∷ xs) (of_entry e ∷ xs) (of_entry e ∷ add_record xs (of_entry new))
       add_by xs r h = ap (λ s. by_order s (of_entry new ∷ of_entry e ∷ xs) (of_entry e ∷ xs) (of_entry e ∷ add_record xs (of_entry new))) h
 
       before : place_cmp (g, k) e.0 ≡ Less → with_entry (g, k) b (e ∷ es) ≡ new ∷ e ∷ es
@@ -147,7 +147,7 @@ module _ (g k : Text) (b : Text) (some : text_cmp [] k ≡ Less) where
 
 -- ---- a map with one record more
 
-entries_with : (m : FinMap place_cmp Text) (g : Text) (r : Kept) → entries (with_record g m r) ≡ with_entry (g, r.key) r.body (entries m)
+entries_with : (m : FinMap place_cmp Text) (g : Text) (r : Record) → entries (with_record g m r) ≡ with_entry (g, r.key) r.body (entries m)
 entries_with m g r =
     by (contains_key m (g, r.key))
     ∙ ap (λ o. cond (is_some o) (entries m) (put place_cmp (g, r.key) r.body (entries m))) (get-entries m (g, r.key))
@@ -160,11 +160,11 @@ above_none : (key : Text) → 0 < length key → text_cmp [] key ≡ Less
 above_none [] some = absurd (omega arith)
 above_none (x ∷ key) some = refl
 
-pub group_with : (m : FinMap place_cmp Text) (g : Text) (r : Kept) → 0 < length r.key → records_of_after (with_record g m r) g [] ≡ add_record (records_of_after m g []) r
+pub group_with : (m : FinMap place_cmp Text) (g : Text) (r : Record) → 0 < length r.key → records_of_after (with_record g m r) g [] ≡ add_record (records_of_after m g []) r
 group_with m g r some = ap (group g) (entries_with m g r) ∙ grown g r.key r.body (above_none r.key some) (entries m) (rising m)
 
 -- what stands at a place with one record more: what stood there, or else the record, where the place is its own
-pub get_with : (m : FinMap place_cmp Text) (g : Text) (r : Kept) (p : Place) → get (with_record g m r) p ≡ option_or (get m p) (cond (is_eq (place_cmp p (g, r.key))) (Some r.body) None)
+pub get_with : (m : FinMap place_cmp Text) (g : Text) (r : Record) (p : Place) → get (with_record g m r) p ≡ option_or (get m p) (cond (is_eq (place_cmp p (g, r.key))) (Some r.body) None)
 get_with m g r p = by (contains_key m (g, r.key)) refl
   where
     own : is_eq (place_cmp p (g, r.key)) ≡ true → contains_key m p ≡ contains_key m (g, r.key)
@@ -184,7 +184,7 @@ get_with m g r p = by (contains_key m (g, r.key)) refl
     by true there = stays (get m p) (is_eq (place_cmp p (g, r.key))) (λ tied. own tied ∙ there)
     by false new = get-insert place_total m (g, r.key) r.body p ∙ enters (get m p) (is_eq (place_cmp p (g, r.key))) (λ tied. own tied ∙ new)
 
-pub others_with : (m : FinMap place_cmp Text) (g : Text) (r : Kept) (p : Place) → p.0 ≢ g → get (with_record g m r) p ≡ get m p
+pub others_with : (m : FinMap place_cmp Text) (g : Text) (r : Record) (p : Place) → p.0 ≢ g → get (with_record g m r) p ≡ get m p
 others_with m g r p other = get_with m g r p ∙ ap (λ b. option_or (get m p) (cond b (Some r.body) None)) apart ∙ sym (or_none (get m p))
   where
     apart : is_eq (place_cmp p (g, r.key)) ≡ false

@@ -1,7 +1,7 @@
 -- The messages of records, read one after the other.
 use Rattle.std.proofs.Common.{◌≡◌, Bool, cond, ℕ, ◌+◌, List, [], ◌∷◌, Option, None, Some, Result, Ok, Err, is_none, refl, subst, ◌∙◌}
 use Rattle.std.specs.List.{filter_map, position_from, cons_option}
-use Rattle.budget_ports.specs.declared.keeper.Kept.{Kept}
+use Rattle.budget_ports.specs.declared.keeper.Record.{Record}
 use Rattle.field_merge.specs.declared.message.Message.{Message}
 use Rattle.hybrid_clock.specs.Order.{stamp_cmp}
 use Rattle.field_merge.specs.Log.{IsRising, join_one, join}
@@ -10,7 +10,7 @@ use Rattle.field_merge.proofs.Joining.{stamp_of, rising}
 use Rattle.device_core.specs.Records.{message_in, unless_bad, set_of, kept_set}
 
 -- the message set after the records from one with this index on were read into messages
-abbrev pub kept_after : List Message → ℕ → List Kept → Result (List Message) ℕ
+abbrev pub kept_after : List Message → ℕ → List Record → Result (List Message) ℕ
 kept_after ms index [] = Ok ms
 kept_after ms index (r ∷ rs) = elim (message_in r) [ None ↦ Err index | Some m ↦ kept_after (join_one ms m) (index + 1) rs ]
 
@@ -18,14 +18,14 @@ abbrev settled : List Message → Option ℕ → List Message → Result (List M
 settled ms None read = Ok (join ms read)
 settled ms (Some index) read = Err index
 
-abbrev keeps_none : Kept → Bool
+abbrev keeps_none : Record → Bool
 keeps_none r = is_none (message_in r)
 
 settled_on : (o : Option ℕ) (ms : List Message) (m : Message) (read : List Message) → settled (join_one ms m) o read ≡ settled ms o (m ∷ read)
 settled_on None ms m read = refl
 settled_on (Some index) ms m read = refl
 
-after_is : (ms : List Message) (index : ℕ) (rs : List Kept) → kept_after ms index rs ≡ settled ms (position_from keeps_none index rs) (filter_map message_in rs)
+after_is : (ms : List Message) (index : ℕ) (rs : List Record) → kept_after ms index rs ≡ settled ms (position_from keeps_none index rs) (filter_map message_in rs)
 after_is ms index [] = refl
 after_is ms index (r ∷ rs) =
     elim (message_in r) as (λ o. elim o as (λ _. Result (List Message) ℕ) [ None ↦ Err index | Some m ↦ kept_after (join_one ms m) (index + 1) rs ]
@@ -39,7 +39,7 @@ set_is None read = refl
 set_is (Some index) read = refl
 
 -- all records, read from the first one on
-pub kept_is : (rs : List Kept) → kept_after [] 0 rs ≡ kept_set rs
+pub kept_is : (rs : List Record) → kept_after [] 0 rs ≡ kept_set rs
 kept_is rs = after_is [] 0 rs ∙ set_is (position_from keeps_none 0 rs) (filter_map message_in rs)
 
 rising_of : (o : Option ℕ) (read ms : List Message) → set_of (unless_bad o read) ≡ Ok ms → IsRising ms
@@ -47,5 +47,5 @@ rising_of None read ms is = let same : join [] read ≡ ms = cc in subst IsRisin
 rising_of (Some index) read ms is = absurd (cc)
 
 -- a message set rises
-pub rising_set : (rs : List Kept) (ms : List Message) → kept_set rs ≡ Ok ms → IsRising ms
+pub rising_set : (rs : List Record) (ms : List Message) → kept_set rs ≡ Ok ms → IsRising ms
 rising_set rs ms is = rising_of (position_from keeps_none 0 rs) (filter_map message_in rs) ms is

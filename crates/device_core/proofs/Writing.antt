@@ -13,7 +13,7 @@ use Rattle.device_core.specs.declared.edit.Write.{Write}
 use Rattle.device_core.specs.declared.edit.EditFault.{EditFault}
 use Rattle.device_core.specs.declared.edit.EditFault.TheVariants.{BadId, TooManyWrites, NoMemory as OutOfMemory}
 use Rattle.device_core.specs.declared.edit.LineRefusal.TheVariants.{Edit as OfEdit}
-use Rattle.device_core.specs.Edits.{bad_id, write_unless, set_writes, writes_of, IsFaultOf}
+use Rattle.device_core.specs.Edits.{bad_id, write_unless, set_writes, writes_of, IsEditFault}
 use Rattle.device_core.specs.Device.{State, at_rest, written, writing, edited, first_of}
 
 pub writing_none : (s : State) (reading : ℕ) (ws : List Write) → length ws ≡ 0 → writing s reading (Ok ws) ≡ Ok (record { device = at_rest s; count = 0 })
@@ -39,14 +39,14 @@ first_is clock first n row =
     ap (λ (c : Stamp). record c { counter = c.counter - (n - 1) }) row ∙ ap (λ (k : ℕ). record first { counter = k }) back
 
 -- an edit is refused for its own fault
-pub edit_refused : (s : State) (edit : Edit) (reading : ℕ) (fault : EditFault) → (fault ≡ OutOfMemory → ⊥) → IsFaultOf (writes_of edit) fault → edited s edit reading ≡ Err (OfEdit fault)
+pub edit_refused : (s : State) (edit : Edit) (reading : ℕ) (fault : EditFault) → (fault ≡ OutOfMemory → ⊥) → IsEditFault (writes_of edit) fault → edited s edit reading ≡ Err (OfEdit fault)
 edit_refused s edit reading (BadId id) other is = ap (writing s reading) is
 edit_refused s edit reading (TooManyWrites n) other is = ap (writing s reading) is
 edit_refused s edit reading OutOfMemory other is = absurd (other refl)
 
 -- a fault of the names is the fault of the edit, of which the name is told
 pub bad_id_told : (field : FieldNames) (value : Value) (fault : NameFault) (told : EditFault) → (fault ≢ NoNameMemory → names_fault field ≡ Some fault)
-    → IsFaultOf (Err (bad_id field fault)) told → IsFaultOf (set_writes field value) told
+    → IsEditFault (Err (bad_id field fault)) told → IsEditFault (set_writes field value) told
 bad_id_told field value fault OutOfMemory bad is = tt
 bad_id_told field value fault (BadId id) bad is =
     let other : fault ≢ NoNameMemory = λ e. absurd (let no = ap (bad_id field) e in cc) in ap (λ o. write_unless o field value) (bad other) ∙ is

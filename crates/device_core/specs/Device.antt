@@ -6,7 +6,7 @@ use Rattle.hybrid_clock.specs.declared.stamp.Stamp.{Stamp}
 use Rattle.hybrid_clock.specs.declared.clock.ClockFault.{ClockFault}
 use Rattle.hybrid_clock.specs.Order.{stamp_cmp}
 use Rattle.hybrid_clock.specs.Clock.{clock_after, draw, receive}
-use Rattle.budget_ports.specs.declared.keeper.Kept.{Kept}
+use Rattle.budget_ports.specs.declared.keeper.Record.{Record}
 use Rattle.field_merge.specs.declared.message.Message.{Message}
 use Rattle.budget_ports.specs.Keeper.{HaveKeys}
 use Rattle.field_merge.specs.Messages.{AreMessages}
@@ -32,7 +32,7 @@ pub record State : Type 0 where
 -- the state, the records that are not kept yet, the ids that the last edit made for rows, and whether a want of memory has spoilt the device
 pub record DeviceState : Type 0 where
   pub state : State
-  pub batch : List Kept
+  pub batch : List Record
   pub made : List (List ℕ)
   pub spent : Bool
 
@@ -100,14 +100,14 @@ greatest_of [] = None
 greatest_of (m ∷ ms) = Some (greatest m.stamp ms)
 
 -- messages joined where the clock took their greatest timestamp, or its refusal
-abbrev pub joined : State → List Message → Result Stamp ClockFault → Result Accepted LineRefusal
-joined s ns (Err fault) = Err (OfClock fault)
-joined s ns (Ok clock) = Ok (record { device = with_messages s.messages ns clock; count = length (new_in s.messages ns) })
+abbrev pub taken_in : State → List Message → Result Stamp ClockFault → Result Accepted LineRefusal
+taken_in s ns (Err fault) = Err (OfClock fault)
+taken_in s ns (Ok clock) = Ok (record { device = with_messages s.messages ns clock; count = length (new_in s.messages ns) })
 
 -- messages with this greatest timestamp are received; where there are none, the clock stays as it is
 abbrev pub receiving : State → List Message → ℕ → Option Stamp → Result Accepted LineRefusal
 receiving s ns reading None = Ok (record { device = at_rest s; count = 0 })
-receiving s ns reading (Some stamp) = joined s ns (receive s.clock reading stamp)
+receiving s ns reading (Some stamp) = taken_in s ns (receive s.clock reading stamp)
 
 -- messages are received at a reading of the wall clock, once for all of them, by their greatest timestamp
 abbrev pub received : State → List Message → ℕ → Result Accepted LineRefusal
@@ -140,7 +140,7 @@ abbrev pub pairs_of : List Message → List Pair
 pairs_of ms = map (λ m. stamp_pair m.stamp) ms
 
 -- what holds of a device that is not spent
-pub record Stands (log : LogState) (trie : Trie) (clock : Stamp) (batch : List Kept) : Type 0 where
+pub record Stands (log : LogState) (trie : Trie) (clock : Stamp) (batch : List Record) : Type 0 where
   pub live : log.spent ≡ false
   pub valid : AreMessages log.messages
   pub trie_live : is_spent trie ≡ false

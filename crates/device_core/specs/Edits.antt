@@ -50,6 +50,6 @@ abbrev pub AreWrites : List Write → Type 0
 AreWrites = AllByRecursion (λ w. AreNames w.field × IsValue w.value)
 
 -- memory ran out, or it is the fault of the edit
-abbrev pub IsFaultOf : Result (List Write) EditFault → EditFault → Type 0
-IsFaultOf meant NoMemory = Unit {0}
-IsFaultOf meant fault = meant ≡ Err fault
+abbrev pub IsEditFault : Result (List Write) EditFault → EditFault → Type 0
+IsEditFault meant NoMemory = Unit {0}
+IsEditFault meant fault = meant ≡ Err fault

@@ -1,26 +1,21 @@
 -- The records that a keeper keeps of messages.
-use Rattle.std.specs.Prelude.{ℕ, List, [], ◌∷◌, ◌++◌, map, is_none, is_ok, if◌then◌else◌, Option, None, Some, Result, Ok, Err}
+use Rattle.std.specs.Prelude.{ℕ, List, [], ◌∷◌, ◌++◌, is_none, is_ok, if◌then◌else◌, Option, None, Some, Result, Ok, Err}
 use Rattle.std.specs.Result.{result_ok}
-use Rattle.std.specs.List.{join_with_byte, filter_map, position_from}
-use Rattle.field_values.specs.Value.{value_text}
+use Rattle.std.specs.List.{filter_map, position_from}
 use Rattle.hybrid_clock.specs.Stamp.{stamp_text}
 use Rattle.hybrid_clock.specs.Reading.{read_stamp}
-use Rattle.budget_ports.specs.declared.keeper.Kept.{Kept}
+use Rattle.budget_ports.specs.declared.keeper.Record.{Record}
 use Rattle.field_merge.specs.declared.message.Message.{Message}
-use Rattle.field_merge.specs.Escapes.{escaped}
 use Rattle.field_merge.specs.Lines.{reading}
+use Rattle.field_merge.specs.Messages.{message_body}
 use Rattle.field_merge.specs.Log.{join}
 
--- what stands behind the timestamp in a message's line: names and value, each escaped, with a TAB between them
-abbrev pub body_of : Message → List ℕ
-body_of m = join_with_byte 9 (map escaped (m.field.dataset ∷ m.field.row ∷ m.field.column ∷ value_text m.value ∷ []))
-
--- a message as it is kept: its timestamp's text is the key
-abbrev pub record_of : Message → Kept
-record_of m = record { key = stamp_text m.stamp; body = body_of m }
+-- a message as it is kept: its timestamp's text is the key, and the rest of its line is the body
+abbrev pub record_of : Message → Record
+record_of m = record { key = stamp_text m.stamp; body = message_body m }
 
 -- the message that a record keeps: its key by itself is a timestamp's text, and key, TAB and body are a message's line
-abbrev pub message_in : Kept → Option Message
+abbrev pub message_in : Record → Option Message
 message_in r = if is_ok (read_stamp r.key) then result_ok (reading (r.key ++ 9 ∷ r.body)) else None
 
 -- the messages, unless the record at this place, the first such, keeps none
@@ -29,7 +24,7 @@ unless_bad None ms = Ok ms
 unless_bad (Some index) ms = Err index
 
 -- the messages of records, in their order
-abbrev pub messages_in : List Kept → Result (List Message) ℕ
+abbrev pub messages_in : List Record → Result (List Message) ℕ
 messages_in rs = unless_bad (position_from (λ r. is_none (message_in r)) 0 rs) (filter_map message_in rs)
 
 -- the message set of records
@@ -38,5 +33,5 @@ set_of (Ok ms) = Ok (join [] ms)
 set_of (Err index) = Err index
 
 -- the message set that records keep, or the place of the first that keeps no message
-abbrev pub kept_set : List Kept → Result (List Message) ℕ
+abbrev pub kept_set : List Record → Result (List Message) ℕ
 kept_set rs = set_of (messages_in rs)

@@ -3,7 +3,7 @@ ghost use Rattle.std.specs.Prelude.{◌≡◌, ◌+◌, ◌-◌, ◌≤◌, ◌<
 ghost use Rattle.hybrid_clock.specs.Node.{IsNode};
 ghost use Rattle.hybrid_clock.specs.Stamp.{IsStamp};
 ghost use Rattle.budget_ports.specs.Keeper.{HaveKeys};
-ghost use Rattle.field_merge.specs.Log.{later};
+ghost use Rattle.field_merge.specs.Log.{messages_after};
 ghost use Rattle.field_merge.specs.Messages.{AreMessages};
 ghost use Rattle.minute_trie.specs.Trie.{IsTrieOf, ArePairs};
 ghost use Rattle.device_core.specs.declared.device.StartFault.TheVariants.{NoMemory as OutOfMemory};
@@ -13,7 +13,7 @@ ghost use Rattle.device_core.specs.Device.{at_rest, begun, with_messages, stampe
 
 use crate::edit::{Edit, EditFault, LineRefusal, Write, edit_writes};
 use crate::join::{join_all, read_log};
-use budget_ports::Kept;
+use budget_ports::Record;
 use field_merge::{Log, Message};
 use field_values::{Items, NoMemory, Steps, Txt};
 use hybrid_clock::{HybridClock, Node, Stamp};
@@ -54,7 +54,7 @@ pub struct Device {
     log: Log,
     trie: Trie,
     clock: HybridClock,
-    batch: Vec<Kept>,
+    batch: Vec<Record>,
     made: Items<Txt>,
     spent: bool,
 }
@@ -78,7 +78,7 @@ impl Device {
     /// # Errors
     ///
     /// `BadRecord` for the first record that keeps no message.
-    pub fn start(alloc: Global, node: Node, records: &[Kept]) -> Result<Device, StartFault>
+    pub fn start(alloc: Global, node: Node, records: &[Record]) -> Result<Device, StartFault>
         requires { IsNode node }
         ensures messages { IfOk result (λ d. kept_set records.now ≡ Ok d.state.messages) }
         ensures state { IfOk result (λ d. d ≡ at_rest (begun node d.state.messages)) }
@@ -245,7 +245,7 @@ impl Device {
     }
 
     /// The records that are pending: `prepare` and `incoming` say which.
-    pub fn batch(&self) -> &[Kept]
+    pub fn batch(&self) -> &[Record]
         requires { self.now.spent ≡ false }
         ensures batch { result.now ≡ self.now.batch }
         ensures keys { HaveKeys result.now }
@@ -272,7 +272,7 @@ impl Device {
     /// The messages whose timestamp's text is greater than a text, byte by byte.
     pub fn outgoing(&self, since: &[u8]) -> Result<Items<Message>, NoMemory>
         requires { self.now.spent ≡ false }
-        ensures messages { IfOk result (λ ms. ms ≡ later since.now self.now.state.messages) }
+        ensures messages { IfOk result (λ ms. ms ≡ messages_after since.now self.now.state.messages) }
         ensures valid { IfOk result AreMessages }
     {
         self.log.since(since)

@@ -3,7 +3,7 @@ ghost use Rattle.std.specs.Prelude.{◌≡◌, IfOk, IfErr};
 ghost use Rattle.field_values.specs.Names.{field_of};
 ghost use Rattle.field_values.specs.Value.{IsValue};
 ghost use Rattle.device_core.specs.declared.edit.EditFault.TheVariants.{NoMemory as OutOfMemory};
-ghost use Rattle.device_core.specs.Edits.{name_of, bad_id, writes_of, set_writes, IsEdit, AreWrites, IsFaultOf};
+ghost use Rattle.device_core.specs.Edits.{name_of, bad_id, writes_of, set_writes, IsEdit, AreWrites, IsEditFault};
 
 use field_values::{Field, NameFault, NamePart, NoMemory, Txt, Value};
 use hybrid_clock::ClockFault;
@@ -88,7 +88,7 @@ fn name_of<'a>(part: NamePart, dataset: &'a Txt, row: &'a Txt, column: &'a Txt) 
 
 /// Why an edit is refused where its names have this fault.
 fn bad_id(fault: NameFault, dataset: &Txt, row: &Txt, column: &Txt) -> EditFault
-    ensures { IsFaultOf (Err (bad_id (field_of dataset.now row.now column.now) fault)) result }
+    ensures { IsEditFault (Err (bad_id (field_of dataset.now row.now column.now) fault)) result }
 {
     let part = match fault {
         NameFault::Empty { part }
@@ -114,7 +114,7 @@ fn set_writes(
     requires { IsValue value.now }
     ensures ok { IfOk result (λ ws. set_writes (field_of dataset.now row.now column.now) value.now ≡ Ok ws.items) }
     ensures valid { IfOk result (λ ws. AreWrites ws.items) }
-    ensures err { IfErr result (IsFaultOf (set_writes (field_of dataset.now row.now column.now) value.now)) }
+    ensures err { IfErr result (IsEditFault (set_writes (field_of dataset.now row.now column.now) value.now)) }
 {
     let field = match Field::make(alloc, dataset.as_str(), row.as_str(), column.as_str()) {
         Ok(field) => field,
@@ -131,7 +131,7 @@ pub(crate) fn edit_writes(alloc: Global, edit: &Edit) -> Result<Vec<Write>, Edit
     requires { IsEdit edit.now }
     ensures ok { IfOk result (λ ws. writes_of edit.now ≡ Ok ws.items) }
     ensures valid { IfOk result (λ ws. AreWrites ws.items) }
-    ensures err { IfErr result (IsFaultOf (writes_of edit.now)) }
+    ensures err { IfErr result (IsEditFault (writes_of edit.now)) }
 {
     match edit {
         Edit::Book(

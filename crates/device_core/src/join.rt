@@ -9,7 +9,7 @@ ghost use Rattle.device_core.specs.Records.{record_of, kept_set};
 
 use crate::device::StartFault;
 use crate::record::{read_record, write_record};
-use budget_ports::Kept;
+use budget_ports::Record;
 use field_merge::{Log, Message};
 use field_values::NoMemory;
 use minute_trie::{Trie, order_free};
@@ -38,7 +38,7 @@ fn enter(log: &mut Log, trie: &mut Trie, message: Message) -> Result<bool, NoMem
 }
 
 /// The log of the messages that records keep, and its trie.
-pub(crate) fn read_log(alloc: Global, records: &[Kept]) -> Result<(Log, Trie), StartFault>
+pub(crate) fn read_log(alloc: Global, records: &[Record]) -> Result<(Log, Trie), StartFault>
     ensures messages { IfOk result (λ l. kept_set records.now ≡ Ok l.0.messages) }
     ensures live { IfOk result (λ l. l.0.spent ≡ false) }
     ensures valid { IfOk result (λ l. AreMessages l.0.messages) }
@@ -63,7 +63,7 @@ fn join_message(
     log: &mut Log,
     trie: &mut Trie,
     message: &Message,
-    batch: &mut Vec<Kept>,
+    batch: &mut Vec<Record>,
 ) -> Result<(), NoMemory>
     requires live { log.old.spent ≡ false }
     requires trie_live { is_spent trie.old ≡ false }
@@ -81,7 +81,7 @@ fn join_message(
 }
 
 /// Adds a record where it is new.
-fn push_if(is_new: bool, batch: &mut Vec<Kept>, kept: Kept) -> Result<(), NoMemory>
+fn push_if(is_new: bool, batch: &mut Vec<Record>, kept: Record) -> Result<(), NoMemory>
     ensures { OnOk result (batch.new.items ≡ batch.old.items ++ (if is_new then kept ∷ [] else [])) }
 {
     if is_new {
@@ -96,7 +96,7 @@ pub(crate) fn join_all(
     log: &mut Log,
     trie: &mut Trie,
     messages: &[Message],
-    batch: &mut Vec<Kept>,
+    batch: &mut Vec<Record>,
 ) -> Result<(), NoMemory>
     requires live { log.old.spent ≡ false }
     requires trie_live { is_spent trie.old ≡ false }

@@ -4,14 +4,13 @@ ghost use Rattle.std.specs.Result.{result_ok};
 ghost use Rattle.std.specs.Option.{ForSome};
 ghost use Rattle.hybrid_clock.specs.Stamp.{IsStamp, stamp_text};
 ghost use Rattle.hybrid_clock.specs.Reading.{read_stamp};
-ghost use Rattle.field_merge.specs.Escapes.{escaped};
 ghost use Rattle.field_merge.specs.Lines.{reading};
-ghost use Rattle.field_merge.specs.Messages.{IsMessage};
+ghost use Rattle.field_merge.specs.Messages.{IsMessage, message_body};
 ghost use Rattle.field_merge.specs.declared.message.Message.{Message};
-ghost use Rattle.device_core.specs.Records.{record_of, body_of, message_in};
+ghost use Rattle.device_core.specs.Records.{record_of, message_in};
 
-use budget_ports::Kept;
-use field_merge::{LineFault, Message, push_escaped, read_line};
+use budget_ports::Record;
+use field_merge::{LineFault, Message, push_body, read_line};
 use field_values::{NoMemory, Txt};
 use hybrid_clock::Stamp;
 use std::alloc::Global;
@@ -29,42 +28,29 @@ fn stamp_text(alloc: Global, stamp: &Stamp) -> Result<Txt, NoMemory>
     }
 }
 
-/// Puts a TAB and an escaped text at the end of a body.
-fn push_part(body: &mut String, text: &str) -> Result<(), NoMemory>
-    ensures { OnOk result (string_bytes body.new ≡ string_bytes body.old ++ 9 ∷ escaped text.now) }
-{
-    body.push('\t')?;
-    push_escaped(body, text)
-}
-
 /// What stands behind the timestamp in a message's line.
-#[tactic(auto, using(crate::proofs::Keeping::body_pushed))]
 fn body(alloc: Global, message: &Message) -> Result<Txt, NoMemory>
     requires { IsMessage message.now }
-    ensures { IfOk result (λ t. t ≡ body_of message.now) }
+    ensures { IfOk result (λ t. t ≡ message_body message.now) }
 {
     let mut body = String::new(alloc);
-    push_escaped(&mut body, message.field.dataset())?;
-    push_part(&mut body, message.field.row())?;
-    push_part(&mut body, message.field.column())?;
-    let value = message.value.text(alloc)?;
-    push_part(&mut body, value.as_str())?;
+    push_body(alloc, &mut body, message)?;
     Ok(Txt::new(body))
 }
 
 /// The record that keeps a message.
-pub(crate) fn write_record(alloc: Global, message: &Message) -> Result<Kept, NoMemory>
+pub(crate) fn write_record(alloc: Global, message: &Message) -> Result<Record, NoMemory>
     requires { IsMessage message.now }
     ensures { IfOk result (λ r. r ≡ record_of message.now) }
 {
-    Ok(Kept {
+    Ok(Record {
         key: stamp_text(alloc, &message.stamp)?,
         body: body(alloc, message)?,
     })
 }
 
 /// The line of a record: its key, a TAB and its body.
-fn record_line(alloc: Global, kept: &Kept) -> Result<Txt, NoMemory>
+fn record_line(alloc: Global, kept: &Record) -> Result<Txt, NoMemory>
     ensures { IfOk result (λ t. t ≡ kept.now.key ++ 9 ∷ kept.now.body) }
 {
     let mut line = String::new(alloc);
@@ -94,7 +80,7 @@ fn message_of_line(alloc: Global, line: &Txt) -> Result<Option<Message>, NoMemor
 }
 
 /// The message that a record keeps.
-pub(crate) fn read_record(alloc: Global, kept: &Kept) -> Result<Option<Message>, NoMemory>
+pub(crate) fn read_record(alloc: Global, kept: &Record) -> Result<Option<Message>, NoMemory>
     ensures message { IfOk result (λ m. m ≡ message_in kept.now) }
     ensures valid { IfOk result (λ m. ForSome m IsMessage) }
 {

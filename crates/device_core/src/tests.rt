@@ -6,7 +6,7 @@ ghost use Rattle.field_merge.specs.Messages.{IsMessage, AreMessages};
 ghost use Rattle.device_core.specs.Edits.{IsEdit};
 
 use crate::{BookEdit, Device, Edit, EditFault, LineRefusal, StartFault};
-use budget_ports::Kept;
+use budget_ports::Record;
 use field_merge::{Message, read_line, write_line};
 use field_values::{Steps, Txt, Value};
 use hybrid_clock::{ClockFault, Node, Stamp};
@@ -34,10 +34,10 @@ fn clock_at(millis: u64) -> Result<Stamp, Fail> {
 }
 
 /// A list of records.
-fn records(alloc: Global, texts: &[(&str, &str)]) -> Result<Vec<Kept>, Fail> {
+fn records(alloc: Global, texts: &[(&str, &str)]) -> Result<Vec<Record>, Fail> {
     let mut records = Vec::new(alloc);
     for (key, body) in texts {
-        records.push(Kept {
+        records.push(Record {
             key: Txt::from_text(alloc, key)?,
             body: Txt::from_text(alloc, body)?,
         })?;

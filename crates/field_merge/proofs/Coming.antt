@@ -14,7 +14,7 @@ use Rattle.field_merge.specs.declared.message.Message.{Message}
 use Rattle.field_merge.specs.Log.{IsByField, IsRising, at_stamp, by_stamp, fields, has_field, has_stamp, join, join_one, latest, placed}
 use Rattle.field_merge.specs.Latest.{CameFrom, KeepsLatest, LatestState}
 use Rattle.field_merge.proofs.Joining.{found, in_turn, rising, stamp_of}
-use Rattle.field_merge.proofs.Kept.{flips, join-fresh, join-there, marked-more}
+use Rattle.field_merge.proofs.Stored.{flips, join-fresh, join-there, marked-more}
 use Rattle.field_merge.proofs.Entering.{latest-placed, wins}
 use Rattle.field_merge.proofs.Fields.{field_of, fields_in_order, find-fields}
 use Rattle.field_merge.proofs.Latest.{IsUpTo, is_some-latest, latest_greatest, latest_there}

@@ -10,7 +10,7 @@ use Rattle.hybrid_clock.specs.declared.stamp.Stamp.{Stamp}
 use Rattle.hybrid_clock.specs.Order.{stamp_cmp}
 use Rattle.field_merge.specs.declared.message.Message.{Message}
 use Rattle.field_merge.specs.Log.{IsRising, at_stamp, by_stamp, has_field, latest, placed}
-use Rattle.field_merge.specs.Kept.{is_newer}
+use Rattle.field_merge.specs.Stored.{is_newer}
 use Rattle.field_merge.proofs.Orders.{stamps_total, names_exact, names_total}
 use Rattle.field_merge.proofs.Members.{all_of, all_keys, missed, or_none}
 use Rattle.field_merge.proofs.Ordered.{IsBelow, below_less, equal, head, tail}

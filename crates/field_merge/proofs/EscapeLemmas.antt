@@ -9,7 +9,7 @@ use Rattle.std.proofs.lemmas.Option.{cond_some}
 use Rattle.std.specs.Option.{is_some}
 use Rattle.std.specs.Bool.{OnTrue}
 use Rattle.memchr.specs.Find.{IsFirstByte, is_byte}
-use Rattle.field_merge.specs.Escapes.{escaped, escaped_byte, is_special, is_letter, unescaped, later, bad_escape}
+use Rattle.field_merge.specs.Escapes.{escaped, escaped_byte, is_special, is_letter, unescaped, place_after, bad_escape}
 
 -- each byte of the text fails the test
 abbrev pub Fails : (ℕ → Bool) → List ℕ → Type 0
@@ -114,47 +114,47 @@ escaped-cut xs at h =
 pub escaped-on : (done before byte after rest all : List ℕ) → done ++ escaped rest ≡ all → escaped rest ≡ before ++ (byte ++ escaped after) → ((done ++ before) ++ byte) ++ escaped after ≡ all
 escaped-on done before byte after rest all h e = simp append_assoc (ap (λ t. done ++ t) (sym e) ∙ h)
 
-pub later-zero : (o : Option ℕ) → later 0 o ≡ o
-later-zero None = refl
-later-zero (Some k) = ap Some (omega arith)
+pub place_after-zero : (o : Option ℕ) → place_after 0 o ≡ o
+place_after-zero None = refl
+place_after-zero (Some k) = ap Some (omega arith)
 
-pub later-later : (m n : ℕ) (o : Option ℕ) → later m (later n o) ≡ later (m + n) o
-later-later m n None = refl
-later-later m n (Some k) = ap Some (omega arith)
+pub place_after-twice : (m n : ℕ) (o : Option ℕ) → place_after m (place_after n o) ≡ place_after (m + n) o
+place_after-twice m n None = refl
+place_after-twice m n (Some k) = ap Some (omega arith)
 
 -- a byte that is no backslash begins no escape
-pub bad_escape-plain : (x : ℕ) (xs : List ℕ) → eqb x 92 ≡ false → bad_escape (x ∷ xs) ≡ later 1 (bad_escape xs)
+pub bad_escape-plain : (x : ℕ) (xs : List ℕ) → eqb x 92 ≡ false → bad_escape (x ∷ xs) ≡ place_after 1 (bad_escape xs)
 bad_escape-plain x [] h = rw h refl
 bad_escape-plain x (c ∷ rest) h = rw h refl
 
 bad_escape-whole : (xs : List ℕ) → Lacks 92 xs → bad_escape xs ≡ None
 bad_escape-whole [] h = refl
-bad_escape-whole (x ∷ xs) h = bad_escape-plain x xs h.0 ∙ ap (later 1) (bad_escape-whole xs h.1)
+bad_escape-whole (x ∷ xs) h = bad_escape-plain x xs h.0 ∙ ap (place_after 1) (bad_escape-whole xs h.1)
 
 -- a text without a backslash has no bad escape
 pub bad_escape-cut : (bs : List ℕ) (r : Option (Bor (List ℕ) × Bor (List ℕ))) → CutsAt 92 bs r → MatchOption r (bad_escape bs ≡ None) (λ p. Unit {0})
 bad_escape-cut bs None h = bad_escape-whole bs (Lacks-from_reads 92 bs h)
 bad_escape-cut bs (Some x) h = tt
 
-pub bad_escape-pair : (c : ℕ) (rest : List ℕ) → is_letter c ≡ true → bad_escape (92 ∷ c ∷ rest) ≡ later 2 (bad_escape rest)
+pub bad_escape-pair : (c : ℕ) (rest : List ℕ) → is_letter c ≡ true → bad_escape (92 ∷ c ∷ rest) ≡ place_after 2 (bad_escape rest)
 bad_escape-pair c rest h = rw h refl
 
 -- the place in the rest, moved on over a byte that is no backslash
-pub bad_escape-on : (text : List ℕ) (at : ℕ) → at < length text → get_or text at 0 ≢ 92 → bad_escape text ≡ later at (bad_escape (drop at text)) → bad_escape text ≡ later (at + 1) (bad_escape (drop (at + 1) text))
+pub bad_escape-on : (text : List ℕ) (at : ℕ) → at < length text → get_or text at 0 ≢ 92 → bad_escape text ≡ place_after at (bad_escape (drop at text)) → bad_escape text ≡ place_after (at + 1) (bad_escape (drop (at + 1) text))
 bad_escape-on text at l h e =
-    e ∙ ap (λ t. later at (bad_escape t)) (drop_more text at 0 l)
-    ∙ ap (later at) (bad_escape-plain (get_or text at 0) (drop (at + 1) text) (ne_eqb _ _ h))
-    ∙ later-later at 1 (bad_escape (drop (at + 1) text))
+    e ∙ ap (λ t. place_after at (bad_escape t)) (drop_more text at 0 l)
+    ∙ ap (place_after at) (bad_escape-plain (get_or text at 0) (drop (at + 1) text) (ne_eqb _ _ h))
+    ∙ place_after-twice at 1 (bad_escape (drop (at + 1) text))
 
 -- the same over an escape
-pub bad_escape-over : (text : List ℕ) (at : ℕ) → at + 1 < length text → get_or text at 0 ≡ 92 → is_letter (get_or text (at + 1) 0) ≡ true → bad_escape text ≡ later at (bad_escape (drop at text)) → bad_escape text ≡ later (at + 2) (bad_escape (drop (at + 2) text))
+pub bad_escape-over : (text : List ℕ) (at : ℕ) → at + 1 < length text → get_or text at 0 ≡ 92 → is_letter (get_or text (at + 1) 0) ≡ true → bad_escape text ≡ place_after at (bad_escape (drop at text)) → bad_escape text ≡ place_after (at + 2) (bad_escape (drop (at + 2) text))
 bad_escape-over text at l is letter e =
     let two : drop at text ≡ 92 ∷ get_or text (at + 1) 0 ∷ drop (at + 2) text =
     drop_more text at 0 (omega arith) ∙ ap (λ b. b ∷ drop (at + 1) text) is
     ∙ ap (λ t. 92 ∷ t) (drop_more text (at + 1) 0 l ∙ ap (λ n. get_or text (at + 1) 0 ∷ drop n text) (omega arith)) in
-    e ∙ ap (λ t. later at (bad_escape t)) two
-    ∙ ap (later at) (bad_escape-pair (get_or text (at + 1) 0) (drop (at + 2) text) letter)
-    ∙ later-later at 2 (bad_escape (drop (at + 2) text))
+    e ∙ ap (λ t. place_after at (bad_escape t)) two
+    ∙ ap (place_after at) (bad_escape-pair (get_or text (at + 1) 0) (drop (at + 2) text) letter)
+    ∙ place_after-twice at 2 (bad_escape (drop (at + 2) text))
 
 -- the bytes that stand in no part: 0, TAB and LF
 abbrev pub is_raw : ℕ → Bool
@@ -199,11 +199,11 @@ unescaped-escaped (b ∷ text) =
     back_by (eqb b 0) (eqb b 9) (eqb b 10) (eqb b 92) b (escaped text) refl refl refl refl ∙ ap (λ t. b ∷ t) (unescaped-escaped text)
 
 good_by : (p q r s : Bool) (b : ℕ) (ys : List ℕ) → eqb b 92 ≡ s → bad_escape ys ≡ None → bad_escape (cond p (92 ∷ 48 ∷ []) (cond q (92 ∷ 116 ∷ []) (cond r (92 ∷ 110 ∷ []) (cond s (92 ∷ 92 ∷ []) (b ∷ [])))) ++ ys) ≡ None
-good_by true q r s b ys h92 h = ap (later 2) h
-good_by false true r s b ys h92 h = ap (later 2) h
-good_by false false true s b ys h92 h = ap (later 2) h
-good_by false false false true b ys h92 h = ap (later 2) h
-good_by false false false false b ys h92 h = bad_escape-plain b ys h92 ∙ ap (later 1) h
+good_by true q r s b ys h92 h = ap (place_after 2) h
+good_by false true r s b ys h92 h = ap (place_after 2) h
+good_by false false true s b ys h92 h = ap (place_after 2) h
+good_by false false false true b ys h92 h = ap (place_after 2) h
+good_by false false false false b ys h92 h = bad_escape-plain b ys h92 ∙ ap (place_after 1) h
 
 -- and has no bad escape
 pub bad_escape-escaped : (text ys : List ℕ) → bad_escape ys ≡ None → bad_escape (escaped text ++ ys) ≡ None
@@ -213,7 +213,7 @@ bad_escape-escaped (b ∷ text) ys h =
     ∙ good_by (eqb b 0) (eqb b 9) (eqb b 10) (eqb b 92) b (escaped text ++ ys) refl (bad_escape-escaped text ys h)
 
 pub bad_escape-tab : (ys : List ℕ) → bad_escape ys ≡ None → bad_escape (9 ∷ ys) ≡ None
-bad_escape-tab ys h = bad_escape-plain 9 ys refl ∙ ap (later 1) h
+bad_escape-tab ys h = bad_escape-plain 9 ys refl ∙ ap (place_after 1) h
 
 -- a search for a byte finds none
 lacks_byte : (b : ℕ) (bs : List ℕ) → IsFirstByte (is_byte b) bs None → Lacks b bs

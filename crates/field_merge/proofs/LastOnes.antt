@@ -13,7 +13,7 @@ use Rattle.hybrid_clock.specs.Stamp.{IsStamp, stamp_text}
 use Rattle.hybrid_clock.specs.Order.{stamp_cmp}
 use Rattle.field_merge.specs.declared.message.Message.{Message}
 use Rattle.field_merge.specs.Messages.{AreMessages, IsMessage}
-use Rattle.field_merge.specs.Log.{IsRising, is_after, later}
+use Rattle.field_merge.specs.Log.{IsRising, is_after, messages_after}
 use Rattle.field_merge.proofs.Members.{all_keys}
 use Rattle.field_merge.proofs.Ordered.{cons, head, in_order_nil, tail}
 use Rattle.field_merge.proofs.Joining.{stamp_of}
@@ -61,21 +61,21 @@ none_after order text (m ∷ ms) n v w isnt h =
     (upto nat_list_cmp_total (stamp_text m.stamp) (stamp_text n.stamp) text under isnt, none_after order text ms n v.1 w isnt h.1)
 
 -- where the last message is not after the text, none is
-pub none_later : TextsOrder → (text : List ℕ) (ms : List Message) (n : Message) → AreMessages (ms ++ n ∷ []) → IsRising (ms ++ n ∷ []) → is_after text n ≡ false → later text (ms ++ n ∷ []) ≡ []
+pub none_later : TextsOrder → (text : List ℕ) (ms : List Message) (n : Message) → AreMessages (ms ++ n ∷ []) → IsRising (ms ++ n ∷ []) → is_after text n ≡ false → messages_after text (ms ++ n ∷ []) ≡ []
 none_later order text ms n v s isnt =
     filter-append (is_after text) ms (n ∷ [])
     ∙ ap (λ ns. ns ++ filter (is_after text) (n ∷ [])) (filter_none (is_after text) ms (none_after order text ms n (all_front IsMessage ms n v) (at_end IsMessage ms n v) isnt (below_last ms n s)))
     ∙ ap (λ b. cond b (n ∷ []) []) isnt
 
 -- where it is, it is the last one of those that are
-pub later_front : (text : List ℕ) (ms found : List Message) (n : Message) → is_after text n ≡ true → later text (ms ++ n ∷ []) ++ reverse found ≡ later text ms ++ reverse (found ++ n ∷ [])
+pub later_front : (text : List ℕ) (ms found : List Message) (n : Message) → is_after text n ≡ true → messages_after text (ms ++ n ∷ []) ++ reverse found ≡ messages_after text ms ++ reverse (found ++ n ∷ [])
 later_front text ms found n is =
-    ap (λ ns. ns ++ reverse found) (filter-append (is_after text) ms (n ∷ []) ∙ ap (λ b. later text ms ++ cond b (n ∷ []) []) is)
-    ∙ append_assoc (later text ms) (n ∷ []) (reverse found)
-    ∙ ap (λ ns. later text ms ++ ns) (sym (reverse-append found (n ∷ [])))
+    ap (λ ns. ns ++ reverse found) (filter-append (is_after text) ms (n ∷ []) ∙ ap (λ b. messages_after text ms ++ cond b (n ∷ []) []) is)
+    ∙ append_assoc (messages_after text ms) (n ∷ []) (reverse found)
+    ∙ ap (λ ns. messages_after text ms ++ ns) (sym (reverse-append found (n ∷ [])))
 
 -- the later ones of valid messages are valid
-pub later_valid : (text : List ℕ) (ms : List Message) → AreMessages ms → AreMessages (later text ms)
+pub later_valid : (text : List ℕ) (ms : List Message) → AreMessages ms → AreMessages (messages_after text ms)
 later_valid text [] h = tt
 later_valid text (m ∷ ms) h =
-    elim (is_after text m) as (λ b. AreMessages (cond b (m ∷ later text ms) (later text ms))) [ true ↦ (h.0, later_valid text ms h.1) | false ↦ later_valid text ms h.1 ]
+    elim (is_after text m) as (λ b. AreMessages (cond b (m ∷ messages_after text ms) (messages_after text ms))) [ true ↦ (h.0, later_valid text ms h.1) | false ↦ later_valid text ms h.1 ]

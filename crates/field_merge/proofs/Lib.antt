@@ -11,7 +11,7 @@ pub mod Joining
 pub mod Latest
 pub mod Fields
 pub mod Entering
-pub mod Kept
+pub mod Stored
 pub mod Listed
 pub mod LastOnes
 pub mod Coming

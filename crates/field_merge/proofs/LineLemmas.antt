@@ -101,9 +101,13 @@ reading_of_line m valid =
     ∙ ap (λ bad. of_parts (escaped (stamp_text m.stamp) ∷ escaped m.field.dataset ∷ escaped m.field.row ∷ escaped m.field.column ∷ escaped (value_text m.value) ∷ []) bad) e2
     ∙ rw (unescaped-escaped (stamp_text m.stamp), unescaped-escaped m.field.dataset, unescaped-escaped m.field.row, unescaped-escaped m.field.column, unescaped-escaped (value_text m.value), text_reads m.stamp valid.stamp, names_fault-none m.field valid.field, value_of_text m.value valid.value) refl
 
--- a line that is written part by part
-pub line_pushed : (old a b c d e : List ℕ) → ((((old ++ a) ++ 9 ∷ b) ++ 9 ∷ c) ++ 9 ∷ d) ++ 9 ∷ e ≡ old ++ (a ++ (9 ∷ (b ++ (9 ∷ (c ++ (9 ∷ (d ++ (9 ∷ e))))))))
-line_pushed old a b c d e = simp append_assoc
+-- a body that is written part by part
+pub body_pushed : (old a b c d : List ℕ) → (((old ++ a) ++ 9 ∷ b) ++ 9 ∷ c) ++ 9 ∷ d ≡ old ++ (a ++ (9 ∷ (b ++ (9 ∷ (c ++ (9 ∷ d))))))
+body_pushed old a b c d = simp append_assoc
+
+-- a line is a first part, a TAB and the rest
+pub line_pushed : (old a rest : List ℕ) → ((old ++ a) ++ 9 ∷ []) ++ rest ≡ old ++ (a ++ (9 ∷ rest))
+line_pushed old a rest = simp append_assoc
 
 no_feed : (m : Message) → Lacks 10 (message_line m)
 no_feed m =

@@ -10,7 +10,7 @@ use Rattle.field_values.specs.Names.{FieldNames, names_cmp}
 use Rattle.field_merge.specs.declared.message.Message.{Message}
 use Rattle.field_merge.specs.Messages.{AreMessages, IsMessage}
 use Rattle.field_merge.specs.Log.{fields, has_field, latest}
-use Rattle.field_merge.specs.Kept.{IsIndex}
+use Rattle.field_merge.specs.Stored.{IsIndex}
 use Rattle.field_merge.proofs.Orders.{names_exact, names_total}
 use Rattle.field_merge.proofs.Members.{all_from, all_of}
 use Rattle.field_merge.proofs.Ordered.{equal, same}

@@ -6,7 +6,7 @@ use Rattle.std.specs.BTreeMap.{is_at}
 use Rattle.field_values.specs.Names.{FieldNames, names_cmp}
 use Rattle.hybrid_clock.specs.Order.{stamp_cmp}
 use Rattle.field_merge.specs.declared.message.Message.{Message}
-use Rattle.field_merge.specs.Kept.{Notes, is_newer}
+use Rattle.field_merge.specs.Stored.{Notes, is_newer}
 
 abbrev Index : Type 0
 Index = List (FieldNames × Message)

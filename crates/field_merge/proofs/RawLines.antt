@@ -15,7 +15,7 @@ use Rattle.hybrid_clock.specs.Reading.{read_stamp}
 use Rattle.hybrid_clock.proofs.Texts.{read_text}
 use Rattle.field_merge.specs.declared.message.Message.{Message}
 use Rattle.field_merge.specs.declared.line.LineFault.{LineFault}
-use Rattle.field_merge.specs.Escapes.{escaped, escaped_byte, raw_escaped, is_letter, is_escape, meaning, unescaped, later, bad_escape}
+use Rattle.field_merge.specs.Escapes.{escaped, escaped_byte, raw_escaped, is_letter, is_escape, meaning, unescaped, place_after, bad_escape}
 use Rattle.field_merge.specs.Messages.{message_line, message_texts}
 use Rattle.field_merge.specs.Lines.{parts, with_names, with_stamp, of_parts, reading}
 use Rattle.field_merge.proofs.EscapeLemmas.{Lacks, bad_escape-plain}
@@ -40,9 +40,9 @@ letter_by false false false false c h48 h116 h110 h92 h = absurd (cc)
 meaning_escaped : (c : ℕ) → is_letter c ≡ true → escaped_byte (meaning c) ≡ 92 ∷ raw_escaped c
 meaning_escaped c h = letter_by (eqb c 48) (eqb c 116) (eqb c 110) (eqb c 92) c refl refl refl refl h
 
-later_none : (n : ℕ) (o : Option ℕ) → later n o ≡ None → o ≡ None
-later_none n None h = refl
-later_none n (Some at) h = absurd (cc)
+place_after_none : (n : ℕ) (o : Option ℕ) → place_after n o ≡ None → o ≡ None
+place_after_none n None h = refl
+place_after_none n (Some at) h = absurd (cc)
 
 no_backslash : (t : Bool) (o : Option ℕ) → cond t (Some 0) o ≡ None → (t ≡ false) × (o ≡ None)
 no_backslash true o h = absurd (cc)
@@ -53,18 +53,18 @@ abbrev IsWritten : List ℕ → Type 0
 IsWritten part = escaped (unescaped part) ≡ flat_map raw_escaped part
 
 pair_by : (t : Bool) (b c : ℕ) (rest : List ℕ) → is_escape b c ≡ t → eqb b 9 ≡ false
-    → cond t (later 2 (bad_escape rest)) (cond (eqb b 92) (Some 0) (later 1 (bad_escape (c ∷ rest)))) ≡ None
+    → cond t (place_after 2 (bad_escape rest)) (cond (eqb b 92) (Some 0) (place_after 1 (bad_escape (c ∷ rest)))) ≡ None
     → (bad_escape rest ≡ None → IsWritten rest) → (bad_escape (c ∷ rest) ≡ None → IsWritten (c ∷ rest))
     → escaped (cond t (meaning c ∷ unescaped rest) (b ∷ unescaped (c ∷ rest))) ≡ flat_map raw_escaped (b ∷ c ∷ rest)
 pair_by true b c rest e h none short long =
     let both = and_parts (eqb b 92) (is_letter c) e in
     ap (λ t. t ++ escaped (unescaped rest)) (meaning_escaped c both.1)
-    ∙ ap (λ t. 92 ∷ (raw_escaped c ++ t)) (short (later_none 2 (bad_escape rest) none))
+    ∙ ap (λ t. 92 ∷ (raw_escaped c ++ t)) (short (place_after_none 2 (bad_escape rest) none))
     ∙ ap (λ x. raw_escaped x ++ (raw_escaped c ++ flat_map raw_escaped rest)) (sym (eqb-true b 92 both.0))
 pair_by false b c rest e h none short long =
-    let plain = no_backslash (eqb b 92) (later 1 (bad_escape (c ∷ rest))) none in
+    let plain = no_backslash (eqb b 92) (place_after 1 (bad_escape (c ∷ rest))) none in
     ap (λ t. t ++ escaped (unescaped (c ∷ rest))) (escaped_once b h plain.0)
-    ∙ ap (λ t. raw_escaped b ++ t) (long (later_none 1 (bad_escape (c ∷ rest)) plain.1))
+    ∙ ap (λ t. raw_escaped b ++ t) (long (place_after_none 1 (bad_escape (c ∷ rest)) plain.1))
 
 pub part_writes_back : (part : List ℕ) → Lacks 9 part → bad_escape part ≡ None → IsWritten part
 part_writes_back [] h none = refl
@@ -109,27 +109,27 @@ parts_write_back line good =
 
 -- ---- a line without a bad escape
 
-one_cut : (t : Bool) (rest : List ℕ) (o : Option ℕ) → cond (t && false) o (cond t (Some 0) (later 1 (bad_escape (9 ∷ rest)))) ≡ None → (cond {A = Option ℕ} t (Some 0) None ≡ None) × (bad_escape (9 ∷ rest) ≡ None)
+one_cut : (t : Bool) (rest : List ℕ) (o : Option ℕ) → cond (t && false) o (cond t (Some 0) (place_after 1 (bad_escape (9 ∷ rest)))) ≡ None → (cond {A = Option ℕ} t (Some 0) None ≡ None) × (bad_escape (9 ∷ rest) ≡ None)
 one_cut true rest o h = absurd (cc)
-one_cut false rest o h = (refl, later_none 1 (bad_escape (9 ∷ rest)) h)
+one_cut false rest o h = (refl, place_after_none 1 (bad_escape (9 ∷ rest)) h)
 
 pair_cut : (t u : Bool) (short short_cut long long_cut : Option ℕ) (Rest : Type 0)
-    → cond t (later 2 short) (cond u (Some 0) (later 1 long)) ≡ None
+    → cond t (place_after 2 short) (cond u (Some 0) (place_after 1 long)) ≡ None
     → (short ≡ None → (short_cut ≡ None) × Rest) → (long ≡ None → (long_cut ≡ None) × Rest)
-    → (cond t (later 2 short_cut) (cond u (Some 0) (later 1 long_cut)) ≡ None) × Rest
+    → (cond t (place_after 2 short_cut) (cond u (Some 0) (place_after 1 long_cut)) ≡ None) × Rest
 pair_cut true u short short_cut long long_cut Rest h of_short of_long =
-    let cut = of_short (later_none 2 short h) in (ap (later 2) cut.0, cut.1)
+    let cut = of_short (place_after_none 2 short h) in (ap (place_after 2) cut.0, cut.1)
 pair_cut false true short short_cut long long_cut Rest h of_short of_long = absurd (cc)
 pair_cut false false short short_cut long long_cut Rest h of_short of_long =
-    let cut = of_long (later_none 1 long h) in (ap (later 1) cut.0, cut.1)
+    let cut = of_long (place_after_none 1 long h) in (ap (place_after 1) cut.0, cut.1)
 
 behind_tab : (rest : List ℕ) → IsGood (9 ∷ rest) → IsGood rest
-behind_tab rest h = later_none 1 (bad_escape rest) (sym (bad_escape-plain 9 rest refl) ∙ h)
+behind_tab rest h = place_after_none 1 (bad_escape rest) (sym (bad_escape-plain 9 rest refl) ∙ h)
 
 -- a TAB is no letter of an escape, so the parts have no bad escape
 good_cut : (part rest : List ℕ) → IsGood (part ++ 9 ∷ rest) → IsGood part × IsGood rest
 good_cut [] rest h = (refl, behind_tab rest h)
-good_cut (b ∷ []) rest h = let cut = one_cut (eqb b 92) rest (later 2 (bad_escape rest)) h in (cut.0, behind_tab rest cut.1)
+good_cut (b ∷ []) rest h = let cut = one_cut (eqb b 92) rest (place_after 2 (bad_escape rest)) h in (cut.0, behind_tab rest cut.1)
 good_cut (b ∷ c ∷ part) rest h =
     pair_cut (is_escape b c) (eqb b 92) (bad_escape (part ++ 9 ∷ rest)) (bad_escape part) (bad_escape (c ∷ (part ++ 9 ∷ rest))) (bad_escape (c ∷ part)) (IsGood rest) h
     (good_cut part rest) (good_cut (c ∷ part) rest)

@@ -51,18 +51,18 @@ unescaped (b ∷ c ∷ rest) =
     else b ∷ unescaped (c ∷ rest)
 
 -- a place that is counted from behind the first n bytes, counted from before them
-abbrev pub later : ℕ → Option ℕ → Option ℕ
-later n None = None
-later n (Some at) = Some (n + at)
+abbrev pub place_after : ℕ → Option ℕ → Option ℕ
+place_after n None = None
+place_after n (Some at) = Some (n + at)
 
 -- the place of the first backslash that begins no escape
 abbrev pub bad_escape : List ℕ → Option ℕ
 bad_escape [] = None
 bad_escape (b ∷ []) = if b == 92 then Some 0 else None
 bad_escape (b ∷ c ∷ rest) =
-    if is_escape b c then later 2 (bad_escape rest)
+    if is_escape b c then place_after 2 (bad_escape rest)
     else if b == 92 then Some 0
-    else later 1 (bad_escape (c ∷ rest))
+    else place_after 1 (bad_escape (c ∷ rest))
 
 -- the second text is the first, and more behind it or nothing
 abbrev pub BeginsWith : List ℕ → List ℕ → Type 0

@@ -3,5 +3,5 @@ pub mod Messages
 pub mod Lines
 pub mod Log
 pub mod Joining
-pub mod Kept
+pub mod Stored
 pub mod Latest

@@ -1,5 +1,5 @@
 -- The message log: what a log is, what it is joined with, and what is read from it.
-use Rattle.std.specs.Prelude.{ℕ, ◌-◌, List, [], ◌∷◌, ◌++◌, length, Bool, if◌then◌else◌, Option, None, filter, map, option_map}
+use Rattle.std.specs.Prelude.{ℕ, ◌-◌, List, [], ◌∷◌, length, Bool, if◌then◌else◌, Option, None, filter, map, option_map}
 use Rattle.std.specs.Ordering.{is_eq, is_lt, is_gt, nat_cmp}
 use Rattle.std.specs.Cmp.Lexicographic.{slice_cmp}
 use Rattle.std.specs.List.{find, list_any, last_or, flat_map, slice_get}
@@ -11,6 +11,7 @@ use Rattle.hybrid_clock.specs.Stamp.{stamp_text}
 use Rattle.hybrid_clock.specs.Order.{stamp_cmp}
 use Rattle.field_merge.specs.declared.message.Message.{Message}
 use Rattle.field_merge.specs.Messages.{message_line}
+use Rattle.field_merge.specs.Lines.{ended}
 
 -- the messages by timestamp, and whether a want of memory has spoilt the log
 pub record LogState : Type 0 where
@@ -66,9 +67,9 @@ abbrev pub fields : List Message → List Message
 fields [] = []
 fields (m ∷ ms) = if list_any (has_field m.field) ms then fields ms else placed by_field (fields ms) m
 
--- the line of a message with its line feed
+-- the line of a message with its end
 abbrev pub ended_line : Message → List ℕ
-ended_line m = message_line m ++ 10 ∷ []
+ended_line m = ended (message_line m)
 
 -- the lines of the latest message of each field
 abbrev pub field_text : List Message → List ℕ
@@ -83,5 +84,5 @@ abbrev pub is_after : List ℕ → Message → Bool
 is_after text m = is_gt (slice_cmp nat_cmp (stamp_text m.stamp) text)
 
 -- the messages whose timestamp's text is greater than the text
-abbrev pub later : List ℕ → List Message → List Message
-later text ms = filter (is_after text) ms
+abbrev pub messages_after : List ℕ → List Message → List Message
+messages_after text ms = filter (is_after text) ms

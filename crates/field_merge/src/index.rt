@@ -10,7 +10,7 @@ ghost use Rattle.hybrid_clock.specs.Order.{stamp_cmp};
 ghost use Rattle.field_merge.specs.declared.message.Message.{Message};
 ghost use Rattle.field_merge.specs.Messages.{IsMessage};
 ghost use Rattle.field_merge.specs.Log.{by_stamp, has_field, has_stamp, join_one, latest, placed};
-ghost use Rattle.field_merge.specs.Kept.{AreEntries, IsIndex, MarksChanged, Notes};
+ghost use Rattle.field_merge.specs.Stored.{AreEntries, IsIndex, MarksChanged, Notes};
 
 use crate::message::Message;
 use crate::shared::Shared;

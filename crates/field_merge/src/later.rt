@@ -4,9 +4,9 @@ ghost use Rattle.std.specs.Ordering.{is_gt, nat_cmp};
 ghost use Rattle.std.specs.Cmp.Lexicographic.{slice_cmp};
 ghost use Rattle.std.specs.BTreeMap.{values};
 ghost use Rattle.hybrid_clock.specs.Stamp.{IsStamp, stamp_text};
-ghost use Rattle.field_merge.specs.Kept.{AreEntries};
+ghost use Rattle.field_merge.specs.Stored.{AreEntries};
 ghost use Rattle.field_merge.specs.Messages.{AreMessages};
-ghost use Rattle.field_merge.specs.Log.{later};
+ghost use Rattle.field_merge.specs.Log.{messages_after};
 
 use crate::index::Messages;
 use crate::message::Message;
@@ -33,7 +33,7 @@ pub(crate) fn copies_after(
     text: &[u8],
 ) -> Result<Vec<Message>, NoMemory>
     requires { AreEntries messages.now.entries }
-    ensures messages { IfOk result (λ found. found.items ≡ later text.now (values messages.now)) }
+    ensures messages { IfOk result (λ found. found.items ≡ messages_after text.now (values messages.now)) }
     ensures valid { IfOk result (λ found. AreMessages found.items) }
 {
     order_of_texts();

@@ -8,8 +8,8 @@ ghost use Rattle.hybrid_clock.specs.Stamp.{stamp_text, IsStamp};
 ghost use Rattle.hybrid_clock.specs.Reading.{read_stamp};
 ghost use Rattle.field_merge.specs.Escapes.{escaped, unescaped, raw_escaped, BeginsWith};
 ghost use Rattle.std.specs.List.{flat_map};
-ghost use Rattle.field_merge.specs.Lines.{reading, parts, of_parts, IsFaultIn};
-ghost use Rattle.field_merge.specs.Messages.{IsMessage, message_line};
+ghost use Rattle.field_merge.specs.Lines.{reading, parts, of_parts, IsLineFault};
+ghost use Rattle.field_merge.specs.Messages.{IsMessage, message_line, message_body};
 ghost use Rattle.field_merge.specs.declared.line.LineFault.TheVariants.{NoMemory as OutOfMemory};
 
 use crate::escape::{bad_escape_in, is_plain, push_escaped, unescape};
@@ -164,7 +164,7 @@ fn message_in(alloc: Global, parts: &Parts<'_>) -> Result<Message, LineFault>
     ensures ok { IfOk result (λ m. of_parts (parts.now.stamp.now ∷ parts.now.dataset.now ∷ parts.now.row.now
         ∷ parts.now.column.now ∷ parts.now.value.now ∷ []) None ≡ Ok m) }
     ensures valid { IfOk result IsMessage }
-    ensures err { IfErr result (IsFaultIn (of_parts (parts.now.stamp.now ∷ parts.now.dataset.now ∷ parts.now.row.now
+    ensures err { IfErr result (IsLineFault (of_parts (parts.now.stamp.now ∷ parts.now.dataset.now ∷ parts.now.row.now
         ∷ parts.now.column.now ∷ parts.now.value.now ∷ []) None)) }
 {
     let stamp = match stamp_in(alloc, parts.stamp)? {
@@ -187,7 +187,7 @@ fn message_in(alloc: Global, parts: &Parts<'_>) -> Result<Message, LineFault>
 pub fn read_line(alloc: Global, line: &Txt) -> Result<Message, LineFault>
     ensures ok { IfOk result (λ m. reading line.now ≡ Ok m) }
     ensures valid { IfOk result IsMessage }
-    ensures err { IfErr result (IsFaultIn (reading line.now)) }
+    ensures err { IfErr result (IsLineFault (reading line.now)) }
 {
     read_text(alloc, line.as_str())
 }
@@ -197,7 +197,7 @@ pub fn read_line(alloc: Global, line: &Txt) -> Result<Message, LineFault>
 pub fn read_text(alloc: Global, line: &str) -> Result<Message, LineFault>
     ensures ok { IfOk result (λ m. reading line.now ≡ Ok m) }
     ensures valid { IfOk result IsMessage }
-    ensures err { IfErr result (IsFaultIn (reading line.now)) }
+    ensures err { IfErr result (IsLineFault (reading line.now)) }
 {
     let Some(parts) = five_parts(line) else {
         return Err(LineFault::Columns {
@@ -240,6 +240,20 @@ fn push_part(line: &mut String, text: &str) -> Result<(), NoMemory>
     push_escaped(line, text)
 }
 
+/// Puts a message's line without its timestamp at the end of a text: names and value, each escaped, with a TAB between them.
+/// After `NoMemory` the text may have got a part of it.
+#[tactic(auto, using(crate::proofs::LineLemmas::body_pushed))]
+pub fn push_body(alloc: Global, line: &mut String, message: &Message) -> Result<(), NoMemory>
+    requires { IsMessage message.now }
+    ensures line { OnOk result (string_bytes line.new ≡ string_bytes line.old ++ message_body message.now) }
+    ensures front { OnErr result (BeginsWith (string_bytes line.old) (string_bytes line.new)) }
+{
+    push_escaped(line, message.field.dataset())?;
+    push_part(line, message.field.row())?;
+    push_part(line, message.field.column())?;
+    push_part(line, message.value.text(alloc)?.as_str())
+}
+
 /// Puts a message's line at the end of a text. After `NoMemory` the text may have got a part of it.
 #[tactic(auto, using(crate::proofs::LineLemmas::line_pushed))]
 pub fn push_line(alloc: Global, line: &mut String, message: &Message) -> Result<(), NoMemory>
@@ -248,10 +262,8 @@ pub fn push_line(alloc: Global, line: &mut String, message: &Message) -> Result<
     ensures front { OnErr result (BeginsWith (string_bytes line.old) (string_bytes line.new)) }
 {
     push_stamp(line, &message.stamp)?;
-    push_part(line, message.field.dataset())?;
-    push_part(line, message.field.row())?;
-    push_part(line, message.field.column())?;
-    push_part(line, message.value.text(alloc)?.as_str())
+    line.push('\t')?;
+    push_body(alloc, line, message)
 }
 
 /// The line of a message, without its end. It has no LF, and reads as the message again.

@@ -5,13 +5,13 @@ ghost use Rattle.field_values.specs.Names.{names_cmp};
 ghost use Rattle.std.specs.Option.{option_copied, is_none};
 ghost use Rattle.std.specs.BTreeMap.{values};
 ghost use Rattle.field_merge.specs.Messages.{AreMessages, IsMessage};
-ghost use Rattle.field_merge.specs.Log.{IsRising, at_stamp, field_text, join, last_stamp, later, latest};
+ghost use Rattle.field_merge.specs.Log.{IsRising, at_stamp, field_text, join, last_stamp, messages_after, latest};
 ghost use Rattle.field_merge.specs.Joining.{AreChanged};
 
 use crate::index::{Index, Messages, enter, take_in, winner_among};
 use crate::later::copies_after;
 use crate::message::Message;
-use crate::pieces::push_ended;
+use crate::pieces::push_ended_line;
 use field_values::{Field, FieldKey, Items, NoMemory, Txt, Value};
 use hybrid_clock::Stamp;
 use std::alloc::Global;
@@ -37,13 +37,13 @@ pub struct Log {
 impl Model for Log {
     ghost use Rattle.std.specs.BTreeMap.{values};
     ghost use Rattle.field_merge.specs.Log.{LogState};
-    ghost use Rattle.field_merge.specs.Kept.{IsKept};
+    ghost use Rattle.field_merge.specs.Stored.{IsStored};
 
     ghost Value = { LogState };
 
     ghost view = { λ l. record { messages = values l.messages; spent = l.spent } };
 
-    ghost invariant = { λ l. IsKept l.messages.entries l.index.entries l.spent };
+    ghost invariant = { λ l. IsStored l.messages.entries l.index.entries l.spent };
 }
 
 /// What a join tells.
@@ -180,7 +180,7 @@ impl Log {
     /// however many older messages the log has.
     pub fn since(&self, text: &[u8]) -> Result<Items<Message>, NoMemory>
         requires { self.now.spent ≡ false }
-        ensures messages { IfOk result (λ ms. ms ≡ later text.now self.now.messages) }
+        ensures messages { IfOk result (λ ms. ms ≡ messages_after text.now self.now.messages) }
         ensures valid { IfOk result AreMessages }
     {
         let found = copies_after(self.alloc, &self.messages, text)?;
@@ -195,7 +195,7 @@ impl Log {
     {
         let mut text = String::new(self.alloc);
         for message in self.index.values() {
-            push_ended(self.alloc, &mut text, message.message())?;
+            push_ended_line(self.alloc, &mut text, message.message())?;
         }
         Ok(Txt::new(text))
     }

@@ -37,7 +37,7 @@ impl<'a> Model for FieldLines<'a> {
 }
 
 /// Writes the line of a message and a line feed after a text.
-pub(crate) fn push_ended(
+pub(crate) fn push_ended_line(
     alloc: Global,
     text: &mut String,
     message: &Message,
@@ -63,7 +63,7 @@ fn push_first(
     let Some(message) = left.next() else {
         return Ok(false);
     };
-    push_ended(alloc, text, message.message())?;
+    push_ended_line(alloc, text, message.message())?;
     Ok(true)
 }
 

@@ -42,13 +42,13 @@ next_counter clock message time =
     then (if message.millis == time then max clock.counter message.counter + 1 else clock.counter + 1)
     else (if message.millis == time then message.counter + 1 else 0)
 
-abbrev pub latest : Stamp → ℕ → Stamp → ℕ
-latest clock reading message = max (max clock.millis reading) message.millis
+abbrev pub new_time : Stamp → ℕ → Stamp → ℕ
+new_time clock reading message = max (max clock.millis reading) message.millis
 
 -- a message's timestamp is received
 unfoldable pub receive : Stamp → ℕ → Stamp → Result Stamp ClockFault
 receive clock reading message =
     if nat_lt (reading / 60_000) window
     then (if nat_lt 300_000 (message.millis - reading) then Err (Drift message.millis reading)
-    else moved clock reading (latest clock reading message) (next_counter clock message (latest clock reading message)))
+    else moved clock reading (new_time clock reading message) (next_counter clock message (new_time clock reading message)))
     else Err (Beyond reading)

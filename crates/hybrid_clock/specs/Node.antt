@@ -20,13 +20,13 @@ abbrev pub padded : List ℕ → List ℕ
 padded text = replicate (16 - length text) 48 ++ text
 
 -- the node of a text whose first character that is no letter or digit stands at this place, if there is one
-abbrev pub node_but : List ℕ → Option ℕ → Result (List ℕ) NodeFault
-node_but text (Some at) = Err (BadByte at)
-node_but text None = if is_zeros text then Err Zero else Ok (padded text)
+abbrev pub node_unless_bad : List ℕ → Option ℕ → Result (List ℕ) NodeFault
+node_unless_bad text (Some at) = Err (BadByte at)
+node_unless_bad text None = if is_zeros text then Err Zero else Ok (padded text)
 
 -- the node that a text names: it has one to sixteen letters and digits, not all of them `0`
 unfoldable pub node_of : List ℕ → Result (List ℕ) NodeFault
 node_of text =
     if length text == 0 then Err Empty
     else (if nat_lt 16 (length text) then Err (TooLong (length text))
-    else node_but text (position (λ b. not (is_ascii_alphanumeric b)) text))
+    else node_unless_bad text (position (λ b. not (is_ascii_alphanumeric b)) text))

@@ -6,7 +6,7 @@ use Rattle.std.proofs.lemmas.List.{map-append}
 use Rattle.std.proofs.lemmas.List.Sorted.{IsPermutation-map, list_any-IsPermutation}
 use Rattle.minute_trie.specs.declared.key.Digit.{Digit}
 use Rattle.minute_trie.specs.Pruned.{Entry, lies_below, xor}
-use Rattle.minute_trie.specs.Diff.{walk, stop, minute_of, led, way_down, difference}
+use Rattle.minute_trie.specs.Diff.{walk, stop, minute_of, going_down, way_down, difference}
 use Rattle.minute_trie.specs.Held.{Held, after}
 use Rattle.minute_trie.specs.Trie.{entry_of, entries_of, trie_of, ArePairs}
 use Rattle.minute_trie.specs.Rounds.{IsRound, IsProperPrefix, is_before, is_from}
@@ -68,7 +68,7 @@ by_minute mine got mine_now theirs taken theirs_now a b c d r = by_hash (eqb x y
   by_hash false e = inr (nearer mine got mine_now theirs taken theirs_now _ a b c d refl r (λ same. let f : true ≡ false = sym (eq-eqb x y same) ∙ e in cc))
 
 -- a walk takes no more steps than it may
-led_short : (n : ℕ) (below : Digit → List Digit) (way : Option Digit) → ((d : Digit) → length (below d) ≤ n) → length (led below way) ≤ suc n
+led_short : (n : ℕ) (below : Digit → List Digit) (way : Option Digit) → ((d : Digit) → length (below d) ≤ n) → length (going_down below way) ≤ suc n
 led_short n below None h = omega arith
 led_short n below (Some d) h = let k : length (below d) ≤ n = h d in omega arith
 

@@ -6,7 +6,7 @@ use Rattle.minute_trie.specs.declared.walk.Turn.{Turn}
 use Rattle.minute_trie.specs.declared.walk.Turn.TheVariants.{On, Down, Stop}
 use Rattle.minute_trie.specs.Pruned.{Entry, xor, pruned}
 use Rattle.minute_trie.specs.Held.{Held, after}
-use Rattle.minute_trie.specs.Diff.{turn_of, turn_at, taking, way_down, led, walk}
+use Rattle.minute_trie.specs.Diff.{turn_of, turn_at, digit_by_turn, way_down, going_down, walk}
 use Rattle.minute_trie.specs.Rounds.{IsProperPrefix}
 use Rattle.minute_trie.proofs.Agree.{Agree, Grows, AgreeBefore, AgreeFrom}
 use Rattle.minute_trie.proofs.Pruning.{below, has, has_both, pruned_below, any_below, any_all, pruned_zero, pruned_one, pruned_two}
@@ -108,26 +108,26 @@ abbrev Only : Digit → Turn → Option Digit → Type 0
 Only d t None = Unit {0}
 Only d t (Some c) = (c ≡ d) × (t ≡ Down)
 
-only_other : (d c : Digit) (t u : Turn) (next : Option Digit) → (u ≡ Down → ⊥) → Only d t next → Only d t (taking u c next)
+only_other : (d c : Digit) (t u : Turn) (next : Option Digit) → (u ≡ Down → ⊥) → Only d t next → Only d t (digit_by_turn u c next)
 only_other d c t On next h k = k
 only_other d c t Down next h k = absurd (h refl)
 only_other d c t Stop next h k = tt
 
-only_this : (d : Digit) (t : Turn) (next : Option Digit) → Only d t next → Only d t (taking t d next)
+only_this : (d : Digit) (t : Turn) (next : Option Digit) → Only d t next → Only d t (digit_by_turn t d next)
 only_this d On next k = k
 only_this d Down next k = (refl, refl)
 only_this d Stop next k = tt
 
 -- the walk from a way that leads down at most at d
 walk_only : (n : ℕ) (d : Digit) (s : List Digit) (f g : Held) (way : Option Digit) → Only d (turn_at d f g) way →
-    (turn_at d f g ≡ Down → IsProperPrefix (walk n (after d f) (after d g)) s) → IsProperPrefix (led (λ c. walk n (after c f) (after c g)) way) (d ∷ s)
+    (turn_at d f g ≡ Down → IsProperPrefix (walk n (after d f) (after d g)) s) → IsProperPrefix (going_down (λ c. walk n (after c f) (after c g)) way) (d ∷ s)
 walk_only n d s f g None o below = (d, (s, refl))
 walk_only n d s f g (Some c) o below =
     let r = below o.1 in
     (r.0, (r.1.0, ap (λ t. d ∷ t) r.1.1 ∙ ap (λ e. e ∷ (walk n (after d f) (after d g) ++ r.0 ∷ r.1.0)) (sym o.0) ∙ ap (λ e. c ∷ (walk n (after e f) (after e g) ++ r.0 ∷ r.1.0)) (sym o.0)))
 
 -- what a way down says of each turn
-way_zero : (a b c : Turn) → taking a Zero (taking b One (taking c Two None)) ≡ Some Zero → a ≡ Down
+way_zero : (a b c : Turn) → digit_by_turn a Zero (digit_by_turn b One (digit_by_turn c Two None)) ≡ Some Zero → a ≡ Down
 way_zero Down b c h = refl
 way_zero Stop b c h = absurd (cc)
 way_zero On Down c h = absurd (cc)
@@ -136,7 +136,7 @@ way_zero On On Down h = absurd (cc)
 way_zero On On Stop h = absurd (cc)
 way_zero On On On h = absurd (cc)
 
-way_one : (a b c : Turn) → taking a Zero (taking b One (taking c Two None)) ≡ Some One → (a ≡ On) × (b ≡ Down)
+way_one : (a b c : Turn) → digit_by_turn a Zero (digit_by_turn b One (digit_by_turn c Two None)) ≡ Some One → (a ≡ On) × (b ≡ Down)
 way_one Down b c h = absurd (cc)
 way_one Stop b c h = absurd (cc)
 way_one On Down c h = (refl, refl)
@@ -145,7 +145,7 @@ way_one On On Down h = absurd (cc)
 way_one On On Stop h = absurd (cc)
 way_one On On On h = absurd (cc)
 
-way_two : (a b c : Turn) → taking a Zero (taking b One (taking c Two None)) ≡ Some Two → (a ≡ On) × (b ≡ On) × (c ≡ Down)
+way_two : (a b c : Turn) → digit_by_turn a Zero (digit_by_turn b One (digit_by_turn c Two None)) ≡ Some Two → (a ≡ On) × (b ≡ On) × (c ≡ Down)
 way_two Down b c h = absurd (cc)
 way_two Stop b c h = absurd (cc)
 way_two On Down c h = absurd (cc)
@@ -154,7 +154,7 @@ way_two On On Down h = (refl, refl, refl)
 way_two On On Stop h = absurd (cc)
 way_two On On On h = absurd (cc)
 
-led_is : (below : Digit → List Digit) (way : Option Digit) (d : Digit) (s : List Digit) → led below way ≡ d ∷ s → (way ≡ Some d) × (below d ≡ s)
+led_is : (below : Digit → List Digit) (way : Option Digit) (d : Digit) (s : List Digit) → going_down below way ≡ d ∷ s → (way ≡ Some d) × (below d ≡ s)
 led_is below None d s h = absurd (cc)
 led_is below (Some c) d s h = let e : c ≡ d = cc in (ap Some e, ap below (sym e) ∙ (let k : below c ≡ s = cc in k))
 

@@ -7,7 +7,7 @@ use Rattle.minute_trie.specs.declared.key.Digit.{Digit}
 use Rattle.minute_trie.specs.declared.key.Digit.TheVariants.{Zero, One, Two}
 use Rattle.minute_trie.specs.Pruned.{pruned}
 use Rattle.minute_trie.specs.Held.{Held, at_node, at_below, after, or_zero, Child}
-use Rattle.minute_trie.specs.Adding.{xored, instead, thin, added}
+use Rattle.minute_trie.specs.Adding.{xored, instead, with_two_greatest, added}
 use Rattle.minute_trie.proofs.Pruning.{pruned_zero, pruned_one, pruned_two}
 use Rattle.minute_trie.proofs.Nodes.{at_open, at_rolled, at_fields}
 
@@ -55,8 +55,8 @@ module _ (node : Node) (key : List Digit) (hash : ℕ) (child : Child) where
     at (Two ∷ p) = put p ∙ ap (λ f. added key hash f p) (fun_ext (λ q. sym (at_open node (Two ∷ q))))
 
 -- the insertion goes on in a node that the least child may then leave
-pub thinned : (mid new : Node) (f g : Held) → ((p : List Digit) → at_node new p ≡ thin (at_node mid) p) → ((p : List Digit) → at_node mid p ≡ f p) → g ≡ thin f → (p : List Digit) → at_node new p ≡ g p
-thinned mid new f g pruned laid e p = pruned p ∙ ap (λ h. thin h p) (fun_ext laid) ∙ sym (ap (λ h. h p) e)
+pub thinned : (mid new : Node) (f g : Held) → ((p : List Digit) → at_node new p ≡ with_two_greatest (at_node mid) p) → ((p : List Digit) → at_node mid p ≡ f p) → g ≡ with_two_greatest f → (p : List Digit) → at_node new p ≡ g p
+thinned mid new f g pruned laid e p = pruned p ∙ ap (λ h. with_two_greatest h p) (fun_ext laid) ∙ sym (ap (λ h. h p) e)
 
 pub child_there : (key : List Digit) (hash : ℕ) (child : Child) (old new : Node) (b b' : Box Node Global) → child ≡ Some b → old ≡ b.value → b'.value ≡ new →
     ((p : List Digit) → at_node new p ≡ added key hash (at_node old) p) → (p : List Digit) → at_below (Some b') p ≡ added key hash (at_below child) p
@@ -72,7 +72,7 @@ no_more p Two = pruned_two [] p
 pub from_nothing : (key : List Digit) (hash : ℕ) (p : List Digit) → added key hash (pruned []) p ≡ added key hash (at_below None) p
 from_nothing [] hash [] = refl
 from_nothing [] hash (d ∷ p) = no_more p d
-from_nothing (c ∷ key) hash p = ap (λ f. thin f p) (fun_ext both) where
+from_nothing (c ∷ key) hash p = ap (λ f. with_two_greatest f p) (fun_ext both) where
   behind : after c (pruned []) ≡ after c (at_below None)
   behind = fun_ext (λ q. no_more q c)
 

@@ -4,7 +4,7 @@ use Rattle.minute_trie.specs.declared.node.Node.{Node, Node', out-Node, roll-Nod
 use Rattle.minute_trie.specs.declared.key.Digit.{Digit}
 use Rattle.minute_trie.specs.declared.key.Digit.TheVariants.{Zero, One, Two}
 use Rattle.minute_trie.specs.Held.{at_node, at_below, Child}
-use Rattle.minute_trie.specs.Adding.{thin}
+use Rattle.minute_trie.specs.Adding.{with_two_greatest}
 
 abbrev pub at_fields : ℕ → Child → Child → Child → List Digit → Option ℕ
 at_fields hash zero one two [] = Some hash
@@ -42,15 +42,15 @@ both_there node = rw (at_open node (One ∷ []), at_open node (Two ∷ []), ther
 
 -- a node of which the least child is dropped
 pub dropped : (node : Node) → is_some (out-Node node).one ≡ true → is_some (out-Node node).two ≡ true → (p : List Digit) →
-    at_node (roll-Node record { hash = (out-Node node).hash; zero = None; one = (out-Node node).one; two = (out-Node node).two }) p ≡ thin (at_node node) p
+    at_node (roll-Node record { hash = (out-Node node).hash; zero = None; one = (out-Node node).one; two = (out-Node node).two }) p ≡ with_two_greatest (at_node node) p
 dropped node one two p = at_rolled _ _ _ _ p ∙ at p where
-  at : (p : List Digit) → at_fields (out-Node node).hash None (out-Node node).one (out-Node node).two p ≡ thin (at_node node) p
+  at : (p : List Digit) → at_fields (out-Node node).hash None (out-Node node).one (out-Node node).two p ≡ with_two_greatest (at_node node) p
   at [] = sym (at_open node [])
   at (Zero ∷ p) = sym (ap (λ b. cond b None (at_node node (Zero ∷ p))) (both_there node ∙ ap₂ (λ a b. a && b) one two))
   at (One ∷ p) = sym (at_open node (One ∷ p))
   at (Two ∷ p) = sym (at_open node (Two ∷ p))
 
-pub undropped : (node : Node) → (is_some (out-Node node).one && is_some (out-Node node).two) ≡ false → (p : List Digit) → at_node node p ≡ thin (at_node node) p
+pub undropped : (node : Node) → (is_some (out-Node node).one && is_some (out-Node node).two) ≡ false → (p : List Digit) → at_node node p ≡ with_two_greatest (at_node node) p
 undropped node h [] = refl
 undropped node h (Zero ∷ p) = sym (ap (λ b. cond b None (at_node node (Zero ∷ p))) (both_there node ∙ h))
 undropped node h (One ∷ p) = refl

@@ -13,7 +13,7 @@ use Rattle.minute_trie.specs.Key.{key, same_digit}
 use Rattle.minute_trie.specs.Pruned.{Entry, xor_all, hash_of, lies_below, xor, stays, kept, pruned}
 use Rattle.minute_trie.specs.Held.{Held, after, or_zero, IsMap}
 use Rattle.minute_trie.specs.Trie.{Pair, IsPair, stamp_pair, entries_of, trie_of, ArePairs}
-use Rattle.minute_trie.specs.Adding.{xored, instead, thin, added, with_pair}
+use Rattle.minute_trie.specs.Adding.{xored, instead, with_two_greatest, added, with_pair}
 use Rattle.minute_trie.specs.Faults.{is_node, first_fault, of_child, or_else, hash_of_number, whole_number, member_key, held_at, fault_of_value, fault_of_text, map_of_text}
 use Rattle.std.proofs.Math.Facts.{sfits_to_z}
 use Rattle.hybrid_clock.specs.declared.stamp.Stamp.{Stamp}
@@ -195,7 +195,7 @@ drop_fits : (b : Bool) (o : Option ℕ) (h : ℕ) → cond b None o ≡ Some h �
 drop_fits true o h e = absurd (cc)
 drop_fits false o h e = e
 
-thin_fits : (f : Held) → AllFit f → AllFit (thin f)
+thin_fits : (f : Held) → AllFit f → AllFit (with_two_greatest f)
 thin_fits f a [] h e = a [] h e
 thin_fits f a (Zero ∷ p) h e = a (Zero ∷ p) h (drop_fits (is_some (f (One ∷ [])) && is_some (f (Two ∷ []))) (f (Zero ∷ p)) h e)
 thin_fits f a (One ∷ p) h e = a (One ∷ p) h e
@@ -221,7 +221,7 @@ drop_closed : (b : Bool) (x y : Option ℕ) → (x ≡ None → y ≡ None) → 
 drop_closed true x y f e = refl
 drop_closed false x y f e = f e
 
-thin_closed : (f : Held) → (f [] ≡ None → ⊥) → IsClosed f → IsClosed (thin f)
+thin_closed : (f : Held) → (f [] ≡ None → ⊥) → IsClosed f → IsClosed (with_two_greatest f)
 thin_closed f r a [] q e = absurd (r e)
 thin_closed f r a (Zero ∷ p) q e = drop_closed (is_some (f (One ∷ [])) && is_some (f (Two ∷ []))) (f (Zero ∷ p)) (f (Zero ∷ (p ++ q))) (a (Zero ∷ p) q) e
 thin_closed f r a (One ∷ p) q e = a (One ∷ p) q e
@@ -251,7 +251,7 @@ drop_short : (b : Bool) (x : Option ℕ) → x ≡ None → cond b None x ≡ No
 drop_short true x e = refl
 drop_short false x e = e
 
-thin_short : (n : ℕ) (f : Held) → IsShort n f → IsShort n (thin f)
+thin_short : (n : ℕ) (f : Held) → IsShort n f → IsShort n (with_two_greatest f)
 thin_short n f a [] l = absurd (omega arith)
 thin_short n f a (Zero ∷ p) l = drop_short (is_some (f (One ∷ [])) && is_some (f (Two ∷ []))) (f (Zero ∷ p)) (a (Zero ∷ p) l)
 thin_short n f a (One ∷ p) l = a (One ∷ p) l

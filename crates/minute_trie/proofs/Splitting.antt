@@ -6,7 +6,7 @@ use Rattle.std.proofs.lemmas.Nat.{mod-mul-add, div-add-mod'}
 use Rattle.minute_trie.specs.declared.key.Digit.{Digit}
 use Rattle.minute_trie.specs.declared.key.Digit.TheVariants.{Zero, One, Two}
 use Rattle.minute_trie.specs.Key.{digit_of, key, same_digit}
-use Rattle.minute_trie.specs.Diff.{worth, padded}
+use Rattle.minute_trie.specs.Diff.{digit_value, padded}
 use Rattle.minute_trie.specs.Pruned.{Entry}
 use Rattle.minute_trie.proofs.Agree.{Agree, AgreeBefore, AgreeFrom, is_less, precedes, before, not_before}
 use Rattle.minute_trie.proofs.Pruning.{below, behind, any_below, xor_below}
@@ -118,7 +118,7 @@ shifted x y r k b e h = rw e (sym (same y r k) ∙ h) where
   same y r k = grind (arith, nat_tests)
 
 compared : (q : ℕ) (d : Digit) (t r k : ℕ) (b : Bool) → q < 3 → r < t → k < t → nat_lt r k ≡ b →
-    nat_lt (q * t + r) (worth d * t + k) ≡ (is_less (digit_of q) d || (same_digit (digit_of q) d && b))
+    nat_lt (q * t + r) (digit_value d * t + k) ≡ (is_less (digit_of q) d || (same_digit (digit_of q) d && b))
 compared zero Zero t r k b l h i e = shifted _ _ r k b refl e
 compared (suc zero) One t r k b l h i e = shifted _ _ r k b refl e
 compared (suc (suc zero)) Two t r k b l h i e = shifted _ _ r k b refl e

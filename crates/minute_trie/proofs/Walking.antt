@@ -6,7 +6,7 @@ use Rattle.minute_trie.specs.declared.key.Digit.TheVariants.{Zero, One, Two}
 use Rattle.minute_trie.specs.declared.walk.Turn.{Turn}
 use Rattle.minute_trie.specs.declared.walk.Turn.TheVariants.{On, Down, Stop}
 use Rattle.minute_trie.specs.Held.{Held, after, at_below}
-use Rattle.minute_trie.specs.Diff.{turn_of, taking, way_down, led, walk, worth, padded}
+use Rattle.minute_trie.specs.Diff.{turn_of, digit_by_turn, way_down, going_down, walk, digit_value, padded}
 
 pub three_pos : (n : ℕ) → 0 < 3 ^ n
 three_pos zero = lit< tt
@@ -25,7 +25,7 @@ padded_lt (suc n) (Two ∷ p) = rw pow-suc (omega (arith, padded_lt n p))
 way_same : (f f' g g' : Held) → ((p : List Digit) → f p ≡ f' p) → ((p : List Digit) → g p ≡ g' p) → way_down f g ≡ way_down f' g'
 way_same f f' g g' s t = rw (s (Zero ∷ []), s (One ∷ []), s (Two ∷ []), t (Zero ∷ []), t (One ∷ []), t (Two ∷ [])) refl
 
-led_same : (h k : Digit → List Digit) (d : Option Digit) → ((d : Digit) → h d ≡ k d) → led h d ≡ led k d
+led_same : (h k : Digit → List Digit) (d : Option Digit) → ((d : Digit) → h d ≡ k d) → going_down h d ≡ going_down k d
 led_same h k None s = refl
 led_same h k (Some d) s = ap (λ p. d ∷ p) (s d)
 
@@ -36,7 +36,7 @@ walk_same (suc n) f f' g g' s t =
     (led_same (λ d. walk n (after d f) (after d g)) (λ d. walk n (after d f') (after d g')) (way_down f' g') (λ d. walk_same n (after d f) (after d f') (after d g) (after d g') (λ p. s (d ∷ p)) (λ p. t (d ∷ p))))
 
 -- a walk of which one side holds nothing
-nowhere : (a b c : Turn) → (a ≡ Down → ⊥) → (b ≡ Down → ⊥) → (c ≡ Down → ⊥) → taking a Zero (taking b One (taking c Two None)) ≡ None
+nowhere : (a b c : Turn) → (a ≡ Down → ⊥) → (b ≡ Down → ⊥) → (c ≡ Down → ⊥) → digit_by_turn a Zero (digit_by_turn b One (digit_by_turn c Two None)) ≡ None
 nowhere Down b c h k l = absurd (h refl)
 nowhere Stop b c h k l = refl
 nowhere On Down c h k l = absurd (k refl)
@@ -63,15 +63,15 @@ walk_no_right (suc n) f = rw (nowhere _ _ _ (no_right (f (Zero ∷ []))) (no_rig
 
 -- one step down
 pub padded_step : (n : ℕ) (d : Digit) (f f' g g' : Held) → ((p : List Digit) → f' p ≡ f (d ∷ p)) → ((p : List Digit) → g' p ≡ g (d ∷ p)) → way_down f g ≡ Some d →
-    padded (suc n) (walk (suc n) f g) ≡ worth d * 3 ^ n + padded n (walk n f' g')
+    padded (suc n) (walk (suc n) f g) ≡ digit_value d * 3 ^ n + padded n (walk n f' g')
 padded_step n d f f' g g' s t way = rw (way, sym (walk_same n f' (after d f) g' (after d g) s t)) refl
 
 pub padded_end : (n : ℕ) (f g : Held) → way_down f g ≡ None → padded (suc n) (walk (suc n) f g) ≡ 0
 padded_end n f g way = rw way refl
 
 pub number_of_step : (levels : ℕ) (d : Digit) (f f' g g' : Held) (number rest : ℕ) → (levels ≡ 0 → ⊥) → ((p : List Digit) → f' p ≡ f (d ∷ p)) → ((p : List Digit) → g' p ≡ g (d ∷ p)) → Some d ≡ way_down f g →
-    rest ≡ padded (levels - 1) (walk (levels - 1) f' g') → number ≡ worth d * 3 ^ (levels - 1) + rest → number ≡ padded levels (walk levels f g)
+    rest ≡ padded (levels - 1) (walk (levels - 1) f' g') → number ≡ digit_value d * 3 ^ (levels - 1) + rest → number ≡ padded levels (walk levels f g)
 number_of_step zero d f f' g g' number rest some s t way r e = absurd (some refl)
 number_of_step (suc n) d f f' g g' number rest some s t way r e =
     let less : suc n - 1 ≡ n = omega arith in
-    (rw less at e) ∙ ap (λ m. worth d * 3 ^ n + m) (rw less at r) ∙ sym (padded_step n d f f' g g' s t (sym way))
+    (rw less at e) ∙ ap (λ m. digit_value d * 3 ^ n + m) (rw less at r) ∙ sym (padded_step n d f f' g g' s t (sym way))

@@ -18,16 +18,16 @@ instead c g f [] = f []
 instead c g f (d ∷ p) = if same_digit c d then g p else f (d ∷ p)
 
 -- nothing behind 0 where 1 and 2 are both there
-abbrev pub thin : Held → Held
-thin f [] = f []
-thin f (Zero ∷ p) = if is_some (f (One ∷ [])) && is_some (f (Two ∷ [])) then None else f (Zero ∷ p)
-thin f (One ∷ p) = f (One ∷ p)
-thin f (Two ∷ p) = f (Two ∷ p)
+abbrev pub with_two_greatest : Held → Held
+with_two_greatest f [] = f []
+with_two_greatest f (Zero ∷ p) = if is_some (f (One ∷ [])) && is_some (f (Two ∷ [])) then None else f (Zero ∷ p)
+with_two_greatest f (One ∷ p) = f (One ∷ p)
+with_two_greatest f (Two ∷ p) = f (Two ∷ p)
 
 -- the hash XORed in at each prefix of the key, where each node on the way keeps its two greatest children
 abbrev pub added : List Digit → ℕ → Held → Held
 added [] hash f = xored hash f
-added (c ∷ key) hash f = thin (instead c (added key hash (after c f)) (xored hash f))
+added (c ∷ key) hash f = with_two_greatest (instead c (added key hash (after c f)) (xored hash f))
 
 -- one pair more
 abbrev pub with_pair : Pair → Held → Held

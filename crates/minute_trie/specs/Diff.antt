@@ -17,34 +17,34 @@ turn_of (Some a) (Some b) = if eqb a b then On else Down
 abbrev pub turn_at : Digit → Held → Held → Turn
 turn_at d f g = turn_of (f (d ∷ [])) (g (d ∷ []))
 
-abbrev pub taking : Turn → Digit → Option Digit → Option Digit
-taking On d next = next
-taking Down d next = Some d
-taking Stop d next = None
+abbrev pub digit_by_turn : Turn → Digit → Option Digit → Option Digit
+digit_by_turn On d next = next
+digit_by_turn Down d next = Some d
+digit_by_turn Stop d next = None
 
 -- the digit by which the walk goes down, if it does
 abbrev pub way_down : Held → Held → Option Digit
-way_down f g = taking (turn_at Zero f g) Zero (taking (turn_at One f g) One (taking (turn_at Two f g) Two None))
+way_down f g = digit_by_turn (turn_at Zero f g) Zero (digit_by_turn (turn_at One f g) One (digit_by_turn (turn_at Two f g) Two None))
 
-abbrev pub led : (Digit → List Digit) → Option Digit → List Digit
-led below None = []
-led below (Some d) = d ∷ below d
+abbrev pub going_down : (Digit → List Digit) → Option Digit → List Digit
+going_down below None = []
+going_down below (Some d) = d ∷ below d
 
 -- the string where the walk ends, after so many steps at most
 abbrev pub walk : ℕ → Held → Held → List Digit
 walk zero f g = []
-walk (suc n) f g = led (λ d. walk n (after d f) (after d g)) (way_down f g)
+walk (suc n) f g = going_down (λ d. walk n (after d f) (after d g)) (way_down f g)
 
-abbrev pub worth : Digit → ℕ
-worth Zero = 0
-worth One = 1
-worth Two = 2
+abbrev pub digit_value : Digit → ℕ
+digit_value Zero = 0
+digit_value One = 1
+digit_value Two = 2
 
 -- the number of a string that is padded on the right with zeros to n digits
 abbrev pub padded : ℕ → List Digit → ℕ
 padded n [] = 0
 padded zero (d ∷ p) = 0
-padded (suc n) (d ∷ p) = worth d * 3 ^ n + padded n p
+padded (suc n) (d ∷ p) = digit_value d * 3 ^ n + padded n p
 
 abbrev pub same_hash : Option ℕ → Option ℕ → Bool
 same_hash None None = true

@@ -89,5 +89,5 @@ pub record IsReadingOf (text : List ℕ) (trie : Trie) : Type 0 where
   pub same : held trie ≡ map_of_text text
 
 -- a fault that is not for want of memory is the first one
-abbrev pub IsRefusal : Option TrieFault → TrieFault → Type 0
-IsRefusal first fault = (fault ≡ NoMemory → ⊥) → first ≡ Some fault
+abbrev pub IsTrieFault : Option TrieFault → TrieFault → Type 0
+IsTrieFault first fault = (fault ≡ NoMemory → ⊥) → first ≡ Some fault

@@ -1,7 +1,7 @@
 //! A node of the trie, with the nodes below it.
 ghost use Rattle.std.specs.Prelude.{◌≡◌, OnOk, List, ◌∷◌, [], Some};
 ghost use Rattle.minute_trie.specs.Held.{at_node, at_below};
-ghost use Rattle.minute_trie.specs.Adding.{added, thin};
+ghost use Rattle.minute_trie.specs.Adding.{added, with_two_greatest};
 ghost use Rattle.minute_trie.specs.Pruned.{pruned};
 
 use crate::key::Digit;
@@ -65,7 +65,7 @@ impl Node {
 
     /// Keeps the two greatest children.
     fn prune(&mut self)
-        ensures { (p : List Digit) → at_node self.new p ≡ thin (at_node self.old) p }
+        ensures { (p : List Digit) → at_node self.new p ≡ with_two_greatest (at_node self.old) p }
     {
         if self.one.is_some() && self.two.is_some() {
             self.zero = None;

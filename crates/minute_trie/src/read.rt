@@ -2,7 +2,7 @@
 ghost use Rattle.std.specs.Prelude.{◌≡◌, ◌≤◌, ◌<◌, IfOk, IfErr};
 ghost use Rattle.serde_json.specs.Find.{get};
 ghost use Rattle.serde_json.specs.View.{view, members_view};
-ghost use Rattle.minute_trie.specs.Faults.{first_fault, of_child, all_known, is_node, is_known, hash_of_node, IsRefusal};
+ghost use Rattle.minute_trie.specs.Faults.{first_fault, of_child, all_known, is_node, is_known, hash_of_node, IsTrieFault};
 ghost use Rattle.minute_trie.specs.Steps.{IsReading, IsReadingBelow};
 
 use crate::node::Node;
@@ -27,7 +27,7 @@ pub enum TrieFault {
 pub fn read_node(alloc: Global, value: &Value, levels: u32) -> Result<Node, TrieFault>
     requires { levels ≤ 17 }
     ensures ok { IfOk result (IsReading levels (view value.now)) }
-    ensures err { IfErr result (IsRefusal (first_fault levels (view value.now))) }
+    ensures err { IfErr result (IsTrieFault (first_fault levels (view value.now))) }
 {
     if levels == 0 {
         return Err(TrieFault::TooDeep);
@@ -56,7 +56,7 @@ fn read_child(
 ) -> Result<Option<Box<Node>>, TrieFault>
     requires { levels < 17 }
     ensures ok { IfOk result (IsReadingBelow levels (get key.now (view value.now))) }
-    ensures err { IfErr result (IsRefusal (of_child (first_fault levels) (get key.now (view value.now)))) }
+    ensures err { IfErr result (IsTrieFault (of_child (first_fault levels) (get key.now (view value.now)))) }
 {
     match value.get(key) {
         None => Ok(None),

@@ -8,7 +8,7 @@ ghost use Rattle.minute_trie.specs.Trie.{Pair, stamp_pair, held, is_spent, IsTri
 ghost use Rattle.minute_trie.specs.Adding.{with_pair};
 ghost use Rattle.minute_trie.specs.Diff.{difference};
 ghost use Rattle.minute_trie.specs.Json.{trie_text};
-ghost use Rattle.minute_trie.specs.Faults.{fault_of_text, IsReadingOf, IsRefusal};
+ghost use Rattle.minute_trie.specs.Faults.{fault_of_text, IsReadingOf, IsTrieFault};
 
 use crate::hash::hash32;
 use crate::key::key_of;
@@ -115,7 +115,7 @@ impl Trie {
     pub fn from_json(alloc: Global, text: &Txt) -> Result<Trie, TrieFault>
         ensures read { IfOk result (IsReadingOf text.now) }
         ensures live { IfOk result (λ trie. is_spent trie ≡ false) }
-        ensures refused { IfErr result (IsRefusal (fault_of_text text.now)) }
+        ensures refused { IfErr result (IsTrieFault (fault_of_text text.now)) }
     {
         match Value::from_str(alloc, text.as_str()) {
             Ok(value) => Ok(Trie {

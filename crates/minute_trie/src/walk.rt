@@ -1,7 +1,7 @@
 //! The walk over two tries to where they differ.
 ghost use Rattle.std.specs.Prelude.{◌≡◌, ◌<◌, ◌≤◌, ◌^◌, ◌+◌, ◌*◌, []};
 ghost use Rattle.minute_trie.specs.Held.{at_node, at_below};
-ghost use Rattle.minute_trie.specs.Diff.{turn_of, taking, way_down, walk, padded, worth};
+ghost use Rattle.minute_trie.specs.Diff.{turn_of, digit_by_turn, way_down, walk, padded, digit_value};
 
 use crate::key::Digit;
 use crate::node::Node;
@@ -34,13 +34,13 @@ fn turn_between(left: &Option<Box<Node>>, right: &Option<Box<Node>>) -> Turn
 fn next_digit(left: &Node, right: &Node) -> Option<Digit>
     ensures { result ≡ way_down (at_node left.now) (at_node right.now) }
 {
-    let at_two = taking(turn_between(&left.two, &right.two), Digit::Two, None);
-    let at_one = taking(turn_between(&left.one, &right.one), Digit::One, at_two);
-    taking(turn_between(&left.zero, &right.zero), Digit::Zero, at_one)
+    let at_two = digit_by_turn(turn_between(&left.two, &right.two), Digit::Two, None);
+    let at_one = digit_by_turn(turn_between(&left.one, &right.one), Digit::One, at_two);
+    digit_by_turn(turn_between(&left.zero, &right.zero), Digit::Zero, at_one)
 }
 
-fn taking(turn: Turn, digit: Digit, next: Option<Digit>) -> Option<Digit>
-    ensures { result ≡ taking turn digit next }
+fn digit_by_turn(turn: Turn, digit: Digit, next: Option<Digit>) -> Option<Digit>
+    ensures { result ≡ digit_by_turn turn digit next }
 {
     match turn {
         Turn::On => next,
@@ -53,7 +53,7 @@ fn taking(turn: Turn, digit: Digit, next: Option<Digit>) -> Option<Digit>
 fn placed(digit: Digit, levels: u32, rest: u64) -> u64
     requires levels { levels < 16 }
     requires rest { rest < 3 ^ levels }
-    ensures number { result ≡ worth digit * 3 ^ levels + rest }
+    ensures number { result ≡ digit_value digit * 3 ^ levels + rest }
     ensures bound { result < 3 ^ (levels + 1) }
 {
     let place = 3u64.pow(levels);

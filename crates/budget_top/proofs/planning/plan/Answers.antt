@@ -8,7 +8,7 @@ use Rattle.clap.specs.declared.parser.matches.ArgMatches.{ArgMatches}
 use Rattle.clap.proofs.WalkLemmas.{first_value-rows}
 use Rattle.budget_top.specs.Line.{Pair, value_in}
 use Rattle.budget_top.specs.Clap.{row, IsFoundIn}
-use Rattle.budget_top.specs.Words.{planned, planned_line, planned_by, HasFault}
+use Rattle.budget_top.specs.Words.{planned, planned_line, planned_by, IsWordFault}
 use Rattle.budget_top.proofs.planning.plan.Goals as goal
 
 at_pair : (name : List ℕ) (pair : Pair) (pairs : List Pair) (b : Bool) (o : Option Row) → option_and_then (λ (r : Row). slice_get r.values 0) o ≡ value_in pairs name
@@ -41,4 +41,4 @@ pub returns-in-Some-clause-err : goal.returns-in-Some-clause-err
 returns-in-Some-clause-err c =
     let words = ap (map (λ t. t.now)) c.as_slice-2.ensures.value ∙ c.in_ok-texts.ensures.same ∙ c.as_slice.ensures in
     let is = planned_is (map (λ t. t.now) c.as_slice-2.result.now) c.in-Some.given (rw c.in-Some.is at c.in_ok-given.ensures) in
-    subst (λ d. IfErr c.plan_of.result (HasFault d)) (sym (ap planned (sym words) ∙ is)) c.plan_of.ensures.err
+    subst (λ d. IfErr c.plan_of.result (IsWordFault d)) (sym (ap planned (sym words) ∙ is)) c.plan_of.ensures.err

@@ -2,7 +2,7 @@ use Rattle.std.proofs.Common.{◌≡◌, ◌++◌, take}
 use Rattle.std.specs.Prelude.{codes, string_bytes, length}
 use Rattle.std.specs.List.{flat_map}
 use Rattle.std.specs.Fmt.{decimal}
-use Rattle.command_lines.specs.Replies.{ended}
+use Rattle.field_merge.specs.Lines.{ended}
 use Rattle.command_lines.proofs.reply.done_text.Given as goal
 
 abbrev pub invariant-loop-line : goal.invariant-loop-line

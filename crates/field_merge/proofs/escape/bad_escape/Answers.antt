@@ -1,11 +1,11 @@
 -- The place in the rest, moved on over one byte or over an escape.
 use Rattle.std.proofs.Common.{sym, arith}
 use Rattle.field_merge.specs.Escapes as spec
-use Rattle.field_merge.proofs.EscapeLemmas.{later-zero, bad_escape-on, bad_escape-over}
+use Rattle.field_merge.proofs.EscapeLemmas.{place_after-zero, bad_escape-on, bad_escape-over}
 use Rattle.field_merge.proofs.escape.bad_escape.Goals as goal
 
 pub loop-at-init : goal.loop-at-init
-loop-at-init c = (omega arith, sym (later-zero (spec.bad_escape c.args.text.now)))
+loop-at-init c = (omega arith, sym (place_after-zero (spec.bad_escape c.args.text.now)))
 
 pub loop-at-preserved-then-text-at-ne92 : goal.loop-at-preserved-then-text-at-ne92
 loop-at-preserved-then-text-at-ne92 c =

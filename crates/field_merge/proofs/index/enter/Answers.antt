@@ -3,7 +3,7 @@ use Rattle.std.specs.Map.{values_of}
 use Rattle.std.specs.BTreeMap.{insert_entry}
 use Rattle.hybrid_clock.specs.Order.{stamp_cmp}
 use Rattle.field_merge.specs.declared.message.Message.{Message}
-use Rattle.field_merge.proofs.Kept.{entered_right, entered_wins, entries-insert, values-insert}
+use Rattle.field_merge.proofs.Stored.{entered_right, entered_wins, entries-insert, values-insert}
 use Rattle.field_merge.proofs.index.enter.Goals as goal
 
 pub returns-clause-stands : goal.returns-clause-stands

@@ -1,5 +1,5 @@
 use Rattle.std.proofs.Common.{◌∙◌, sym}
-use Rattle.field_merge.proofs.Kept.{marked-already}
+use Rattle.field_merge.proofs.Stored.{marked-already}
 use Rattle.field_merge.proofs.index.mark.Goals as goal
 
 pub returns-else-not-contains : goal.returns-else-not-contains

@@ -4,7 +4,7 @@ use Rattle.std.specs.BTreeSet.{contains}
 use Rattle.field_values.specs.Names.{names_cmp}
 use Rattle.field_merge.specs.Log.{by_stamp, has_field, has_stamp, latest, placed}
 use Rattle.field_merge.proofs.Members.{none_from_any}
-use Rattle.field_merge.proofs.Kept.{any-own, join-fresh, join-there, marks-placed, names_flip}
+use Rattle.field_merge.proofs.Stored.{any-own, join-fresh, join-there, marks-placed, names_flip}
 use Rattle.field_merge.proofs.index.take_in.Goals as goal
 
 pub returns-then-contains_key-clause-joined : goal.returns-then-contains_key-clause-joined

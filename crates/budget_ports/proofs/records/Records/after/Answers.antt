@@ -1,5 +1,5 @@
 use Rattle.std.proofs.Common.{◌≡◌, ◌∙◌, ◌++◌, ◌∷◌, [], ap, sym, subst, filter, false, true, not, bytes_eq, append-nil}
-use Rattle.budget_ports.specs.declared.keeper.Kept.{Kept}
+use Rattle.budget_ports.specs.declared.keeper.Record.{Record}
 use Rattle.budget_ports.specs.Contents.{Place, place_cmp, records_of_after, of_entry}
 use Rattle.budget_ports.proofs.Maps.{IsRising}
 use Rattle.budget_ports.proofs.Scans.{of_group, Above, is_above, scan_start, scan_above, scan_rising, one_found, all_found, tells_same, tells_apart}
@@ -24,7 +24,7 @@ loop-key-preserved c =
     let after = c.args.after.now in
     let step : c.loop-key.key-iterator ≡ (c.in-Some.key.now, c.in-Some.body.now) ∷ c.next.new.self = c.in-Some.ensures.steps in
     let same : false ≡ not (bytes_eq c.in-Some.key.now.0 group) = c.if-ne.ensures in
-    let r : Kept = record { key = c.in_ok-copy.field-0; body = c.in_ok-copy-2.field-0 } in
+    let r : Record = record { key = c.in_ok-copy.field-0; body = c.in_ok-copy-2.field-0 } in
     let push : c.push.new.self.items ≡ c.loop-key.found.items ++ r ∷ [] = c.in_ok-push.ensures.items in
     let what : r ≡ of_entry (c.in-Some.key.now, c.in-Some.body.now) = λ i. record { key = c.in_ok-copy.ensures i; body = c.in_ok-copy-2.ensures i } in record {
       found = one_found c.loop-key.found.items c.push.new.self.items group after (c.in-Some.key.now, c.in-Some.body.now) c.next.new.self c.loop-key.key-iterator r (records_of_after c.args.self.now group after)

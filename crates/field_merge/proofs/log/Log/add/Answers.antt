@@ -2,7 +2,7 @@ use Rattle.std.proofs.Common.{◌∙◌, sym, ap, true, false}
 use Rattle.std.specs.Option.{is_some}
 use Rattle.std.specs.BTreeMap.{values}
 use Rattle.field_merge.specs.Log.{at_stamp}
-use Rattle.field_merge.proofs.Kept.{any-own, flag-none, join-fresh, join-there, lookup-own}
+use Rattle.field_merge.proofs.Stored.{any-own, flag-none, join-fresh, join-there, lookup-own}
 use Rattle.field_merge.proofs.log.Log.add.Goals as goal
 
 pub returns-then-contains_key-clause-joined : goal.returns-then-contains_key-clause-joined

@@ -3,7 +3,7 @@ use Rattle.std.proofs.lemmas.List.{take_more}
 use Rattle.std.specs.BTreeMap.{values}
 use Rattle.field_merge.specs.Log.{join, join_one}
 use Rattle.field_merge.proofs.Joining.{in_turn}
-use Rattle.field_merge.proofs.Kept.{are-changed, length-join_one}
+use Rattle.field_merge.proofs.Stored.{are-changed, length-join_one}
 use Rattle.field_merge.proofs.log.Log.join.Goals as goal
 use Rattle.field_merge.proofs.log.Log.join.Goals.{then-branch, else-branch}
 

@@ -1,7 +1,7 @@
 use Rattle.std.proofs.Common.{◌≡◌, ◌+◌, ◌≤◌, take, true, length}
 use Rattle.std.specs.BTreeMap.{values}
 use Rattle.field_merge.specs.Log.{join}
-use Rattle.field_merge.specs.Kept.{AreEntries, IsIndex, MarksChanged}
+use Rattle.field_merge.specs.Stored.{AreEntries, IsIndex, MarksChanged}
 use Rattle.field_merge.proofs.log.Log.join.Given as goal
 
 abbrev pub invariant-loop-message : goal.invariant-loop-message

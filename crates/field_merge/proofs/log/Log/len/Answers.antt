@@ -1,4 +1,4 @@
-use Rattle.field_merge.proofs.Kept.{rising_from}
+use Rattle.field_merge.proofs.Stored.{rising_from}
 use Rattle.field_merge.proofs.log.Log.len.Goals as goal
 
 pub returns-clause-rising : goal.returns-clause-rising

@@ -20,7 +20,7 @@ use Rattle.field_merge.specs.declared.message.Message.{Message}
 use Rattle.field_merge.specs.Messages.{AreMessages, IsMessage}
 use Rattle.field_merge.specs.Log.{IsRising, at_stamp, by_stamp, has_field, has_stamp, join_one, latest, placed}
 use Rattle.field_merge.specs.Joining.{AreChanged}
-use Rattle.field_merge.specs.Kept.{AreEntries, IsIndex, MarksChanged, Notes, is_newer}
+use Rattle.field_merge.specs.Stored.{AreEntries, IsIndex, MarksChanged, Notes, is_newer}
 use Rattle.field_merge.proofs.Orders.{stamps_total, names_alike, names_exact, names_total}
 use Rattle.field_merge.proofs.Joining.{stamp_of}
 use Rattle.field_merge.proofs.Latest.{latest_there}

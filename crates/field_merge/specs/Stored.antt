@@ -24,7 +24,7 @@ abbrev pub IsIndex : List Message → List (FieldNames × Message) → Type 0
 IsIndex ms index = (f : FieldNames) → lookup (is_at (names_cmp f)) index ≡ latest ms f
 
 -- the messages always stand; the index is right unless a want of memory has spoilt it
-pub record IsKept (entries : List (Stamp × Message)) (index : List (FieldNames × Message)) (spent : Bool) : Type 0 where
+pub record IsStored (entries : List (Stamp × Message)) (index : List (FieldNames × Message)) (spent : Bool) : Type 0 where
   pub entries_stand : AreEntries entries
   pub index_right : spent ≡ false → IsIndex (values_of entries) index
 
