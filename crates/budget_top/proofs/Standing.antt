@@ -55,13 +55,6 @@ part_of_more front xs ys h =
     (sym (ap bad_lines more.1 ∙ bad_lines-append (whole_lines xs) more.0))
     (part_more front (bad_lines (whole_lines xs)) (bad_lines_from (1 + length (whole_lines xs)) more.0) h)
 
--- and what is due for the bytes begins what is written for the whole input
-pub part_of_merge : (front xs : List ℕ) → IsFront front (bad_lines (whole_lines xs)) → IsFront front (merge_text xs)
-part_of_merge front xs h =
-    part_more front (bad_lines (all_lines xs)) (field_text (join [] (messages_of (all_lines xs))))
-    (part_as front _ _ (sym (bad_lines-append (whole_lines xs) (line_if_some (last_piece xs))))
-    (part_more front (bad_lines (whole_lines xs)) (bad_lines_from (1 + length (whole_lines xs)) (line_if_some (last_piece xs))) h))
-
 pub front_of_more : (a b : Option (List ℕ)) (xs ys : List ℕ) → AppendsFront a b (bad_lines (whole_lines xs)) → AppendsFront a b (bad_lines (whole_lines (xs ++ ys)))
 front_of_more a b xs ys h = record { front = h.front; of = part_of_more h.front xs ys h.of; written = h.written }
 

@@ -17,9 +17,11 @@ option_rule id = record (new_rule id) { long = Some id; action = Some Set }
 abbrev pub mode_rule : Rule
 mode_rule = record (new_rule mode) { required = true; action = Some Set }
 
+-- a command without a program's name among its words and without an option for help, which takes nothing yet
 abbrev pub bare_app : App
 bare_app = on_top (λ s. record s { no_binary_name = true; disable_help_flag = true }) (new_app (codes "gizsorved"))
 
+-- that command with the mode word and the eight options
 abbrev pub plan_app : App
 plan_app = with_rule (with_rule (with_rule (with_rule (with_rule (with_rule (with_rule (with_rule (with_rule bare_app mode_rule)
     (option_rule (codes "store"))) (option_rule (codes "node"))) (option_rule (codes "token"))) (option_rule (codes "file")))
@@ -39,6 +41,7 @@ abbrev pub wants : Look → Bool
 wants (long name None) = true
 wants shape = false
 
+-- whether a word is an option that wants the next word for its value
 abbrev pub wants_value : List ℕ → Bool
 wants_value word = wants (look word)
 

@@ -6,6 +6,7 @@ use Rattle.std.specs.List.{list_any, before_first, after_first}
 abbrev pub option_names : List (List ℕ)
 option_names = codes "store" ∷ codes "node" ∷ codes "token" ∷ codes "file" ∷ codes "group" ∷ codes "count" ∷ codes "listen" ∷ codes "peer" ∷ []
 
+-- whether a name is that of an option
 abbrev pub is_option : List ℕ → Bool
 is_option name = list_any (λ option. bytes_eq option name) option_names
 
@@ -42,6 +43,7 @@ abbrev pub look_short : List ℕ → Look
 look_short [] = plain
 look_short (byte ∷ rest) = if byte == 45 then look_long rest else short
 
+-- what a word looks like
 abbrev pub look : List ℕ → Look
 look [] = plain
 look (byte ∷ rest) = if byte == 45 then look_short rest else plain
@@ -88,9 +90,11 @@ each_once (pair ∷ pairs) = not (has pair.0 pairs) && each_once pairs
 abbrev pub is_line : List Pair → Bool
 is_line pairs = each_once pairs && has mode pairs
 
+-- the pairs, where they are those of a command line
 abbrev pub if_line : List Pair → Option (List Pair)
 if_line pairs = if is_line pairs then Some pairs else None
 
+-- the same of pairs that there may be
 abbrev pub line_of : Option (List Pair) → Option (List Pair)
 line_of None = None
 line_of (Some pairs) = if_line pairs

@@ -20,12 +20,13 @@ pub record FirstEnd (bytes : List ℕ) (at : ℕ) : Type 0 where
   pub line : IsWithinLine (take at bytes)
   pub end : slice_index bytes at ≡ 10
 
--- all but the last of some pieces, and the last of them
+-- all but the last of some pieces
 abbrev pub all_but_last : List (List ℕ) → List (List ℕ)
 all_but_last [] = []
 all_but_last (piece ∷ []) = []
 all_but_last (piece ∷ next ∷ rest) = piece ∷ all_but_last (next ∷ rest)
 
+-- the last of some pieces
 abbrev pub last_of : List (List ℕ) → List ℕ
 last_of [] = []
 last_of (piece ∷ []) = piece

@@ -28,6 +28,7 @@ pub record Seen : Type 1 where
   pub contents : Contents
   pub left : Contents → Type 0
 
+-- what they tell: the bytes that the sink has taken, the readings that the clock will give, whether the keeper tells, what it holds, and what a stop may leave
 abbrev pub seen : Option (List ℕ) → Option Readings → Type 0 → Contents → (Contents → Type 0) → Seen
 seen taken readings tells contents left = record { taken = taken; readings = readings; tells = tells; contents = contents; left = left }
 

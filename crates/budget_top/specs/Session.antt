@@ -35,9 +35,11 @@ abbrev pub settled : State → (Accepted → Reply) → Result Accepted LineRefu
 settled s reply (Ok accepted) = (accepted.device.state, reply accepted)
 settled s reply (Err refusal) = (s, reply_to_refusal (refused refusal))
 
+-- the reply to an edit that was accepted
 abbrev pub wrote_all : Accepted → Reply
 wrote_all accepted = wrote accepted.count accepted.device.made
 
+-- the reply to messages that were accepted
 abbrev pub added_all : Accepted → Reply
 added_all accepted = added accepted.count
 
@@ -53,6 +55,7 @@ obeyed s reading (Ok command) = (s, answer s.messages command)
 abbrev pub step : State → Input → State × Reply
 step s i = obeyed s i.reading (asked i.line)
 
+-- whether a reply refuses its line
 abbrev pub is_refused : Reply → Bool
 is_refused (Done lines) = false
 is_refused (Refused number code detail) = true

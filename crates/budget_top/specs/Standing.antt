@@ -18,10 +18,11 @@ pub record Entry : Type 0 where
   pub contents : Contents
   pub start : State
 
--- the lines of inputs, and the readings that they took
+-- the lines of inputs
 abbrev pub lines_of : List Input → List (List ℕ)
 lines_of inputs = map (λ i. i.line) inputs
 
+-- the readings that inputs took
 abbrev pub readings_of : List Input → List ℕ
 readings_of inputs = map (λ i. i.reading) inputs
 

@@ -16,6 +16,7 @@ abbrev pub stop_status : Stop → ℕ
 stop_status Memory = 7
 stop_status Sink = 5
 
+-- the status of a device's run that stops
 abbrev pub device_stop_status : DeviceStop → ℕ
 device_stop_status (Run stop) = stop_status stop
 device_stop_status Keeper = 6
@@ -25,27 +26,17 @@ abbrev pub stop_of : PortFault → DeviceStop
 stop_of Failed = Keeper
 stop_of NoMemory = Run Memory
 
--- the status with which a step ends the run, or 0 where the run goes on
-abbrev pub step_status : {T : Type 0} → Result T Stop → ℕ
-step_status (Ok done) = 0
-step_status (Err stop) = stop_status stop
-
-abbrev pub device_step_status : {T : Type 0} → Result T DeviceStop → ℕ
-device_step_status (Ok done) = 0
-device_step_status (Err stop) = device_stop_status stop
+-- the status with which a step ends the run, by that of what stops it, or 0 where the run goes on
+abbrev pub step_status : {S T : Type 0} → (S → ℕ) → Result T S → ℕ
+step_status status (Ok done) = 0
+step_status status (Err stop) = status stop
 
 -- the same of how reading ended
-abbrev pub end_status : End Stop → ℕ
-end_status AtEnd = 0
-end_status SourceFailed = 4
-end_status TooMuch = 9
-end_status (Stopped stop) = stop_status stop
-
-abbrev pub device_end_status : End DeviceStop → ℕ
-device_end_status AtEnd = 0
-device_end_status SourceFailed = 4
-device_end_status TooMuch = 9
-device_end_status (Stopped stop) = device_stop_status stop
+abbrev pub end_status : {S : Type 0} → (S → ℕ) → End S → ℕ
+end_status status AtEnd = 0
+end_status status SourceFailed = 4
+end_status status TooMuch = 9
+end_status status (Stopped stop) = status stop
 
 -- the same of a device's opening
 abbrev pub opening_status : {T : Type 0} → Result T OpeningFault → ℕ

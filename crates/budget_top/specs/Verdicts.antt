@@ -26,6 +26,7 @@ word_of (BadStamp found) = Stamp
 word_of (BadName found) = Name
 word_of NoMemory = Name
 
+-- the verdict of what a line reads as
 abbrev pub worded : Result Message LineFault → Verdict
 worded (Ok message) = Ok message
 worded (Err fault) = Err (word_of fault)
@@ -38,6 +39,7 @@ judged_short line = if is_utf8 line then worded (reading line) else Err Utf8
 abbrev pub judged : List ℕ → Verdict
 judged line = if is_too_long line then Err Long else judged_short line
 
+-- the text of a word
 abbrev pub word_text : Word → List ℕ
 word_text Long = codes "long"
 word_text Utf8 = codes "utf8"
@@ -51,6 +53,7 @@ abbrev pub bad_line : ℕ → Verdict → List ℕ
 bad_line number (Ok message) = []
 bad_line number (Err word) = codes "bad-line " ++ (decimal number ++ 32 ∷ (word_text word ++ 10 ∷ []))
 
+-- what is written for lines, the first of which has this number
 abbrev pub bad_lines_from : ℕ → List (List ℕ) → List ℕ
 bad_lines_from number [] = []
 bad_lines_from number (line ∷ lines) = bad_line number (judged line) ++ bad_lines_from (number + 1) lines
@@ -63,6 +66,7 @@ bad_lines lines = bad_lines_from 1 lines
 abbrev pub is_bad : List ℕ → Bool
 is_bad line = is_err (judged line)
 
+-- whether one of the lines is no message
 abbrev pub some_bad : List (List ℕ) → Bool
 some_bad lines = list_any is_bad lines
 
@@ -71,6 +75,7 @@ abbrev pub message_in : Verdict → List Message
 message_in (Ok message) = message ∷ []
 message_in (Err word) = []
 
+-- the messages of lines, in their order
 abbrev pub messages_of : List (List ℕ) → List Message
 messages_of lines = flat_map (λ line. message_in (judged line)) lines
 

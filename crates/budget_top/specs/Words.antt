@@ -44,6 +44,7 @@ node_for Device None = Err NodeMissing
 abbrev pub is_plain_number : List ℕ → Bool
 is_plain_number text = list_all is_ascii_digit text && not (slice_index text 0 == 48)
 
+-- whether a number is one that a count may be
 abbrev pub is_within : ℕ → Bool
 is_within number = nat_le 1 number && nat_le number 1_000_000
 
@@ -95,6 +96,7 @@ planned_by given = do
   count ← count_from (given (codes "count"))
   plan_with given mode node count
 
+-- the plan that the pairs of a command line ask for; other words are refused
 abbrev pub planned_line : Option (List (List ℕ × List ℕ)) → Result Plan WordFault
 planned_line None = Err Words
 planned_line (Some pairs) = planned_by (value_in pairs)
@@ -112,6 +114,7 @@ pub record IsNodeFor (mode : Mode) (node : Option (List ℕ)) : Type 0 where
   pub valid : IfSome node IsNode
   pub device : mode ≡ Device → IsSome node
 
+-- what holds of each plan
 abbrev pub IsPlan : Plan → Type 0
 IsPlan plan = IsNodeFor plan.mode plan.node
 

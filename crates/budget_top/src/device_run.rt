@@ -5,7 +5,7 @@ ghost use Rattle.hybrid_clock.specs.Node.{IsNode};
 ghost use Rattle.budget_ports.specs.Faults.{count_after};
 ghost use Rattle.budget_ports.specs.Keeper.{Only};
 ghost use Rattle.budget_top.specs.Limits.{HasRead};
-ghost use Rattle.budget_top.specs.Stops.{device_end_status};
+ghost use Rattle.budget_top.specs.Stops.{end_status, device_stop_status};
 ghost use Rattle.budget_top.specs.Seen.{seen};
 ghost use Rattle.budget_top.specs.Standing.{Entry};
 ghost use Rattle.budget_top.specs.DeviceSteps.{IsReady, Stands};
@@ -47,9 +47,9 @@ fn read_all<S: Source, W: Sink, K: Keeper, C: WallClock, G: Ledger>(
     ensures ready { result ≡ End.AtEnd → IsReady session.new }
     ensures alone { IsWhole result → K.tells keeper.new → Only (K.contents keeper.old) (K.left keeper.old) → Only (K.contents keeper.new) (K.left keeper.new) }
     ensures told { K.tells keeper.new → K.tells keeper.old }
-    ensures source { S.faults source.new ≡ count_after (device_end_status result == 4) (S.faults source.old) }
-    ensures sink { W.faults sink.new ≡ count_after (device_end_status result == 5) (W.faults sink.old) }
-    ensures keeper { K.faults keeper.new ≡ count_after (device_end_status result == 6) (K.faults keeper.old) }
+    ensures source { S.faults source.new ≡ count_after (end_status device_stop_status result == 4) (S.faults source.old) }
+    ensures sink { W.faults sink.new ≡ count_after (end_status device_stop_status result == 5) (W.faults sink.old) }
+    ensures keeper { K.faults keeper.new ≡ count_after (end_status device_stop_status result == 6) (K.faults keeper.old) }
 {
     let mut buffer = [0u8; PIECE];
     let mut taken = 0;

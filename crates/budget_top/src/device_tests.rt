@@ -74,7 +74,7 @@ fn outcome(
     let mut sink = MemorySink::with_faults(rt.alloc(), 1000, sink_fails)?;
     let words = words(rt.alloc())?;
     let mut clock = ListClock::new([1_704_448_800_000].to_vec(rt.alloc())?);
-    let status = uncounted::<Brand, _, _, _, _>(
+    let status = uncounted::<Brand>(
         Blank::new(1),
         rt.alloc(),
         &words,
@@ -142,7 +142,7 @@ fn keep_bad(alloc: Global, keeper: &mut MemoryKeeper) -> Result<(), PortFault> {
     keeper.append(&group, &[record])
 }
 
-/// A record that keeps no message is told, and decides the status where the sink fails too.
+/// A record that keeps no message is reported, and decides the status where the sink fails too.
 #[test]
 fn bad_record(rt: HostRuntime) -> Result<(), Fail> {
     let mut keeper = MemoryKeeper::new(rt.alloc());

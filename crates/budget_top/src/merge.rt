@@ -5,7 +5,7 @@ ghost use Rattle.std.specs.Io.KnownBytes.{Appends, IsAtEnd};
 ghost use Rattle.std.specs.List.{flat_map};
 ghost use Rattle.field_merge.specs.Log.{ended_line};
 ghost use Rattle.budget_ports.specs.Faults.{count_after};
-ghost use Rattle.budget_top.specs.Stops.{step_status, end_status};
+ghost use Rattle.budget_top.specs.Stops.{step_status, end_status, stop_status};
 ghost use Rattle.budget_top.specs.MergeRun.{MergeRun};
 ghost use Rattle.budget_top.specs.Fronts.{AppendsFront};
 ghost use Rattle.budget_top.specs.Limits.{HasRead};
@@ -39,7 +39,7 @@ impl Merge {
     ghost use Rattle.std.specs.Io.KnownBytes.{Appends};
     ghost use Rattle.field_merge.specs.Messages.{IsMessage};
     ghost use Rattle.budget_ports.specs.Faults.{count_after};
-    ghost use Rattle.budget_top.specs.Stops.{step_status};
+    ghost use Rattle.budget_top.specs.Stops.{step_status, stop_status};
     ghost use Rattle.budget_top.specs.Lines.{IsWithinLine, whole_lines, all_lines};
     ghost use Rattle.budget_top.specs.Verdicts.{bad_line, bad_lines, merge_text, some_bad};
     ghost use Rattle.budget_top.specs.Fronts.{AppendsFront};
@@ -69,7 +69,7 @@ impl Merge {
         requires valid { IfOk verdict IsMessage }
         ensures ok { OnOk result (Settles self.old self.new (W.taken sink.old) (W.taken sink.new) verdict) }
         ensures err { OnErr result (AppendsFront (W.taken sink.old) (W.taken sink.new) (bad_line (self.old.number + 1) verdict)) }
-        ensures count { W.faults sink.new ≡ count_after (step_status result == 5) (W.faults sink.old) }
+        ensures count { W.faults sink.new ≡ count_after (step_status stop_status result == 5) (W.faults sink.old) }
     {
         match verdict {
             Ok(message) => {
@@ -93,7 +93,7 @@ impl Merge {
         ensures err { OnErr result ((entry : Option (List ℕ)) (read : List ℕ) → Stands entry (W.taken sink.old) read self.old → AppendsFront entry (W.taken sink.new) (bad_lines (whole_lines (read ++ 10 ∷ [])))) }
         ensures live { OnOk result (self.new.latest.spent ≡ false) }
         ensures few { OnOk result (self.new.number ≡ self.old.number + 1) }
-        ensures count { W.faults sink.new ≡ count_after (step_status result == 5) (W.faults sink.old) }
+        ensures count { W.faults sink.new ≡ count_after (step_status stop_status result == 5) (W.faults sink.old) }
     {
         let verdict = self.line.judge(alloc)?;
         self.settle(alloc, sink, verdict)?;
@@ -120,7 +120,7 @@ impl Merge {
         ensures err { OnErr result ((entry : Option (List ℕ)) (read : List ℕ) → Stands entry (W.taken sink.old) read self.old → AppendsFront entry (W.taken sink.new) (bad_lines (whole_lines (read ++ bytes.now)))) }
         ensures live { OnOk result (self.new.latest.spent ≡ false) }
         ensures few { OnOk result (self.new.number ≤ self.old.number + length bytes.now) }
-        ensures count { W.faults sink.new ≡ count_after (step_status result == 5) (W.faults sink.old) }
+        ensures count { W.faults sink.new ≡ count_after (step_status stop_status result == 5) (W.faults sink.old) }
     {
         let mut at = 0;
         'lines: while let Some(length) = line_length(&bytes[at..]) {
@@ -139,7 +139,7 @@ impl Merge {
         ensures ok { OnOk result ((entry : Option (List ℕ)) (read : List ℕ) → Stands entry (W.taken sink.old) read self.old → Ended entry (W.taken sink.new) read self.new) }
         ensures err { OnErr result ((entry : Option (List ℕ)) (read : List ℕ) → Stands entry (W.taken sink.old) read self.old → AppendsFront entry (W.taken sink.new) (bad_lines (all_lines read))) }
         ensures live { OnOk result (self.new.latest.spent ≡ false) }
-        ensures count { W.faults sink.new ≡ count_after (step_status result == 5) (W.faults sink.old) }
+        ensures count { W.faults sink.new ≡ count_after (step_status stop_status result == 5) (W.faults sink.old) }
     {
         if self.line.is_empty() {
             return Ok(());
@@ -153,7 +153,7 @@ impl Merge {
         requires few { self.old.number < 2 ^ 60 }
         ensures ok { IfOk result (λ has_bad. (entry : Option (List ℕ)) (read : List ℕ) → Stands entry (W.taken sink.old) read self.old → (has_bad ≡ some_bad (all_lines read)) × Appends entry (W.taken sink.new) (merge_text read)) }
         ensures err { OnErr result ((entry : Option (List ℕ)) (read : List ℕ) → Stands entry (W.taken sink.old) read self.old → AppendsFront entry (W.taken sink.new) (merge_text read)) }
-        ensures count { W.faults sink.new ≡ count_after (step_status result == 5) (W.faults sink.old) }
+        ensures count { W.faults sink.new ≡ count_after (step_status stop_status result == 5) (W.faults sink.old) }
     {
         self.end_last(alloc, sink)?;
         self.latest.tidy()?;
@@ -167,7 +167,7 @@ impl Merge {
 fn write_lines<W: Sink>(sink: &mut W, lines: FieldLines<'_>) -> Result<(), Stop>
     ensures all { OnOk result (Appends (W.taken sink.old) (W.taken sink.new) (flat_map ended_line lines.entry)) }
     ensures front { OnErr result (AppendsFront (W.taken sink.old) (W.taken sink.new) (flat_map ended_line lines.entry)) }
-    ensures count { W.faults sink.new ≡ count_after (step_status result == 5) (W.faults sink.old) }
+    ensures count { W.faults sink.new ≡ count_after (step_status stop_status result == 5) (W.faults sink.old) }
 {
     let mut left = lines;
     'pieces: while let Some(piece) = left.next_piece()? {
@@ -188,8 +188,8 @@ fn read_all<S: Source, W: Sink>(
     ensures at_end { result ≡ End.AtEnd → IsAtEnd (S.left source.new) }
     ensures live { result ≡ End.AtEnd → merge.new.latest.spent ≡ false }
     ensures few { result ≡ End.AtEnd → merge.new.number < 2 ^ 60 }
-    ensures source { S.faults source.new ≡ count_after (end_status result == 4) (S.faults source.old) }
-    ensures sink { W.faults sink.new ≡ count_after (end_status result == 5) (W.faults sink.old) }
+    ensures source { S.faults source.new ≡ count_after (end_status stop_status result == 4) (S.faults source.old) }
+    ensures sink { W.faults sink.new ≡ count_after (end_status stop_status result == 5) (W.faults sink.old) }
 {
     let mut buffer = [0u8; PIECE];
     let mut taken = 0;

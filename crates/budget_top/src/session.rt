@@ -24,7 +24,7 @@ impl Session {
     ghost use Rattle.std.specs.Prelude.{◌≡◌, ◌==◌, ℕ, List, [], ◌∷◌, ◌++◌, IfErr, OnOk};
     ghost use Rattle.budget_ports.specs.Faults.{count_after};
     ghost use Rattle.budget_ports.specs.Keeper.{Only};
-    ghost use Rattle.budget_top.specs.Stops.{device_step_status};
+    ghost use Rattle.budget_top.specs.Stops.{step_status, device_stop_status};
     ghost use Rattle.budget_top.specs.Lines.{whole_lines, all_lines};
     ghost use Rattle.budget_top.specs.Seen.{seen};
     ghost use Rattle.budget_top.specs.Standing.{Entry};
@@ -45,8 +45,8 @@ impl Session {
         ensures ready { OnOk result (IsReady self.new) }
         ensures alone { K.tells keeper.new → OnOk result (Only (K.contents keeper.old) (K.left keeper.old) → Only (K.contents keeper.new) (K.left keeper.new)) }
         ensures told { K.tells keeper.new → K.tells keeper.old }
-        ensures sink { W.faults sink.new ≡ count_after (device_step_status result == 5) (W.faults sink.old) }
-        ensures keeper { K.faults keeper.new ≡ count_after (device_step_status result == 6) (K.faults keeper.old) }
+        ensures sink { W.faults sink.new ≡ count_after (step_status device_stop_status result == 5) (W.faults sink.old) }
+        ensures keeper { K.faults keeper.new ≡ count_after (step_status device_stop_status result == 6) (K.faults keeper.old) }
     {
         let reading = clock.now();
         let answer = handle_line(
@@ -85,8 +85,8 @@ impl Session {
         ensures ready { OnOk result (IsReady self.new) }
         ensures alone { K.tells keeper.new → OnOk result (Only (K.contents keeper.old) (K.left keeper.old) → Only (K.contents keeper.new) (K.left keeper.new)) }
         ensures told { K.tells keeper.new → K.tells keeper.old }
-        ensures sink { W.faults sink.new ≡ count_after (device_step_status result == 5) (W.faults sink.old) }
-        ensures keeper { K.faults keeper.new ≡ count_after (device_step_status result == 6) (K.faults keeper.old) }
+        ensures sink { W.faults sink.new ≡ count_after (step_status device_stop_status result == 5) (W.faults sink.old) }
+        ensures keeper { K.faults keeper.new ≡ count_after (step_status device_stop_status result == 6) (K.faults keeper.old) }
     {
         let mut at = 0;
         'lines: while let Some(length) = line_length(&bytes[at..]) {
@@ -116,8 +116,8 @@ impl Session {
         ensures err { IfErr result (λ stop. (e : Entry) (read : List ℕ) → Stands e read self.old (seen (W.taken sink.old) (C.readings clock.old) (K.tells keeper.old) (K.contents keeper.old) (K.left keeper.old)) → BreaksAs stop e (Only (K.contents keeper.old) (K.left keeper.old)) (all_lines read) (seen (W.taken sink.new) (C.readings clock.new) (K.tells keeper.new) (K.contents keeper.new) (K.left keeper.new))) }
         ensures alone { K.tells keeper.new → OnOk result (Only (K.contents keeper.old) (K.left keeper.old) → Only (K.contents keeper.new) (K.left keeper.new)) }
         ensures told { K.tells keeper.new → K.tells keeper.old }
-        ensures sink { W.faults sink.new ≡ count_after (device_step_status result == 5) (W.faults sink.old) }
-        ensures keeper { K.faults keeper.new ≡ count_after (device_step_status result == 6) (K.faults keeper.old) }
+        ensures sink { W.faults sink.new ≡ count_after (step_status device_stop_status result == 5) (W.faults sink.old) }
+        ensures keeper { K.faults keeper.new ≡ count_after (step_status device_stop_status result == 6) (K.faults keeper.old) }
     {
         if self.line.is_empty() {
             return Ok(());

@@ -1,9 +1,7 @@
 ghost use Rattle.std.specs.Prelude.{◌≡◌, ◌≤◌};
 
-use crate::run;
-use budget_ports::{
-    Keeper, ListClock, MemoryKeeper, MemorySink, MemorySource, Sink, Source, WallClock,
-};
+use crate::run_in_memory;
+use budget_ports::{ListClock, MemoryKeeper, MemorySink, MemorySource};
 use field_values::{Items, Steps, Txt};
 use std::alloc::Global;
 use std::marker::Brand;
@@ -62,21 +60,21 @@ fn failing<'a>(
 }
 
 /// A run with a counter of steps that nobody reads.
-pub(crate) fn uncounted<G: Ledger, S: Source, W: Sink, K: Keeper, C: WallClock>(
+pub(crate) fn uncounted<G: Ledger>(
     blank: Blank,
     alloc: Global,
     words: &Items<Txt>,
-    source: &mut S,
-    sink: &mut W,
-    keeper: &mut K,
-    clock: &mut C,
+    source: &mut MemorySource,
+    sink: &mut MemorySink,
+    keeper: &mut MemoryKeeper,
+    clock: &mut ListClock,
 ) -> u8
     requires name { blank.name ≡ G.name }
     requires parts { blank.parts ≡ G.parts }
     requires some { 1 ≤ G.parts }
 {
     let mut steps = Steps::<G>::new(blank);
-    run(alloc, words, source, sink, keeper, clock, &mut steps)
+    run_in_memory(alloc, words, source, sink, keeper, clock, &mut steps)
 }
 
 /// All parts, one behind the other.
@@ -106,7 +104,7 @@ fn outcome(rt: &HostRuntime, row: &Row<'_>) -> Result<(u8, Vec<u8>), Fail> {
     let mut sink = MemorySink::with_faults(rt.alloc(), 1000, sink_fails)?;
     let mut keeper = MemoryKeeper::new(rt.alloc());
     let mut clock = ListClock::new([0].to_vec(rt.alloc())?);
-    let status = uncounted::<Brand, _, _, _, _>(
+    let status = uncounted::<Brand>(
         Blank::new(1),
         rt.alloc(),
         &words,

@@ -25,13 +25,15 @@ pub struct Plan {
     pub node: Option<Node>,
     /// The token by which a server knows a device.
     pub token: Txt,
-    /// The file of a household's data that a server keeps, and the file's group.
+    /// The file of a household's data that a server keeps.
     pub file: Txt,
+    /// The group of that file.
     pub group: Txt,
     /// How many connections or messages, from 1 to 1,000,000.
     pub count: u32,
-    /// The address to listen on, and that of the server.
+    /// The address to listen on.
     pub listen: Txt,
+    /// The address of the server.
     pub peer: Txt,
 }
 
