@@ -42,7 +42,7 @@ fields_text read m entry now text h is = ap (λ t. bad_lines (all_lines read) ++
 
 pub merged : (entry a b c : Option (List ℕ)) (read text : List ℕ) (m : Merge) → Ended entry a read m → text ≡ field_text (join [] (messages_of (all_lines read))) → Appends a b text → Keeps b c → Appends entry c (merge_text read)
 merged entry a b c read text m h is written kept =
-    appends_as entry c _ _ (fields_text read m entry a text h is) (Appends-kept entry b c _ (Appends-trans entry a b (bad_lines (all_lines read)) text h.written written) kept_line)
+    appends_as entry c _ _ (fields_text read m entry a text h is) (Appends-kept entry b c _ (Appends-trans entry a b (bad_lines (all_lines read)) text h.written written) kept)
 
 pub breaks_fields : (entry a b : Option (List ℕ)) (read text : List ℕ) (m : Merge) → Ended entry a read m → text ≡ field_text (join [] (messages_of (all_lines read))) → AppendsFront a b text → AppendsFront entry b (merge_text read)
 breaks_fields entry a b read text m h is front =

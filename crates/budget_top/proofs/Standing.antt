@@ -5,12 +5,11 @@ use Rattle.std.proofs.KnownBytes.{Appends-trans, Appends-nil}
 use Rattle.std.specs.Io.KnownBytes.{Appends}
 use Rattle.std.specs.Result.{is_err}
 use Rattle.field_merge.specs.declared.message.Message.{Message}
-use Rattle.field_merge.specs.Log.{join, field_text}
 use Rattle.field_merge.specs.Latest.{CameFrom, LatestState}
 use Rattle.budget_top.specs.declared.merge.Merge.{Merge}
-use Rattle.budget_top.specs.Lines.{IsWithinLine, whole_lines, last_piece, all_lines, line_if_some}
+use Rattle.budget_top.specs.Lines.{IsWithinLine, whole_lines, last_piece}
 use Rattle.command_lines.specs.Commands.{longest_line}
-use Rattle.budget_top.specs.Verdicts.{Verdict, judged, judged_short, bad_line, bad_lines, bad_lines_from, messages_of, message_in, some_bad, merge_text}
+use Rattle.budget_top.specs.Verdicts.{Verdict, judged, judged_short, bad_line, bad_lines, bad_lines_from, messages_of, message_in, some_bad}
 use Rattle.budget_top.specs.KeptLine.{kept_line, kept_line_with, judged_kept_line}
 use Rattle.budget_top.specs.Fronts.{IsFront, AppendsFront}
 use Rattle.budget_top.specs.Steps.{Settles, Stands}
