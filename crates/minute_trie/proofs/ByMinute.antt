@@ -8,6 +8,7 @@ use Rattle.minute_trie.specs.declared.key.Digit.{Digit}
 use Rattle.minute_trie.specs.Pruned.{Entry, lies_below, xor}
 use Rattle.minute_trie.specs.Diff.{walk, stop, minute_of, going_down, way_down, difference}
 use Rattle.minute_trie.specs.Held.{Held, after}
+use Rattle.hybrid_clock.specs.Stamp.{window}
 use Rattle.minute_trie.specs.Trie.{entry_of, entries_of, trie_of, ArePairs}
 use Rattle.minute_trie.specs.Rounds.{IsRound, IsProperPrefix, is_before, is_from}
 use Rattle.minute_trie.proofs.Agree.{Agree, Grows, before, not_before}
@@ -15,7 +16,7 @@ use Rattle.minute_trie.proofs.Order.{xor_same}
 use Rattle.minute_trie.proofs.Exchange.{exchanged}
 use Rattle.minute_trie.proofs.Splitting.{earlier, agree_before, agree_from}
 
-filtered : (t : ℕ × ℤ → Bool) (u : Entry → Bool) (ps : List (ℕ × ℤ)) → ArePairs ps → ((p : ℕ × ℤ) → p.0 < 43_046_721 → t p ≡ u (entry_of p)) → entries_of (filter t ps) ≡ filter u (entries_of ps)
+filtered : (t : ℕ × ℤ → Bool) (u : Entry → Bool) (ps : List (ℕ × ℤ)) → ArePairs ps → ((p : ℕ × ℤ) → p.0 < window → t p ≡ u (entry_of p)) → entries_of (filter t ps) ≡ filter u (entries_of ps)
 filtered t u [] w same = refl
 filtered t u (p ∷ ps) w same = go (t p) (u (entry_of p)) (same p w.0.within) (filtered t u ps w.1 same) where
   go : (a b : Bool) → a ≡ b → entries_of (filter t ps) ≡ filter u (entries_of ps) → entries_of (cond a (p ∷ filter t ps) (filter t ps)) ≡ cond b (entry_of p ∷ filter u (entries_of ps)) (filter u (entries_of ps))
@@ -27,7 +28,7 @@ filtered t u (p ∷ ps) w same = go (t p) (u (entry_of p)) (same p w.0.within) (
 agree_of : (es fs : List Entry) → IsPermutation es fs → Agree es fs
 agree_of es fs s = record { any = λ p. list_any-IsPermutation (lies_below p) es fs s; hash = xor_same es fs s }
 
-agree_filtered : (t : ℕ × ℤ → Bool) (u : Entry → Bool) (ps qs : List (ℕ × ℤ)) → ArePairs ps → ArePairs qs → ((p : ℕ × ℤ) → p.0 < 43_046_721 → t p ≡ u (entry_of p)) → IsPermutation (filter t ps) (filter t qs) →
+agree_filtered : (t : ℕ × ℤ → Bool) (u : Entry → Bool) (ps qs : List (ℕ × ℤ)) → ArePairs ps → ArePairs qs → ((p : ℕ × ℤ) → p.0 < window → t p ≡ u (entry_of p)) → IsPermutation (filter t ps) (filter t qs) →
     Agree (filter u (entries_of ps)) (filter u (entries_of qs))
 agree_filtered t u ps qs v w same s =
     subst (λ xs. Agree xs (filter u (entries_of qs))) (filtered t u ps v same)
