@@ -2,8 +2,8 @@
 use Rattle.std.proofs.Common.{◌≡◌, ℕ, List, [], ◌∷◌, ◌++◌, filter, Bool, true, false, not, cond, refl, sym, ap, ◌∙◌, subst, IsPermutation}
 use Rattle.std.proofs.lemmas.List.Elements.{filter-append}
 use Rattle.std.proofs.lemmas.List.Sorted.{IsPermutation-refl, IsPermutation-append_comm}
-use Rattle.minute_trie.specs.Trie.{Pair}
-use Rattle.minute_trie.specs.Rounds.{IsGrown, is_before, is_from, RoundsAreMade}
+use Rattle.minute_trie.specs.Trie.{Pair, ArePairs}
+use Rattle.minute_trie.specs.Rounds.{IsGrown, IsRound, is_before, is_from}
 
 none_before : (t : Pair → Bool) (ps : List Pair) → filter t (filter (λ p. not (t p)) ps) ≡ []
 none_before t [] = refl
@@ -34,7 +34,8 @@ grown m ps qs = record {
 from_both : (m : ℕ) (ps qs : List Pair) → filter (is_from m) (ps ++ filter (is_from m) qs) ≡ filter (is_from m) ps ++ filter (is_from m) qs
 from_both m ps qs = filter-append (is_from m) ps (filter (is_from m) qs) ∙ ap (λ xs. filter (is_from m) ps ++ xs) (all_from (is_from m) qs)
 
-pub made : RoundsAreMade
+pub made : (m : ℕ) (mine theirs : List Pair) →
+    IsRound m mine (filter (is_from m) theirs) (mine ++ filter (is_from m) theirs) theirs (filter (is_from m) mine) (theirs ++ filter (is_from m) mine)
 made m mine theirs = record {
   mine_grown = grown m mine theirs;
   theirs_grown = grown m theirs mine;
@@ -42,3 +43,17 @@ made m mine theirs = record {
       (subst (λ ys. IsPermutation (filter (is_from m) mine ++ filter (is_from m) theirs) ys) (sym (from_both m theirs mine))
       (IsPermutation-append_comm (filter (is_from m) mine) (filter (is_from m) theirs)));
 }
+
+filtered_pairs : (t : Pair → Bool) (ps : List Pair) → ArePairs ps → ArePairs (filter t ps)
+filtered_pairs t [] a = tt
+filtered_pairs t (p ∷ ps) a = go (t p) (filtered_pairs t ps a.1) where
+  go : (b : Bool) → ArePairs (filter t ps) → ArePairs (cond b (p ∷ filter t ps) (filter t ps))
+  go true h = (a.0, h)
+  go false h = h
+
+pairs_joined : (ps qs : List Pair) → ArePairs ps → ArePairs qs → ArePairs (ps ++ qs)
+pairs_joined [] qs a b = b
+pairs_joined (p ∷ ps) qs a b = (a.0, pairs_joined ps qs a.1 b)
+
+pub pairs_then : (m : ℕ) (mine theirs : List Pair) → ArePairs mine → ArePairs theirs → ArePairs (mine ++ filter (is_from m) theirs)
+pairs_then m mine theirs a b = pairs_joined mine (filter (is_from m) theirs) a (filtered_pairs (is_from m) theirs b)

@@ -10,3 +10,4 @@ pub mod Json
 pub mod Faults
 pub mod Rounds
 pub mod Steps
+pub mod Laws
