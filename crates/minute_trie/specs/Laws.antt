@@ -58,9 +58,9 @@ pub record RoundsEnd : Type 0 where
 
 -- there is a round from any minute on
 pub record RoundsAreMade : Type 0 where
-  -- each side takes what the other holds from the minute on
-  pub round : (minute : ℕ) (mine theirs : List Pair) →
+  -- beside what both sides hold, each takes what the other alone holds from the minute on
+  pub round : (minute : ℕ) (common mine theirs : List Pair) →
       let got = filter (is_from minute) theirs in let taken = filter (is_from minute) mine in
-      IsRound minute mine got (mine ++ got) theirs taken (theirs ++ taken)
+      IsRound minute (common ++ mine) got ((common ++ mine) ++ got) (common ++ theirs) taken ((common ++ theirs) ++ taken)
   -- what a side has then are pairs again
-  pub pairs : (minute : ℕ) (mine theirs : List Pair) → ArePairs mine → ArePairs theirs → ArePairs (mine ++ filter (is_from minute) theirs)
+  pub pairs : (minute : ℕ) (held more : List Pair) → ArePairs held → ArePairs more → ArePairs (held ++ filter (is_from minute) more)

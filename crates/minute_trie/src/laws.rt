@@ -29,7 +29,8 @@ pub fn rounds_by_minute()
     ensures { RoundsEnd }
 {}
 
-/// A round can be made from any minute on: each side takes what the other holds from there on.
+/// A round can be made from any minute on, whatever the sides hold in common: each takes what the
+/// other alone holds from there on.
 pub fn rounds_are_made()
     ensures { RoundsAreMade }
 {}

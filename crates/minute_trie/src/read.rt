@@ -11,16 +11,19 @@ use crate::node::{HASH, Node};
 use serde_json::{Map, Value};
 use std::alloc::Global;
 
-/// Why a text is no trie: the first fault, a node before its children and they ascending.
+/// Why a text is no trie: the first fault, depth first, a node before its children and they
+/// ascending.
 #[derive(Clone, Copy, Debug, PartialEq, Eq)]
 pub enum TrieFault {
-    /// It is no JSON, or its objects and arrays nest deeper than 127.
+    /// It is no JSON, its objects and arrays nest deeper than 127, or a number in it is too large
+    /// for a float of 64 bits.
     NotJson,
     /// A node is no object, has a member other than `0`, `1`, `2` and `hash`, or a `hash` that
-    /// is no whole number of signed 32 bits. The root has the depth 0.
+    /// is no whole number of signed 32 bits (`1.0` and `-0` are none). The root has the depth 0.
     BadNode { depth: u32 },
     /// A value stands at the depth 17, where no key reaches.
     TooDeep,
+    /// There is no memory for the trie. It tells nothing of the text.
     NoMemory,
 }
 

@@ -111,7 +111,8 @@ impl Trie {
     }
 
     /// The trie of a JSON text, or the first fault of the text. A `hash` that is missing is 0,
-    /// and three children are kept.
+    /// and three children are kept. Of the members of an object that have one name the last
+    /// counts alone, and those before it have but to be JSON.
     pub fn from_json(alloc: Global, text: &Txt) -> Result<Trie, TrieFault>
         ensures read { IfOk result (IsReadingOf text.now) }
         ensures live { IfOk result (λ trie. is_spent trie ≡ false) }
