@@ -88,7 +88,7 @@ pub fn walk(left: &Node, right: &Node, levels: u32) -> u64
     }
 }
 
-/// The same below two children, of which the walk goes down to both.
+/// The same of two children behind one digit; where one is not there, the walk ends.
 #[cycle(walk)]
 fn walk_below(left: &Option<Box<Node>>, right: &Option<Box<Node>>, levels: u32) -> u64
     requires { levels < 16 }
