@@ -19,6 +19,7 @@ use Rattle.minute_trie.specs.declared.key.Digit.{Digit}
 use Rattle.minute_trie.specs.declared.key.Digit.TheVariants.{Zero, One, Two}
 use Rattle.minute_trie.specs.Held.{Held, after, or_zero}
 use Rattle.minute_trie.specs.Trie.{trie_of}
+use Rattle.minute_trie.specs.Names.{child_name, hash_name}
 use Rattle.minute_trie.specs.Json.{hash_text, key_text, object_text, child_text, members_text, trie_text}
 use Rattle.device_core.specs.declared.edit.EditFault.TheVariants.{BadId, TooManyWrites, NoMemory as EditNoMemory}
 use Rattle.device_core.specs.declared.edit.LineRefusal.{LineRefusal}
@@ -84,12 +85,12 @@ signed_plain (negsuc n) = (refl, number_plain (suc n))
 -- ---- the text of a trie
 
 hash_plain : (hash : ℕ) → Plain (hash_text hash)
-hash_plain hash = both (codes "\"hash\":") (signed_decimal (cast_signed w32 hash)) (tested (codes "\"hash\":") refl) (signed_plain (cast_signed w32 hash))
+hash_plain hash = both (key_text hash_name) (signed_decimal (cast_signed w32 hash)) (tested (key_text hash_name) refl) (signed_plain (cast_signed w32 hash))
 
-key_plain : (digit : Digit) → Plain (key_text digit)
-key_plain Zero = tested (codes "\"0\":") refl
-key_plain One = tested (codes "\"1\":") refl
-key_plain Two = tested (codes "\"2\":") refl
+key_plain : (digit : Digit) → Plain (key_text (child_name digit))
+key_plain Zero = tested (key_text (child_name Zero)) refl
+key_plain One = tested (key_text (child_name One)) refl
+key_plain Two = tested (key_text (child_name Two)) refl
 
 object_plain : (members : List ℕ) (f : Held) → Plain members → Plain (object_text members f)
 object_plain members f h =
@@ -97,7 +98,7 @@ object_plain members f h =
 
 child_plain : (digit : Digit) (text : List ℕ) (child : Option ℕ) → Plain text → Plain (child_text digit text child)
 child_plain digit text None h = tt
-child_plain digit text (Some hash) h = both (key_text digit) (text ++ codes ",") (key_plain digit) (both text (codes ",") h (refl, tt))
+child_plain digit text (Some hash) h = both (key_text (child_name digit)) (text ++ codes ",") (key_plain digit) (both text (codes ",") h (refl, tt))
 
 abbrev member_text : ℕ → Held → Digit → List ℕ
 member_text n f digit = child_text digit (object_text (members_text n (after digit f)) (after digit f)) (f (digit ∷ []))

@@ -1,5 +1,5 @@
 -- The value of a map holds what the map does, and has no fault.
-use Rattle.std.proofs.Common.{◌≡◌, ℕ, zero, suc, ◌<◌, ◌^◌, List, [], ◌∷◌, length, Option, Some, None, true, codes, w32, to_z, option_and_then, refl, sym, ap, ◌∙◌, lit≤, arith}
+use Rattle.std.proofs.Common.{◌≡◌, ℕ, zero, suc, ◌<◌, ◌^◌, List, [], ◌∷◌, length, Option, Some, None, true, w32, to_z, option_and_then, refl, sym, ap, ◌∙◌, lit≤, arith}
 use Rattle.std.proofs.Math.Path.{fun_ext}
 use Rattle.std.specs.Ordering.{nat_cmp, match_ordering}
 use Rattle.std.specs.Cmp.Lexicographic.{slice_cmp}
@@ -9,8 +9,9 @@ use Rattle.serde_json.specs.Find.{of_integer, get, get_member}
 use Rattle.minute_trie.specs.declared.key.Digit.{Digit}
 use Rattle.minute_trie.specs.declared.key.Digit.TheVariants.{Zero, One, Two}
 use Rattle.minute_trie.specs.Held.{Held, after, or_zero, IsMap}
+use Rattle.minute_trie.specs.Names.{child_name, hash_name}
 use Rattle.minute_trie.specs.Json.{trie_text}
-use Rattle.minute_trie.specs.Faults.{first_fault, of_child, all_known, member_key, held_at, fault_of_value, fault_of_text, map_of_text}
+use Rattle.minute_trie.specs.Faults.{first_fault, of_child, all_known, held_at, fault_of_value, fault_of_text, map_of_text}
 use Rattle.minute_trie.proofs.Hashes.{hash_facts}
 use Rattle.minute_trie.proofs.RoundTrip.{hash_data, child_data, node_data, map_data, map_below, hash_fits, IfThere, if_there, text_read}
 
@@ -18,30 +19,30 @@ abbrev data_child : Data → Option ℕ → Option Data
 data_child e None = None
 data_child e (Some h) = Some e
 
-skip_less : (k : List ℕ) (d : Digit) (e : Data) (o : Option ℕ) (rest : Members) → slice_cmp nat_cmp k (member_key d) ≡ Less → get_member k (child_data d e o rest) ≡ get_member k rest
+skip_less : (k : List ℕ) (d : Digit) (e : Data) (o : Option ℕ) (rest : Members) → slice_cmp nat_cmp k (child_name d) ≡ Less → get_member k (child_data d e o rest) ≡ get_member k rest
 skip_less k d e None rest l = refl
 skip_less k d e (Some h) rest l = ap (λ o. match_ordering o (get_member k rest) (Some e) (get_member k rest)) l
 
-skip_greater : (k : List ℕ) (d : Digit) (e : Data) (o : Option ℕ) (rest : Members) → slice_cmp nat_cmp k (member_key d) ≡ Greater → get_member k (child_data d e o rest) ≡ get_member k rest
+skip_greater : (k : List ℕ) (d : Digit) (e : Data) (o : Option ℕ) (rest : Members) → slice_cmp nat_cmp k (child_name d) ≡ Greater → get_member k (child_data d e o rest) ≡ get_member k rest
 skip_greater k d e None rest l = refl
 skip_greater k d e (Some h) rest l = ap (λ o. match_ordering o (get_member k rest) (Some e) (get_member k rest)) l
 
-found : (d : Digit) (e : Data) (o : Option ℕ) (rest : Members) → slice_cmp nat_cmp (member_key d) (member_key d) ≡ Equal → get_member (member_key d) rest ≡ None → get_member (member_key d) (child_data d e o rest) ≡ data_child e o
+found : (d : Digit) (e : Data) (o : Option ℕ) (rest : Members) → slice_cmp nat_cmp (child_name d) (child_name d) ≡ Equal → get_member (child_name d) rest ≡ None → get_member (child_name d) (child_data d e o rest) ≡ data_child e o
 found d e None rest l h = h
-found d e (Some x) rest l h = ap (λ o. match_ordering o (get_member (member_key d) rest) (Some e) (get_member (member_key d) rest)) l
+found d e (Some x) rest l h = ap (λ o. match_ordering o (get_member (child_name d) rest) (Some e) (get_member (child_name d) rest)) l
 
 module _ (x y z : Data) (a b c : Option ℕ) (h : ℕ) where
-  get_zero : get (codes "0") (node_data x y z a b c h) ≡ data_child x a
-  get_zero = found Zero x a _ refl (skip_less (codes "0") One y b _ refl ∙ skip_less (codes "0") Two z c _ refl)
+  get_zero : get (child_name Zero) (node_data x y z a b c h) ≡ data_child x a
+  get_zero = found Zero x a _ refl (skip_less (child_name Zero) One y b _ refl ∙ skip_less (child_name Zero) Two z c _ refl)
 
-  get_one : get (codes "1") (node_data x y z a b c h) ≡ data_child y b
-  get_one = skip_greater (codes "1") Zero x a _ refl ∙ found One y b _ refl (skip_less (codes "1") Two z c _ refl)
+  get_one : get (child_name One) (node_data x y z a b c h) ≡ data_child y b
+  get_one = skip_greater (child_name One) Zero x a _ refl ∙ found One y b _ refl (skip_less (child_name One) Two z c _ refl)
 
-  get_two : get (codes "2") (node_data x y z a b c h) ≡ data_child z c
-  get_two = skip_greater (codes "2") Zero x a _ refl ∙ skip_greater (codes "2") One y b _ refl ∙ found Two z c _ refl refl
+  get_two : get (child_name Two) (node_data x y z a b c h) ≡ data_child z c
+  get_two = skip_greater (child_name Two) Zero x a _ refl ∙ skip_greater (child_name Two) One y b _ refl ∙ found Two z c _ refl refl
 
-  get_hash : get (codes "hash") (node_data x y z a b c h) ≡ Some (number (of_integer (to_z w32 h)))
-  get_hash = skip_greater (codes "hash") Zero x a _ refl ∙ skip_greater (codes "hash") One y b _ refl ∙ skip_greater (codes "hash") Two z c _ refl
+  get_hash : get hash_name (node_data x y z a b c h) ≡ Some (number (of_integer (to_z w32 h)))
+  get_hash = skip_greater hash_name Zero x a _ refl ∙ skip_greater hash_name One y b _ refl ∙ skip_greater hash_name Two z c _ refl
 
 known_child : (d : Digit) (e : Data) (o : Option ℕ) (rest : Members) → all_known (child_data d e o rest) ≡ all_known rest
 known_child d e None rest = refl

@@ -16,7 +16,7 @@ use Rattle.minute_trie.specs.declared.key.Digit.{Digit}
 use Rattle.minute_trie.specs.declared.key.Digit.TheVariants.{Zero, One, Two}
 use Rattle.minute_trie.specs.Held.{Held, after, or_zero, IsMap}
 use Rattle.minute_trie.specs.Json.{key_text, child_text, members_text, map_text}
-use Rattle.minute_trie.specs.Faults.{member_key}
+use Rattle.minute_trie.specs.Names.{child_name, hash_name}
 use Rattle.minute_trie.proofs.Hashes.{hash_facts}
 
 -- ---- maps below a digit
@@ -35,11 +35,11 @@ hash_fits n f m = subst (λ x. x < 2 ^ 32) (sym (ap or_zero m.root.1)) (m.fits [
 -- ---- the value, as JSON
 
 abbrev hash_json : ℕ → json.Members
-hash_json h = json.member (codes "hash") (json.number (signed_decimal (to_z w32 h))) json.no_members
+hash_json h = json.member hash_name (json.number (signed_decimal (to_z w32 h))) json.no_members
 
 abbrev child_json : Digit → json.Json → Option ℕ → json.Members → json.Members
 child_json d j None rest = rest
-child_json d j (Some h) rest = json.member (member_key d) j rest
+child_json d j (Some h) rest = json.member (child_name d) j rest
 
 unfoldable map_json : ℕ → Held → json.Json
 map_json zero f = json.object (hash_json (or_zero (f [])))
@@ -65,16 +65,16 @@ key_first : (k : List ℕ) (j : json.Json) (ms : json.Members) (rest : List Toke
 unfolding print_from
 key_first k j ms rest = ap (λ ts. (quoted k ++ 58 ∷ []) ++ print_from false ts) (append_assoc (json_tokens j) (members_tokens ms) rest)
 
-quoted_hash : (quoted (codes "hash") ++ 58 ∷ []) ≡ codes "\"hash\":"
+quoted_hash : (quoted hash_name ++ 58 ∷ []) ≡ key_text hash_name
 unfolding escape_byte
 quoted_hash = refl
 
-hash_printed : (h : ℕ) (key : List ℕ) (rest : List Token) → (quoted (codes "hash") ++ 58 ∷ []) ≡ key →
+hash_printed : (h : ℕ) (key : List ℕ) (rest : List Token) → (quoted hash_name ++ 58 ∷ []) ≡ key →
     print_from false (members_tokens (hash_json h) ++ rest) ≡ key ++ (signed_decimal (to_z w32 h) ++ 125 ∷ print_from true rest)
 unfolding print_from
 hash_printed h key rest q = ap (λ k. k ++ (signed_decimal (to_z w32 h) ++ 125 ∷ print_from true rest)) q
 
-quoted_key : (d : Digit) → (quoted (member_key d) ++ 58 ∷ []) ≡ key_text d
+quoted_key : (d : Digit) → (quoted (child_name d) ++ 58 ∷ []) ≡ key_text (child_name d)
 unfolding escape_byte
 quoted_key Zero = refl
 quoted_key One = refl
@@ -94,28 +94,28 @@ printed_child : (d : Digit) (j : json.Json) (text : List ℕ) (o : Option ℕ) (
     print_from false (members_tokens (child_json d j o ms) ++ rest) ≡ child_text d text o ++ print_from false (members_tokens ms ++ rest)
 printed_child d j text None ms rest next h = refl
 printed_child d j text (Some x) ms rest next h =
-    key_first (member_key d) j ms rest
+    key_first (child_name d) j ms rest
     ∙ ap₂ (λ a b. a ++ b) (quoted_key d) (next (members_tokens ms ++ rest) ∙ ap (λ t. text ++ t) (comma ms rest h) ∙ sym (append_assoc text (44 ∷ []) (print_from false (members_tokens ms ++ rest))))
-    ∙ sym (append_assoc (key_text d) (text ++ 44 ∷ []) (print_from false (members_tokens ms ++ rest)))
+    ∙ sym (append_assoc (key_text (child_name d)) (text ++ 44 ∷ []) (print_from false (members_tokens ms ++ rest)))
 
 printed_object : (x y z : json.Json) (u v w : List ℕ) (a b c : Option ℕ) (h : ℕ) (rest : List Token) →
     ((rest : List Token) → print_from false (json_tokens x ++ rest) ≡ u ++ print_from true rest) →
     ((rest : List Token) → print_from false (json_tokens y ++ rest) ≡ v ++ print_from true rest) →
     ((rest : List Token) → print_from false (json_tokens z ++ rest) ≡ w ++ print_from true rest) →
     print_from false (json_tokens (json.object (child_json Zero x a (child_json One y b (child_json Two z c (hash_json h))))) ++ rest)
-    ≡ (123 ∷ ((child_text Zero u a ++ (child_text One v b ++ child_text Two w c)) ++ ((codes "\"hash\":" ++ signed_decimal (to_z w32 h)) ++ codes "}"))) ++ print_from true rest
+    ≡ (123 ∷ ((child_text Zero u a ++ (child_text One v b ++ child_text Two w c)) ++ ((key_text hash_name ++ signed_decimal (to_z w32 h)) ++ codes "}"))) ++ print_from true rest
 printed_object x y z u v w a b c h rest px py pz =
     begun _ ∙ ap (λ text. 123 ∷ text)
     (printed_child Zero x u a _ rest px (filled One y b _ (filled Two z c (hash_json h) tt))
     ∙ ap (λ text. child_text Zero u a ++ text) (printed_child One y v b _ rest py (filled Two z c (hash_json h) tt)
     ∙ ap (λ text. child_text One v b ++ text) (printed_child Two z w c (hash_json h) rest pz tt
-    ∙ ap (λ text. child_text Two w c ++ text) (hash_printed h (codes "\"hash\":") rest quoted_hash)))
-    ∙ regroup (child_text Zero u a) (child_text One v b) (child_text Two w c) (codes "\"hash\":") (signed_decimal (to_z w32 h)) (codes "}") (print_from true rest))
+    ∙ ap (λ text. child_text Two w c ++ text) (hash_printed h (key_text hash_name) rest quoted_hash)))
+    ∙ regroup (child_text Zero u a) (child_text One v b) (child_text Two w c) (key_text hash_name) (signed_decimal (to_z w32 h)) (codes "}") (print_from true rest))
 
 printed : (n : ℕ) (f : Held) (rest : List Token) → print_from false (json_tokens (map_json n f) ++ rest) ≡ map_text n f ++ print_from true rest
 unfolding map_json members_text
 printed zero f rest =
-    begun _ ∙ ap (λ text. 123 ∷ text) (hash_printed (or_zero (f [])) (codes "\"hash\":") rest quoted_hash ∙ regroup_leaf (codes "\"hash\":") (signed_decimal (to_z w32 (or_zero (f [])))) (codes "}") (print_from true rest))
+    begun _ ∙ ap (λ text. 123 ∷ text) (hash_printed (or_zero (f [])) (key_text hash_name) rest quoted_hash ∙ regroup_leaf (key_text hash_name) (signed_decimal (to_z w32 (or_zero (f [])))) (codes "}") (print_from true rest))
 printed (suc n) f rest =
     printed_object (map_json n (after Zero f)) (map_json n (after One f)) (map_json n (after Two f)) (map_text n (after Zero f)) (map_text n (after One f)) (map_text n (after Two f))
     (f (Zero ∷ [])) (f (One ∷ [])) (f (Two ∷ [])) (or_zero (f [])) rest (printed n (after Zero f)) (printed n (after One f)) (printed n (after Two f))
@@ -123,11 +123,11 @@ printed (suc n) f rest =
 -- ---- the value, as it is read
 
 abbrev pub hash_data : ℕ → Members
-hash_data h = member (codes "hash") (number (of_integer (to_z w32 h))) no_members
+hash_data h = member hash_name (number (of_integer (to_z w32 h))) no_members
 
 abbrev pub child_data : Digit → Data → Option ℕ → Members → Members
 child_data d e None rest = rest
-child_data d e (Some h) rest = member (member_key d) e rest
+child_data d e (Some h) rest = member (child_name d) e rest
 
 abbrev pub node_data : Data → Data → Data → Option ℕ → Option ℕ → Option ℕ → ℕ → Data
 node_data x y z a b c h = object (child_data Zero x a (child_data One y b (child_data Two z c (hash_data h))))

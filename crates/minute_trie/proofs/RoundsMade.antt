@@ -1,9 +1,9 @@
 -- A round can be made from any minute on.
-use Rattle.std.proofs.Common.{◌≡◌, ℕ, List, [], ◌∷◌, ◌++◌, filter, Bool, true, false, not, cond, refl, sym, ap, ◌∙◌, subst, IsPermutation}
+use Rattle.std.proofs.Common.{◌≡◌, ℕ, List, [], ◌∷◌, ◌++◌, filter, Bool, true, false, not, cond, refl, sym, ap, ◌∙◌, subst, append_assoc, IsPermutation}
 use Rattle.std.proofs.lemmas.List.Elements.{filter-append}
-use Rattle.std.proofs.lemmas.List.Sorted.{IsPermutation-refl, IsPermutation-append_comm}
-use Rattle.minute_trie.specs.Trie.{Pair}
-use Rattle.minute_trie.specs.Rounds.{IsGrown, is_before, is_from, RoundsAreMade}
+use Rattle.std.proofs.lemmas.List.Sorted.{IsPermutation-refl, IsPermutation-append_comm, IsPermutation-append_right}
+use Rattle.minute_trie.specs.Trie.{Pair, ArePairs}
+use Rattle.minute_trie.specs.Rounds.{IsGrown, IsRound, is_before, is_from}
 
 none_before : (t : Pair → Bool) (ps : List Pair) → filter t (filter (λ p. not (t p)) ps) ≡ []
 none_before t [] = refl
@@ -34,11 +34,33 @@ grown m ps qs = record {
 from_both : (m : ℕ) (ps qs : List Pair) → filter (is_from m) (ps ++ filter (is_from m) qs) ≡ filter (is_from m) ps ++ filter (is_from m) qs
 from_both m ps qs = filter-append (is_from m) ps (filter (is_from m) qs) ∙ ap (λ xs. filter (is_from m) ps ++ xs) (all_from (is_from m) qs)
 
-pub made : RoundsAreMade
-made m mine theirs = record {
-  mine_grown = grown m mine theirs;
-  theirs_grown = grown m theirs mine;
-  level = subst (λ xs. IsPermutation xs (filter (is_from m) (theirs ++ filter (is_from m) mine))) (sym (from_both m mine theirs))
-      (subst (λ ys. IsPermutation (filter (is_from m) mine ++ filter (is_from m) theirs) ys) (sym (from_both m theirs mine))
-      (IsPermutation-append_comm (filter (is_from m) mine) (filter (is_from m) theirs)));
+from_common : (m : ℕ) (common ps qs : List Pair) →
+    filter (is_from m) ((common ++ ps) ++ filter (is_from m) qs) ≡ filter (is_from m) common ++ (filter (is_from m) ps ++ filter (is_from m) qs)
+from_common m common ps qs =
+    from_both m (common ++ ps) qs ∙ ap (λ xs. xs ++ filter (is_from m) qs) (filter-append (is_from m) common ps)
+    ∙ append_assoc (filter (is_from m) common) (filter (is_from m) ps) (filter (is_from m) qs)
+
+pub made : (m : ℕ) (common mine theirs : List Pair) →
+    IsRound m (common ++ mine) (filter (is_from m) theirs) ((common ++ mine) ++ filter (is_from m) theirs)
+    (common ++ theirs) (filter (is_from m) mine) ((common ++ theirs) ++ filter (is_from m) mine)
+made m common mine theirs = record {
+  mine_grown = grown m (common ++ mine) theirs;
+  theirs_grown = grown m (common ++ theirs) mine;
+  level = subst (λ xs. IsPermutation xs (filter (is_from m) ((common ++ theirs) ++ filter (is_from m) mine))) (sym (from_common m common mine theirs))
+      (subst (λ ys. IsPermutation (filter (is_from m) common ++ (filter (is_from m) mine ++ filter (is_from m) theirs)) ys) (sym (from_common m common theirs mine))
+      (IsPermutation-append_right (filter (is_from m) common) _ _ (IsPermutation-append_comm (filter (is_from m) mine) (filter (is_from m) theirs))));
 }
+
+filtered_pairs : (t : Pair → Bool) (ps : List Pair) → ArePairs ps → ArePairs (filter t ps)
+filtered_pairs t [] a = tt
+filtered_pairs t (p ∷ ps) a = go (t p) (filtered_pairs t ps a.1) where
+  go : (b : Bool) → ArePairs (filter t ps) → ArePairs (cond b (p ∷ filter t ps) (filter t ps))
+  go true h = (a.0, h)
+  go false h = h
+
+pairs_joined : (ps qs : List Pair) → ArePairs ps → ArePairs qs → ArePairs (ps ++ qs)
+pairs_joined [] qs a b = b
+pairs_joined (p ∷ ps) qs a b = (a.0, pairs_joined ps qs a.1 b)
+
+pub pairs_then : (m : ℕ) (mine theirs : List Pair) → ArePairs mine → ArePairs theirs → ArePairs (mine ++ filter (is_from m) theirs)
+pairs_then m mine theirs a b = pairs_joined mine (filter (is_from m) theirs) a (filtered_pairs (is_from m) theirs b)

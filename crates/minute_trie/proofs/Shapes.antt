@@ -1,5 +1,5 @@
 -- What a trie holds is a map of at most 16 digits.
-use Rattle.std.proofs.Common.{◌≡◌, ℕ, zero, suc, ◌-◌, ◌<◌, ◌≤◌, ◌^◌, codes, ℤ, pos, negsuc, List, [], ◌∷◌, ◌++◌, map, filter, length, Option, Some, None, Bool, true, false, ◌&&◌, cond, is_some, bit_xor, FitsSigned, w32, of_z, option_and_then, refl, sym, ap, ◌∙◌, subst, lit<, lit≤, arith}
+use Rattle.std.proofs.Common.{◌≡◌, ℕ, zero, suc, ◌-◌, ◌<◌, ◌≤◌, ◌^◌, ℤ, pos, negsuc, List, [], ◌∷◌, ◌++◌, map, filter, length, Option, Some, None, Bool, true, false, ◌&&◌, cond, is_some, bit_xor, FitsSigned, w32, of_z, option_and_then, refl, sym, ap, ◌∙◌, subst, lit<, lit≤, arith}
 use Rattle.std.proofs.lemmas.Nat.{xor_lt}
 use Rattle.std.proofs.lemmas.Bool.Decides.{nat_tests}
 use Rattle.serde_json.specs.Data.{Data}
@@ -14,7 +14,8 @@ use Rattle.minute_trie.specs.Pruned.{Entry, xor_all, hash_of, lies_below, xor, s
 use Rattle.minute_trie.specs.Held.{Held, after, or_zero, IsMap}
 use Rattle.minute_trie.specs.Trie.{Pair, IsPair, stamp_pair, entries_of, trie_of, ArePairs}
 use Rattle.minute_trie.specs.Adding.{xored, instead, with_two_greatest, added, with_pair}
-use Rattle.minute_trie.specs.Faults.{is_node, first_fault, of_child, or_else, hash_of_number, whole_number, member_key, held_at, fault_of_value, fault_of_text, map_of_text}
+use Rattle.minute_trie.specs.Names.{child_name, hash_name}
+use Rattle.minute_trie.specs.Faults.{is_node, first_fault, of_child, or_else, hash_of_number, whole_number, held_at, fault_of_value, fault_of_text, map_of_text}
 use Rattle.std.proofs.Math.Facts.{sfits_to_z}
 use Rattle.hybrid_clock.specs.declared.stamp.Stamp.{Stamp}
 use Rattle.hybrid_clock.specs.Stamp.{IsStamp, stamp_text}
@@ -115,8 +116,8 @@ through_fits p None h next e = absurd (cc)
 through_fits p (Some d) h next e = next d h e
 
 held_fits : (p : List Digit) (d : Data) (h : ℕ) → held_at p d ≡ Some h → h < 2 ^ 32
-held_fits [] d h e = let k : hash_of_number (option_and_then whole_number (get (codes "hash") d)) ≡ h = cc in subst (λ x. x < 2 ^ 32) k (hash_small (option_and_then whole_number (get (codes "hash") d)))
-held_fits (c ∷ p) d h e = through_fits p (get (member_key c) d) h (held_fits p) e
+held_fits [] d h e = let k : hash_of_number (option_and_then whole_number (get hash_name d)) ≡ h = cc in subst (λ x. x < 2 ^ 32) k (hash_small (option_and_then whole_number (get hash_name d)))
+held_fits (c ∷ p) d h e = through_fits p (get (child_name c) d) h (held_fits p) e
 
 through_closed : (p q : List Digit) (o : Option Data) → ((d : Data) → held_at p d ≡ None → held_at (p ++ q) d ≡ None) → option_and_then (held_at p) o ≡ None → option_and_then (held_at (p ++ q)) o ≡ None
 through_closed p q None next e = refl
@@ -124,7 +125,7 @@ through_closed p q (Some d) next e = next d e
 
 held_closed : (p q : List Digit) (d : Data) → held_at p d ≡ None → held_at (p ++ q) d ≡ None
 held_closed [] q d e = absurd (cc)
-held_closed (c ∷ p) q d e = through_closed p q (get (member_key c) d) (held_closed p q) e
+held_closed (c ∷ p) q d e = through_closed p q (get (child_name c) d) (held_closed p q) e
 
 right_parts : (b : Bool) (x y z : Option TrieFault) (f : TrieFault) → cond b (or_else x (or_else y z)) (Some f) ≡ None → (x ≡ None) × (y ≡ None) × (z ≡ None)
 right_parts false x y z f h = absurd (cc)
@@ -134,10 +135,10 @@ right_parts true None (Some g) z f h = absurd (cc)
 right_parts true (Some g) y z f h = absurd (cc)
 
 parts : (n : ℕ) (d : Data) → first_fault (suc n) d ≡ None →
-    (of_child (first_fault n) (get (codes "0") d) ≡ None) × (of_child (first_fault n) (get (codes "1") d) ≡ None) × (of_child (first_fault n) (get (codes "2") d) ≡ None)
-parts n d h = right_parts (is_node d) (of_child (first_fault n) (get (codes "0") d)) (of_child (first_fault n) (get (codes "1") d)) (of_child (first_fault n) (get (codes "2") d)) (BadNode (16 - n)) h
+    (of_child (first_fault n) (get (child_name Zero) d) ≡ None) × (of_child (first_fault n) (get (child_name One) d) ≡ None) × (of_child (first_fault n) (get (child_name Two) d) ≡ None)
+parts n d h = right_parts (is_node d) (of_child (first_fault n) (get (child_name Zero) d)) (of_child (first_fault n) (get (child_name One) d)) (of_child (first_fault n) (get (child_name Two) d)) (BadNode (16 - n)) h
 
-child_right : (n : ℕ) (d : Data) (c : Digit) → first_fault (suc n) d ≡ None → of_child (first_fault n) (get (member_key c) d) ≡ None
+child_right : (n : ℕ) (d : Data) (c : Digit) → first_fault (suc n) d ≡ None → of_child (first_fault n) (get (child_name c) d) ≡ None
 child_right n d Zero h = (parts n d h).0
 child_right n d One h = (parts n d h).1
 child_right n d Two h = (parts n d h).2
@@ -152,10 +153,10 @@ through_short n p (Some d) next h = next d h
 
 held_short : (n : ℕ) (p : List Digit) (d : Data) → n < length p → first_fault (suc n) d ≡ None → held_at p d ≡ None
 held_short n [] d l h = absurd (omega arith)
-held_short zero (c ∷ p) d l h = too_deep p (get (member_key c) d) (child_right 0 d c h)
+held_short zero (c ∷ p) d l h = too_deep p (get (child_name c) d) (child_right 0 d c h)
 held_short (suc n) (c ∷ p) d l h =
     let k : n < length p = omega arith in
-    through_short (suc n) p (get (member_key c) d) (λ e. held_short n p e k) (child_right (suc n) d c h)
+    through_short (suc n) p (get (child_name c) d) (λ e. held_short n p e k) (child_right (suc n) d c h)
 
 of_value : (o : Option Data) → fault_of_value o ≡ None → IsMap 16 (λ p. option_and_then (held_at p) o)
 of_value None h = absurd (cc)

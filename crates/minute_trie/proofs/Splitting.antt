@@ -3,6 +3,7 @@ use Rattle.std.proofs.Common.{◌≡◌, ℕ, zero, suc, ◌+◌, ◌*◌, ◌/�
 use Rattle.std.proofs.Math.Nat.{mod-eq_of_lt}
 use Rattle.std.proofs.lemmas.Bool.Decides.{nat_tests}
 use Rattle.std.proofs.lemmas.Nat.{mod-mul-add, div-add-mod'}
+use Rattle.hybrid_clock.specs.Stamp.{window}
 use Rattle.minute_trie.specs.declared.key.Digit.{Digit}
 use Rattle.minute_trie.specs.declared.key.Digit.TheVariants.{Zero, One, Two}
 use Rattle.minute_trie.specs.Key.{digit_of, key, same_digit}
@@ -140,5 +141,5 @@ lex_digits (suc n) m (d ∷ s) =
     let rest : m % 3 ^ n < 3 ^ n = omega arith in
     rw (pow-suc, mod_split m (3 ^ n) pos) (compared (m / 3 ^ n % 3) d (3 ^ n) (m % 3 ^ n) (padded n s) _ small rest (padded_lt n s) (lex_digits n m s))
 
-pub earlier : (m : ℕ) (s : List Digit) → m < 43_046_721 → nat_lt m (padded 16 s) ≡ precedes (key m) s
+pub earlier : (m : ℕ) (s : List Digit) → m < window → nat_lt m (padded 16 s) ≡ precedes (key m) s
 earlier m s h = rw (key_is m) (ap (λ x. nat_lt x (padded 16 s)) (sym (mod-eq_of_lt h)) ∙ lex_digits 16 m s)

@@ -6,6 +6,7 @@ use Rattle.minute_trie.specs.declared.node.Node.{Node, out-Node}
 use Rattle.minute_trie.specs.declared.key.Digit.{Digit}
 use Rattle.minute_trie.specs.declared.key.Digit.TheVariants.{Zero, One, Two}
 use Rattle.minute_trie.specs.Held.{Held, at_node, at_below, after, Child}
+use Rattle.minute_trie.specs.Names.{child_name}
 use Rattle.minute_trie.specs.Json.{key_text, child_text, members_text, map_text}
 use Rattle.minute_trie.proofs.Nodes.{at_open}
 
@@ -31,10 +32,10 @@ members (suc n) node a b c d some e f g =
     joined (member_of n Zero (after Zero (at_node node))) (member_of n One (after One (at_node node))) (member_of n Two (after Two (at_node node))) a b c d x y z
 
 -- the member of a child that is there
-pub member_there : (digits : ℕ) (d : Digit) (node : Node) → child_text d (map_text digits (at_node node)) (at_node node []) ≡ key_text d ++ (map_text digits (at_node node) ++ codes ",")
+pub member_there : (digits : ℕ) (d : Digit) (node : Node) → child_text d (map_text digits (at_node node)) (at_node node []) ≡ key_text (child_name d) ++ (map_text digits (at_node node) ++ codes ",")
 member_there digits d node = ap (child_text d (map_text digits (at_node node))) (at_open node [])
 
-pub child_written : (digits : ℕ) (d : Digit) (child : Child) (b : Box Node Global) (node : Node) (k a x y z : List ℕ) → child ≡ Some b → node ≡ b.value → k ≡ key_text d →
+pub child_written : (digits : ℕ) (d : Digit) (child : Child) (b : Box Node Global) (node : Node) (k a x y z : List ℕ) → child ≡ Some b → node ≡ b.value → k ≡ key_text (child_name d) →
     x ≡ a ++ k → y ≡ x ++ map_text digits (at_node node) → z ≡ y ++ codes "," → z ≡ a ++ child_text d (map_text digits (at_below child)) (at_below child [])
 child_written digits d child b node k a x y z some is key e f g =
     joined k (map_text digits (at_node node)) (codes ",") a x y z e f g

@@ -5,7 +5,9 @@ pub mod Held
 pub mod Trie
 pub mod Adding
 pub mod Diff
+pub mod Names
 pub mod Json
 pub mod Faults
 pub mod Rounds
 pub mod Steps
+pub mod Laws

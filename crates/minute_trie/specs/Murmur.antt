@@ -2,6 +2,7 @@
 use Rattle.std.specs.Prelude.{ℕ, zero, ◌+◌, ◌*◌, ◌/◌, ◌%◌, ◌^◌, List, [], ◌∷◌, length, bit_xor}
 use Rattle.std.specs.Int.{w32, rotate_left}
 
+-- a block before it is mixed in
 unfoldable pub scrambled : ℕ → ℕ
 scrambled k = rotate_left w32 (k * 0xcc9e2d51 % 2 ^ 32) 15 * 0x1b873593 % 2 ^ 32
 
@@ -18,16 +19,19 @@ abbrev pub tail_of : List ℕ → ℕ
 tail_of [] = zero
 tail_of (b ∷ bs) = b + 256 * tail_of bs
 
--- the state once all bytes are taken, by blocks of four, and then up to three that are left
-abbrev pub taken : ℕ → List ℕ → ℕ
-taken h (a ∷ b ∷ c ∷ d ∷ rest) = taken (mixed h (word_of a b c d)) rest
-taken h rest = bit_xor h (scrambled (tail_of rest))
+-- the state once all bytes are mixed in: by blocks of four, and then up to three that are left
+abbrev pub all_mixed : ℕ → List ℕ → ℕ
+all_mixed h (a ∷ b ∷ c ∷ d ∷ rest) = all_mixed (mixed h (word_of a b c d)) rest
+all_mixed h rest = bit_xor h (scrambled (tail_of rest))
 
-unfoldable pub shifted : ℕ → ℕ → ℕ
-shifted h n = bit_xor h (h / 2 ^ n)
+-- a number XORed with itself shifted to the right by n bits
+unfoldable pub xor_shifted : ℕ → ℕ → ℕ
+xor_shifted h n = bit_xor h (h / 2 ^ n)
 
-unfoldable pub ended : ℕ → ℕ
-ended h = shifted (shifted (shifted h 16 * 0x85ebca6b % 2 ^ 32) 13 * 0xc2b2ae35 % 2 ^ 32) 16
+-- the finalization, which lets each bit of the state have its part in each bit of the hash
+unfoldable pub finalized : ℕ → ℕ
+finalized h = xor_shifted (xor_shifted (xor_shifted h 16 * 0x85ebca6b % 2 ^ 32) 13 * 0xc2b2ae35 % 2 ^ 32) 16
 
+-- the hash of the bytes
 abbrev pub murmur : List ℕ → ℕ
-murmur bytes = ended (bit_xor (taken 0 bytes) (length bytes % 2 ^ 32))
+murmur bytes = finalized (bit_xor (all_mixed 0 bytes) (length bytes % 2 ^ 32))

@@ -15,13 +15,16 @@ begins key [] = true
 begins [] (d ∷ p) = false
 begins (c ∷ key) (d ∷ p) = same_digit c d && begins key p
 
+-- does the entry's key begin with p?
 abbrev pub lies_below : List Digit → Entry → Bool
 lies_below p e = begins e.0 p
 
+-- the XOR of numbers, 0 for none
 abbrev pub xor_all : List ℕ → ℕ
 xor_all [] = zero
 xor_all (n ∷ ns) = bit_xor n (xor_all ns)
 
+-- the hash of an entry
 abbrev pub hash_of : Entry → ℕ
 hash_of e = e.1
 
@@ -29,6 +32,7 @@ hash_of e = e.1
 abbrev pub xor : List Entry → List Digit → ℕ
 xor es p = xor_all (map hash_of (filter (lies_below p) es))
 
+-- is it the string of no digits?
 abbrev pub is_empty : List Digit → Bool
 is_empty [] = true
 is_empty (d ∷ p) = false
@@ -48,11 +52,12 @@ above Zero = One ∷ Two ∷ []
 above One = Two ∷ []
 above Two = []
 
+-- the strings that differ from d ∷ p in the last digit alone and have a greater one there
 abbrev pub greater_from : Digit → List Digit → List (List Digit)
 greater_from d [] = map (λ e. e ∷ []) (above d)
 greater_from d (e ∷ p) = map (λ q. d ∷ q) (greater_from e p)
 
--- the strings that differ from p in the last digit alone and have a greater one there
+-- the same of any string; the empty one has no last digit
 abbrev pub greater : List Digit → List (List Digit)
 greater [] = []
 greater (d ∷ p) = greater_from d p

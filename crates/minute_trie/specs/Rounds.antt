@@ -1,12 +1,15 @@
 -- A round of a sync: two sides exchange all that they hold from a minute on.
-use Rattle.std.specs.Prelude.{◌≡◌, ℕ, List, ◌∷◌, ◌++◌, filter, Bool, not, nat_lt}
+use Rattle.std.specs.Prelude.{◌≡◌, ℕ, List, [], ◌∷◌, ◌++◌, filter, Option, None, Bool, not, nat_lt}
 use Rattle.std.specs.List.Sorted.{IsPermutation}
 use Rattle.minute_trie.specs.declared.key.Digit.{Digit}
-use Rattle.minute_trie.specs.Trie.{Pair}
+use Rattle.minute_trie.specs.Trie.{Pair, trie_of, ArePairs}
+use Rattle.minute_trie.specs.Diff.{end_of_walk, minute_of, difference}
 
+-- does the pair stand before the minute?
 abbrev pub is_before : ℕ → Pair → Bool
 is_before minute p = nat_lt p.0 minute
 
+-- does it stand in the minute or after it?
 abbrev pub is_from : ℕ → Pair → Bool
 is_from minute p = not (nat_lt p.0 minute)
 
@@ -25,8 +28,24 @@ pub record IsRound (minute : ℕ) (mine got mine_now theirs taken theirs_now : L
 abbrev pub IsProperPrefix : List Digit → List Digit → Type 0
 IsProperPrefix p s = (c : Digit) × ((r : List Digit) × (s ≡ p ++ c ∷ r))
 
--- there is such a round from any minute on: each side takes what the other holds from there on
-abbrev pub RoundsAreMade : Type 0
-RoundsAreMade = (minute : ℕ) (mine theirs : List Pair) →
-    let got = filter (is_from minute) theirs in let taken = filter (is_from minute) mine in
-    IsRound minute mine got (mine ++ got) theirs taken (theirs ++ taken)
+-- what the two sides hold
+abbrev pub Sides : Type 0
+Sides = List Pair × List Pair
+
+-- where the walk over the tries of both sides ends
+abbrev pub end_of_sides : Sides → List Digit
+end_of_sides s = end_of_walk (trie_of s.0) (trie_of s.1)
+
+-- the moment from which on the tries of both sides differ, or none where they have one hash at the root
+abbrev pub difference_of_sides : Sides → Option ℕ
+difference_of_sides s = difference (trie_of s.0) (trie_of s.1)
+
+-- a round from the minute on at which the sides before it differ
+abbrev pub IsRoundOfSides : Sides → Sides → Type 0
+IsRoundOfSides s t = (got : List Pair) × ((taken : List Pair) × IsRound (minute_of (end_of_sides s)) s.0 got t.0 s.1 taken t.1)
+
+-- sides that hold pairs, and such rounds one after the other: what the sides hold after each, while they differ before it
+abbrev pub AreRounds : Sides → List Sides → Type 0
+AreRounds s [] = ArePairs s.0 × ArePairs s.1
+AreRounds s (t ∷ rounds) =
+    (ArePairs s.0 × ArePairs s.1) × (difference_of_sides s ≡ None → ⊥) × IsRoundOfSides s t × AreRounds t rounds

@@ -2,7 +2,7 @@
 use Rattle.std.specs.Prelude.{◌≡◌, ◌<◌, ◌/◌, ℕ, ℤ, List, [], ◌∷◌, map, Bool, FitsSigned}
 use Rattle.std.specs.Int.{w32, cast_signed, cast_unsigned}
 use Rattle.hybrid_clock.specs.declared.stamp.Stamp.{Stamp}
-use Rattle.hybrid_clock.specs.Stamp.{stamp_text}
+use Rattle.hybrid_clock.specs.Stamp.{stamp_text, window}
 use Rattle.minute_trie.specs.declared.trie.Trie.{Trie}
 use Rattle.minute_trie.specs.Key.{key}
 use Rattle.minute_trie.specs.Murmur.{murmur}
@@ -17,9 +17,11 @@ Pair = ℕ × ℤ
 abbrev pub stamp_pair : Stamp → Pair
 stamp_pair s = (s.millis / 60_000, cast_signed w32 (murmur (stamp_text s)))
 
+-- the entry of a pair
 abbrev pub entry_of : Pair → Entry
 entry_of p = (key p.0, cast_unsigned w32 p.1)
 
+-- the same of each pair of a list
 abbrev pub entries_of : List Pair → List Entry
 entries_of ps = map entry_of ps
 
@@ -35,14 +37,16 @@ held trie = at_node trie.root
 abbrev pub is_spent : Trie → Bool
 is_spent trie = trie.spent
 
+-- a trie that holds what the trie of the pairs does
 pub record IsTrieOf (pairs : List Pair) (trie : Trie) : Type 0 where
   pub same : held trie ≡ trie_of pairs
 
 -- the minute has a key, and the hash has 32 bits
 pub record IsPair (p : Pair) : Type 0 where
-  pub within : p.0 < 43_046_721
+  pub within : p.0 < window
   pub fits : FitsSigned w32 p.1
 
+-- a list of such pairs
 abbrev pub ArePairs : List Pair → Type 0
 ArePairs [] = Unit {0}
 ArePairs (p ∷ ps) = IsPair p × ArePairs ps

@@ -1,6 +1,6 @@
 //! MurmurHash3, the variant of 32 bits, with the seed 0.
 ghost use Rattle.std.specs.Prelude.{◌≡◌, ◌≤◌, ◌<◌, ◌^◌, length, slice_index};
-ghost use Rattle.minute_trie.specs.Murmur.{scrambled, mixed, word_of, tail_of, ended, murmur};
+ghost use Rattle.minute_trie.specs.Murmur.{scrambled, mixed, word_of, tail_of, finalized, murmur};
 
 /// A block, scrambled.
 #[tactic(auto, unfolding(crate::specs::Murmur::scrambled))]
@@ -53,9 +53,9 @@ fn word(bytes: &[u8]) -> u32
 }
 
 /// Spreads the bits of the state.
-#[tactic(auto, unfolding(crate::specs::Murmur::ended, crate::specs::Murmur::shifted))]
-fn end(state: u32) -> u32
-    ensures { result ≡ ended state }
+#[tactic(auto, unfolding(crate::specs::Murmur::finalized, crate::specs::Murmur::xor_shifted))]
+fn finalize(state: u32) -> u32
+    ensures { result ≡ finalized state }
 {
     let state = state ^ (state >> 16);
     let state = state.wrapping_mul(0x85eb_ca6b);
@@ -76,5 +76,5 @@ pub fn hash32(bytes: &[u8]) -> u32
         rest = &rest[4..];
     }
     let state = state ^ scramble(tail(rest));
-    end(state ^ (bytes.len() % 0x1_0000_0000) as u32)
+    finalize(state ^ (bytes.len() % 0x1_0000_0000) as u32)
 }

@@ -1,6 +1,7 @@
 //! The key of a minute.
 ghost use Rattle.std.specs.Prelude.{◌≡◌, ◌<◌};
 ghost use Rattle.minute_trie.specs.Key.{digit_at, key};
+ghost use Rattle.minute_trie.specs.Names.{child_name};
 
 /// A digit to the base 3.
 #[derive(Clone, Copy, Debug, PartialEq, Eq)]
@@ -8,6 +9,19 @@ pub enum Digit {
     Zero,
     One,
     Two,
+}
+
+impl Digit {
+    /// The name in JSON of the child behind it.
+    pub(crate) fn name(self) -> &'static str
+        ensures { result.now ≡ child_name self }
+    {
+        match self {
+            Digit::Zero => "0",
+            Digit::One => "1",
+            Digit::Two => "2",
+        }
+    }
 }
 
 /// The digit of the minute at the place with this worth.

@@ -8,6 +8,9 @@ use crate::key::Digit;
 use field_values::NoMemory;
 use std::alloc::Global;
 
+/// The name in JSON of a node's hash.
+pub const HASH: &str = "hash";
+
 /// The XOR of the hashes below, as a pattern of 32 bits, and the children that are there.
 #[derive(Drop)]
 pub struct Node {

@@ -2,23 +2,28 @@
 ghost use Rattle.std.specs.Prelude.{◌≡◌, ◌≤◌, ◌<◌, IfOk, IfErr};
 ghost use Rattle.serde_json.specs.Find.{get};
 ghost use Rattle.serde_json.specs.View.{view, members_view};
+ghost use Rattle.minute_trie.specs.Names.{child_name};
 ghost use Rattle.minute_trie.specs.Faults.{first_fault, of_child, all_known, is_node, is_known, hash_of_node, IsTrieFault};
 ghost use Rattle.minute_trie.specs.Steps.{IsReading, IsReadingBelow};
 
-use crate::node::Node;
+use crate::key::Digit;
+use crate::node::{HASH, Node};
 use serde_json::{Map, Value};
 use std::alloc::Global;
 
-/// Why a text is no trie: the first fault, a node before its children and they ascending.
+/// Why a text is no trie: the first fault, depth first, a node before its children and they
+/// ascending.
 #[derive(Clone, Copy, Debug, PartialEq, Eq)]
 pub enum TrieFault {
-    /// It is no JSON, or its objects and arrays nest deeper than 127.
+    /// It is no JSON, its objects and arrays nest deeper than 127, or a number in it is too large
+    /// for a float of 64 bits.
     NotJson,
     /// A node is no object, has a member other than `0`, `1`, `2` and `hash`, or a `hash` that
-    /// is no whole number of signed 32 bits. The root has the depth 0.
+    /// is no whole number of signed 32 bits (`1.0` and `-0` are none). The root has the depth 0.
     BadNode { depth: u32 },
     /// A value stands at the depth 17, where no key reaches.
     TooDeep,
+    /// There is no memory for the trie. It tells nothing of the text.
     NoMemory,
 }
 
@@ -35,9 +40,9 @@ pub fn read_node(alloc: Global, value: &Value, levels: u32) -> Result<Node, Trie
     if !is_trie_node(value) {
         return Err(TrieFault::BadNode { depth: 17 - levels });
     }
-    let zero = read_child(alloc, value, "0", levels - 1)?;
-    let one = read_child(alloc, value, "1", levels - 1)?;
-    let two = read_child(alloc, value, "2", levels - 1)?;
+    let zero = read_child(alloc, value, Digit::Zero, levels - 1)?;
+    let one = read_child(alloc, value, Digit::One, levels - 1)?;
+    let two = read_child(alloc, value, Digit::Two, levels - 1)?;
     Ok(Node {
         hash: hash_of(value),
         zero,
@@ -46,19 +51,19 @@ pub fn read_node(alloc: Global, value: &Value, levels: u32) -> Result<Node, Trie
     })
 }
 
-/// The child of that name, where it is there.
+/// The child behind the digit, where it is there.
 #[cycle(read)]
 fn read_child(
     alloc: Global,
     value: &Value,
-    key: &str,
+    digit: Digit,
     levels: u32,
 ) -> Result<Option<Box<Node>>, TrieFault>
     requires { levels < 17 }
-    ensures ok { IfOk result (IsReadingBelow levels (get key.now (view value.now))) }
-    ensures err { IfErr result (IsTrieFault (of_child (first_fault levels) (get key.now (view value.now)))) }
+    ensures ok { IfOk result (IsReadingBelow levels (get (child_name digit) (view value.now))) }
+    ensures err { IfErr result (IsTrieFault (of_child (first_fault levels) (get (child_name digit) (view value.now)))) }
 {
-    match value.get(key) {
+    match value.get(digit.name()) {
         None => Ok(None),
         Some(child) => {
             let node = read_node(alloc, child, levels)?;
@@ -74,7 +79,7 @@ fn read_child(
 fn hash_of(value: &Value) -> u32
     ensures { result ≡ hash_of_node (view value.now) }
 {
-    match value.get("hash") {
+    match value.get(HASH) {
         None => 0,
         Some(hash) => match hash.as_i64() {
             None => 0,
@@ -96,24 +101,26 @@ fn is_trie_node(value: &Value) -> bool
     }
 }
 
+/// Whether each member has a name and a value that a node may have.
 fn has_known_members(members: &Map<String, Value>) -> bool
     ensures { result ≡ all_known (members_view members.now.entries) }
 {
-    for (key, member) in members.iter() {
-        if !is_known_member(key.as_str(), member) {
+    for (name, member) in members.iter() {
+        if !is_known_member(name.as_str(), member) {
             return false;
         }
     }
     true
 }
 
-fn is_known_member(key: &str, member: &Value) -> bool
-    ensures { result ≡ is_known key.now (view member.now) }
+/// Whether a node may have the member: a child, or a hash.
+fn is_known_member(name: &str, member: &Value) -> bool
+    ensures { result ≡ is_known name.now (view member.now) }
 {
-    if key == "0" || key == "1" || key == "2" {
+    if name == Digit::Zero.name() || name == Digit::One.name() || name == Digit::Two.name() {
         return true;
     }
-    if key != "hash" {
+    if name != HASH {
         return false;
     }
     match member.as_i64() {

@@ -160,6 +160,10 @@ fn reads_texts(rt: HostRuntime) -> Result<(), Fail> {
             "{\"2\":{},\"1\":{},\"0\":{},\"hash\":1}",
             "{\"0\":{\"hash\":0},\"1\":{\"hash\":0},\"2\":{\"hash\":0},\"hash\":1}",
         ),
+        (
+            "{\"hash\":null,\"1\":[],\"hash\":3,\"\\u0031\":{}}",
+            "{\"1\":{\"hash\":0},\"hash\":3}",
+        ),
         (TWO, TWO),
     ] {
         let trie = read(rt.alloc(), text)?;
@@ -183,6 +187,12 @@ fn refuses_texts(rt: HostRuntime) -> Result<(), Fail> {
         ("{\"hash\":null}", TrieFault::BadNode { depth: 0 }),
         ("{\"hash\":2147483648}", TrieFault::BadNode { depth: 0 }),
         ("{\"hash\":1.0}", TrieFault::BadNode { depth: 0 }),
+        ("{\"hash\":-0}", TrieFault::BadNode { depth: 0 }),
+        ("{\"hash\":1e999}", TrieFault::NotJson),
+        (
+            "{\"hash\":1,\"hash\":null}",
+            TrieFault::BadNode { depth: 0 },
+        ),
         (
             "{\"1\":{\"hash\":0,\"0\":{\"x\":0}},\"0\":{\"2\":1}}",
             TrieFault::BadNode { depth: 2 },

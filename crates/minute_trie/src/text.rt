@@ -4,7 +4,7 @@ ghost use Rattle.minute_trie.specs.Held.{at_node, at_below};
 ghost use Rattle.minute_trie.specs.Json.{map_text, members_text, child_text, hash_text, key_text};
 
 use crate::key::Digit;
-use crate::node::Node;
+use crate::node::{HASH, Node};
 use field_values::NoMemory;
 
 /// Writes a node at the end of the text, with so many digits below it.
@@ -48,7 +48,7 @@ fn write_child(
     match child {
         None => Ok(()),
         Some(node) => {
-            out.push_str(member_key(digit))?;
+            write_key(digit.name(), out)?;
             write_node(node, digits, out)?;
             out.push_str(",")?;
             Ok(())
@@ -56,20 +56,20 @@ fn write_child(
     }
 }
 
-fn member_key(digit: Digit) -> &'static str
-    ensures { result.now ≡ key_text digit }
+/// Writes what stands before the value of the member of this name.
+fn write_key(name: &str, out: &mut String) -> Result<(), NoMemory>
+    ensures { OnOk result (string_bytes out.new ≡ string_bytes out.old ++ key_text name.now) }
 {
-    match digit {
-        Digit::Zero => "\"0\":",
-        Digit::One => "\"1\":",
-        Digit::Two => "\"2\":",
-    }
+    write!(out, "\"{name}\":")?;
+    Ok(())
 }
 
+/// Writes the hash, which is the last member of a node, and the end of the node.
 fn write_hash(hash: u32, out: &mut String) -> Result<(), NoMemory>
     ensures { OnOk result (string_bytes out.new ≡ string_bytes out.old ++ (hash_text hash ++ codes "}")) }
 {
     let signed = hash.cast_signed();
-    write!(out, "\"hash\":{signed}}}")?;
+    write_key(HASH, out)?;
+    write!(out, "{signed}}}")?;
     Ok(())
 }

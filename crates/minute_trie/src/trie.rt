@@ -2,7 +2,7 @@
 ghost use Rattle.std.specs.Prelude.{◌≡◌, ◌<◌, ◌++◌, ◌∷◌, [], List, true, false, IfOk, IfErr, OnOk, OnErr};
 ghost use Rattle.std.specs.Int.{w32, cast_signed};
 ghost use Rattle.serde_json.specs.Errors.{IsMemory};
-ghost use Rattle.hybrid_clock.specs.Stamp.{IsStamp};
+ghost use Rattle.hybrid_clock.specs.Stamp.{IsStamp, window};
 ghost use Rattle.minute_trie.specs.Held.{or_zero};
 ghost use Rattle.minute_trie.specs.Trie.{Pair, stamp_pair, held, is_spent, IsTrieOf};
 ghost use Rattle.minute_trie.specs.Adding.{with_pair};
@@ -65,7 +65,7 @@ impl Trie {
     /// Adds a hash in a minute, counted from the start of 1970. After an error the trie is spent.
     pub fn insert_hash(&mut self, minute: u32, hash: i32) -> Result<(), NoMemory>
         requires live { is_spent self.old ≡ false }
-        requires window { minute < 43_046_721 }
+        requires window { minute < window }
         ensures inserted { OnOk result ((pairs : List Pair) → IsTrieOf pairs self.old
             → IsTrieOf (pairs ++ (minute, hash) ∷ []) self.new) }
 
@@ -111,7 +111,8 @@ impl Trie {
     }
 
     /// The trie of a JSON text, or the first fault of the text. A `hash` that is missing is 0,
-    /// and three children are kept.
+    /// and three children are kept. Of the members of an object that have one name the last
+    /// counts alone, and those before it have but to be JSON.
     pub fn from_json(alloc: Global, text: &Txt) -> Result<Trie, TrieFault>
         ensures read { IfOk result (IsReadingOf text.now) }
         ensures live { IfOk result (λ trie. is_spent trie ≡ false) }

@@ -6,14 +6,18 @@ ghost use Rattle.minute_trie.specs.Diff.{turn_of, digit_by_turn, way_down, walk,
 use crate::key::Digit;
 use crate::node::Node;
 
-/// What the walk does at a key.
+/// What the walk does at a child.
 #[derive(Clone, Copy, Debug, PartialEq, Eq)]
 pub enum Turn {
+    /// It goes on to the next child.
     On,
+    /// It goes down to this one.
     Down,
+    /// It ends at the parent.
     Stop,
 }
 
+/// What the walk does at two children behind one digit.
 fn turn_between(left: &Option<Box<Node>>, right: &Option<Box<Node>>) -> Turn
     ensures { result ≡ turn_of (at_below left.now []) (at_below right.now []) }
 {
@@ -39,6 +43,7 @@ fn next_digit(left: &Node, right: &Node) -> Option<Digit>
     digit_by_turn(turn_between(&left.zero, &right.zero), Digit::Zero, at_one)
 }
 
+/// The digit by which the walk goes down once it came to a child, where the next children give `next`.
 fn digit_by_turn(turn: Turn, digit: Digit, next: Option<Digit>) -> Option<Digit>
     ensures { result ≡ digit_by_turn turn digit next }
 {
@@ -83,6 +88,7 @@ pub fn walk(left: &Node, right: &Node, levels: u32) -> u64
     }
 }
 
+/// The same of two children behind one digit; where one is not there, the walk ends.
 #[cycle(walk)]
 fn walk_below(left: &Option<Box<Node>>, right: &Option<Box<Node>>, levels: u32) -> u64
     requires { levels < 16 }

@@ -1,6 +1,6 @@
-use Rattle.std.proofs.Common.{sym, string_bytes}
+use Rattle.std.proofs.Common.{sym, ap, string_bytes}
 use Rattle.std.proofs.lemmas.List.{append-nil}
-use Rattle.minute_trie.specs.Json.{members_text}
+use Rattle.minute_trie.specs.Json.{key_text, members_text}
 use Rattle.minute_trie.proofs.Texts.{members, child_written}
 use Rattle.minute_trie.proofs.text.+write.Goals as goal
 
@@ -13,7 +13,7 @@ write_members-returns t c =
     members c.args.digits c.args.node.now (string_bytes c.args.out.now) (string_bytes c.write_child.new.out) (string_bytes c.write_child-2.new.out) (string_bytes c.write_child-3.new.out)
     c.if-digits-eq0.false c.in_ok-write_child.ensures c.in_ok-write_child-2.ensures c.in_ok-write_child-3.ensures
 
-pub write_child-returns-in_ok-push_str-in-Some-2 : goal.write_child-returns-in_ok-push_str-in-Some-2
-write_child-returns-in_ok-push_str-in-Some-2 t c =
-    child_written c.args.digits c.args.digit c.args.child.now c.in-Some.node c.deref.result.now c.member_key.result.now (string_bytes c.args.out.now) (string_bytes c.push_str.new.self) (string_bytes c.write_node.new.out) (string_bytes c.push_str-in-Some.new.self)
-    c.in-Some.is c.deref.ensures c.member_key.ensures c.in_ok-push_str-in-Some.ensures.bytes c.in_ok-write_node-in-Some.ensures c.in_ok-push_str-in-Some-2.ensures.bytes
+pub write_child-returns-in_ok-push_str-in-Some : goal.write_child-returns-in_ok-push_str-in-Some
+write_child-returns-in_ok-push_str-in-Some t c =
+    child_written c.args.digits c.args.digit c.args.child.now c.in-Some.node c.deref.result.now (key_text c.name.result.now) (string_bytes c.args.out.now) (string_bytes c.write_key.new.out) (string_bytes c.write_node.new.out) (string_bytes c.push_str.new.self)
+    c.in-Some.is c.deref.ensures (ap key_text c.name.ensures) c.in_ok-write_key-in-Some.ensures c.in_ok-write_node-in-Some.ensures c.in_ok-push_str-in-Some.ensures.bytes

@@ -1,0 +1,66 @@
+-- What the laws say of the definitions that the contracts cite.
+use Rattle.std.specs.Prelude.{◌≡◌, ◌≤◌, ◌++◌, ◌⊎◌, ℕ, List, filter, length, None, true, false}
+use Rattle.std.specs.List.Sorted.{IsPermutation}
+use Rattle.hybrid_clock.specs.declared.stamp.Stamp.{Stamp}
+use Rattle.hybrid_clock.specs.Stamp.{IsStamp}
+use Rattle.minute_trie.specs.declared.key.Digit.{Digit}
+use Rattle.minute_trie.specs.declared.trie.Trie.{Trie}
+use Rattle.minute_trie.specs.Pruned.{present, kept}
+use Rattle.minute_trie.specs.Held.{Held, IsMap}
+use Rattle.minute_trie.specs.Trie.{Pair, stamp_pair, entries_of, trie_of, IsTrieOf, IsPair, ArePairs}
+use Rattle.minute_trie.specs.Adding.{with_pair}
+use Rattle.minute_trie.specs.Diff.{end_of_walk}
+use Rattle.minute_trie.specs.Json.{trie_text}
+use Rattle.minute_trie.specs.Faults.{fault_of_text, map_of_text, IsReadingOf}
+use Rattle.minute_trie.specs.Rounds.{is_from, IsRound, IsProperPrefix, Sides, end_of_sides, difference_of_sides, IsRoundOfSides, AreRounds}
+
+-- the order of a list changes nothing
+pub record OrderIsFree : Type 0 where
+  -- in what its trie holds
+  pub same : (pairs others : List Pair) → IsPermutation pairs others → trie_of pairs ≡ trie_of others
+  -- in which tries are its own
+  pub trie : (pairs others : List Pair) (trie : Trie) → IsPermutation pairs others → IsTrieOf pairs trie → IsTrieOf others trie
+
+-- a string that is present and not kept is not kept after further pairs
+abbrev pub PrunedForGood : Type 0
+PrunedForGood = (pairs more : List Pair) (p : List Digit) → present (entries_of pairs) p ≡ true → kept (entries_of pairs) p ≡ false →
+    kept (entries_of (pairs ++ more)) p ≡ false
+
+-- each trie that there is holds a map of at most sixteen digits
+pub record TriesAreMaps : Type 0 where
+  -- what a timestamp gives is a pair
+  pub of_stamp : (stamp : Stamp) → IsStamp stamp → IsPair (stamp_pair stamp)
+  -- the trie of a list of pairs
+  pub of_pairs : (pairs : List Pair) → ArePairs pairs → IsMap 16 (trie_of pairs)
+  -- that of a text
+  pub of_text : (text : List ℕ) → fault_of_text text ≡ None → IsMap 16 (map_of_text text)
+  -- what one pair more makes of such a map
+  pub added : (pair : Pair) (f : Held) → IsPair pair → IsMap 16 f → IsMap 16 (with_pair pair f)
+
+-- the text of such a map is that of a trie, and reads back as it
+pub record TextsReadBack : Type 0 where
+  -- the text is that of a trie
+  pub right : (f : Held) → IsMap 16 f → fault_of_text (trie_text f) ≡ None
+  -- it is read as the map
+  pub same : (f : Held) → IsMap 16 f → map_of_text (trie_text f) ≡ f
+  -- so a trie that is read from the text of a list's trie is that list's
+  pub pairs : (pairs : List Pair) (trie : Trie) → ArePairs pairs → IsReadingOf (trie_text (trie_of pairs)) trie → IsTrieOf pairs trie
+
+-- rounds from the moment on where two tries differ come to an end
+pub record RoundsEnd : Type 0 where
+  -- after such a round the tries have one hash at the root, or the walk ends at a proper prefix of where it ended before
+  pub nearer : (s t : Sides) → ArePairs s.0 → ArePairs s.1 → ArePairs t.0 → ArePairs t.1 → IsRoundOfSides s t →
+      (difference_of_sides t ≡ None) ⊎ IsProperPrefix (end_of_sides t) (end_of_sides s)
+  -- a walk goes down by at most sixteen digits
+  pub within : (f g : Held) → length (end_of_walk f g) ≤ 16
+  -- so no more than seventeen such rounds follow one another
+  pub few : (s : Sides) (rounds : List Sides) → AreRounds s rounds → length rounds ≤ 17
+
+-- there is a round from any minute on
+pub record RoundsAreMade : Type 0 where
+  -- beside what both sides hold, each takes what the other alone holds from the minute on
+  pub round : (minute : ℕ) (common mine theirs : List Pair) →
+      let got = filter (is_from minute) theirs in let taken = filter (is_from minute) mine in
+      IsRound minute (common ++ mine) got ((common ++ mine) ++ got) (common ++ theirs) taken ((common ++ theirs) ++ taken)
+  -- what a side has then are pairs again
+  pub pairs : (minute : ℕ) (held more : List Pair) → ArePairs held → ArePairs more → ArePairs (held ++ filter (is_from minute) more)
