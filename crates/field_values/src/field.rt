@@ -4,7 +4,7 @@ ghost use Rattle.std.specs.Ordering.{as_partial_cmp};
 ghost use Rattle.std.proofs.Common.{rules};
 ghost use Rattle.std.specs.Cmp.Rules.{comparing};
 ghost use Rattle.std.specs.Cmp.{partial_order_from_own_ties};
-ghost use Rattle.field_values.specs.Names.{names_eq, names_cmp, names_fault, field_of, AreNames};
+ghost use Rattle.field_values.specs.Names.{names_eq, names_cmp, names_fault, field_of, IsName, AreNames};
 
 use crate::items::Copied;
 use crate::memory::NoMemory;
@@ -134,21 +134,24 @@ impl Field {
 
     /// The name of its dataset.
     pub fn dataset(&self) -> &str
-        ensures { result.now ≡ self.now.dataset }
+        ensures value { result.now ≡ self.now.dataset }
+        ensures name { IsName result.now }
     {
         self.names.as_ref().dataset()
     }
 
     /// The name of its row.
     pub fn row(&self) -> &str
-        ensures { result.now ≡ self.now.row }
+        ensures value { result.now ≡ self.now.row }
+        ensures name { IsName result.now }
     {
         self.names.as_ref().row()
     }
 
     /// The name of its column.
     pub fn column(&self) -> &str
-        ensures { result.now ≡ self.now.column }
+        ensures value { result.now ≡ self.now.column }
+        ensures name { IsName result.now }
     {
         self.names.as_ref().column()
     }
