@@ -27,6 +27,7 @@ pub record Contents : Type 0 where
   pub records : FinMap place_cmp Text
   pub texts : FinMap text_cmp Text
 
+-- no record and no text
 abbrev pub nothing : Contents
 nothing = record { records = empty; texts = empty }
 
@@ -42,6 +43,7 @@ of_entry entry = record { key = entry.0.1; body = entry.1 }
 abbrev pub records_of_after : FinMap place_cmp Text → Text → Text → List Record
 records_of_after m group after = map of_entry (filter (is_in group after) (entries m))
 
+-- the records of a keeper's group with a key above this one, by key
 abbrev pub records_after : Contents → Text → Text → List Record
 records_after k group after = records_of_after k.records group after
 
@@ -49,11 +51,12 @@ records_after k group after = records_of_after k.records group after
 abbrev pub with_record : Text → FinMap place_cmp Text → Record → FinMap place_cmp Text
 with_record group m r = if contains_key m (group, r.key) then m else insert m (group, r.key) r.body
 
--- so of several records of one key the first counts
+-- the records of a list, one after the other: so of several with one key the first counts
 abbrev pub with_records : Text → FinMap place_cmp Text → List Record → FinMap place_cmp Text
 with_records group m [] = m
 with_records group m (r ∷ rs) = with_records group (with_record group m r) rs
 
+-- a list of records is added to a group
 abbrev pub appended : Contents → Text → List Record → Contents
 appended k group batch = record k { records = with_records group k.records batch }
 

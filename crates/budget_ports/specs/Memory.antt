@@ -19,10 +19,11 @@ pub record GivesFront (old new : SourceState) (buffer filled : List ℕ) (n : �
   pub bytes : filled ≡ take n old.left ++ drop n buffer
   pub source : new ≡ record { left = drop n old.left; calls = answered old.calls }
 
--- a call that fails changes nothing but the counts
+-- a source after a call that failed: nothing has changed but the counts
 abbrev pub failed_source : SourceState → SourceState
 failed_source old = record old { calls = failed old.calls }
 
+-- a sink after a call that failed: nothing has changed but the counts
 abbrev pub failed_sink : SinkState → SinkState
 failed_sink old = record old { calls = failed old.calls }
 

@@ -10,9 +10,11 @@ pub record Readings : Type 0 where
 abbrev pub all_then_last : List ℕ → Readings
 all_then_last readings = record { to_come = readings; after_them = slice_index readings (length readings - 1) }
 
+-- the reading that the next call gives
 abbrev pub next_reading : Readings → ℕ
 next_reading readings = slice_index_or readings.to_come 0 readings.after_them
 
+-- what is to come after the next call
 abbrev pub rest_of : Readings → Readings
 rest_of readings = record readings { to_come = drop 1 readings.to_come }
 

@@ -15,7 +15,7 @@ use std::alloc::{AllocError, AllocFailed};
 pub enum PortFault {
     /// The outside failed.
     Failed,
-    /// Memory ran out.
+    /// Memory ran out. It counts as no failure of the outside.
     NoMemory,
 }
 
@@ -38,7 +38,9 @@ impl From<NoMemory> for PortFault {
 /// A record that is kept under its key.
 #[derive(Debug, PartialEq, Eq, Drop)]
 pub struct Record {
+    /// What it is kept under, once in its group. A record that is given to a keeper has at least one byte here.
     pub key: Txt,
+    /// What is kept, as it was given.
     pub body: Txt,
 }
 

@@ -14,6 +14,7 @@ use std::ops::Bound;
 /// A group and a key.
 type Place = (Txt, Txt);
 
+/// A copy of a group and a key.
 fn place(group: &Txt, key: &Txt) -> Result<Place, NoMemory>
     ensures { IfOk result (λ p. p ≡ (group.now, key.now)) }
 {
@@ -40,6 +41,7 @@ impl Model for Records {
 }
 
 impl Records {
+    /// No records.
     pub fn new(alloc: Global) -> Records
         ensures { result ≡ map.empty }
     {
@@ -80,6 +82,7 @@ impl Records {
         Ok(())
     }
 
+    /// Whether a record stands at this place.
     fn has(&self, key: &Place) -> bool
         ensures { result ≡ map.contains_key self.now key.now }
     {
@@ -152,6 +155,7 @@ impl Model for Texts {
 }
 
 impl Texts {
+    /// No texts.
     pub fn new(alloc: Global) -> Texts
         ensures { result ≡ map.empty }
     {

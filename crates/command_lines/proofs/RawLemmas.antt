@@ -11,18 +11,14 @@ use Rattle.field_values.specs.Names.{name_fault}
 use Rattle.field_values.specs.Value.{value_text, value_of, TextsWriteBack}
 use Rattle.hybrid_clock.specs.declared.stamp.Stamp.{Stamp}
 use Rattle.hybrid_clock.specs.declared.stamp.StampFault.{StampFault}
-use Rattle.hybrid_clock.specs.Stamp.{stamp_text}
 use Rattle.hybrid_clock.specs.Reading.{read_stamp}
+use Rattle.hybrid_clock.specs.Laws.{StampsWriteBack}
 use Rattle.field_merge.specs.Escapes.{escaped, unescaped, bad_escape}
 use Rattle.field_merge.specs.Lines.{parts}
 use Rattle.field_merge.proofs.RawLines.{IsGood, parts_write_back}
 use Rattle.command_lines.specs.declared.command.Command.{Command}
 use Rattle.command_lines.specs.Commands.{Wanted, word, no_more, misfit, of_stamp, of_name, set_words, receive_words, fields_words, messages_words, value_words, trie_words, line_words, unescaped_for, command_of, of_words, longest_line}
 use Rattle.command_lines.specs.Written.{command_texts, LinesWriteBack}
-
--- a timestamp that was read has the text
-abbrev pub StampsWriteBack : Type 0
-StampsWriteBack = (text : List ℕ) (s : Stamp) → read_stamp text ≡ Ok s → stamp_text s ≡ text
 
 -- the command that is made of a line's words has them as its texts, behind those in front
 abbrev Tells : List (List ℕ) → Wanted → Type 0
@@ -50,7 +46,7 @@ tells_receive values stamps text =
     tells_name (name_fault Dataset d) (codes "receive" ∷ text ∷ d ∷ []) _ (λ r.
     tells_name (name_fault Row r) (codes "receive" ∷ text ∷ d ∷ r ∷ []) _ (λ c.
     tells_name (name_fault Column c) (codes "receive" ∷ text ∷ d ∷ r ∷ c ∷ []) _ (λ v.
-    ap (λ t. codes "receive" ∷ t ∷ d ∷ r ∷ c ∷ value_text (value_of v) ∷ []) (stamps text s told)
+    ap (λ t. codes "receive" ∷ t ∷ d ∷ r ∷ c ∷ value_text (value_of v) ∷ []) (stamps text s told).1
     ∙ ap (λ t. codes "receive" ∷ text ∷ d ∷ r ∷ c ∷ t ∷ []) (values v).1))))
 
 -- ---- the words of a line

@@ -11,8 +11,9 @@ use Rattle.field_values.specs.Names.{IsName, field_of, name_fault}
 use Rattle.field_values.specs.Value.{value_text, value_of, IsValue, ValuesReadBack}
 use Rattle.field_values.proofs.NameLemmas.{name_fault-none}
 use Rattle.hybrid_clock.specs.declared.stamp.Stamp.{Stamp}
-use Rattle.hybrid_clock.specs.Stamp.{IsStamp, stamp_text}
+use Rattle.hybrid_clock.specs.Stamp.{stamp_text}
 use Rattle.hybrid_clock.specs.Reading.{read_stamp}
+use Rattle.hybrid_clock.specs.Laws.{StampsReadBack}
 use Rattle.field_merge.specs.declared.message.Message.{Message}
 use Rattle.field_merge.specs.Escapes.{escaped, bad_escape}
 use Rattle.field_merge.specs.Lines.{parts}
@@ -25,10 +26,6 @@ use Rattle.command_lines.specs.declared.command.Command.{Command}
 use Rattle.command_lines.specs.declared.command.Command.TheVariants.{Edit, Receive, Fields, Messages, Value, Trie}
 use Rattle.command_lines.specs.Commands.{Wanted, word, no_more, of_stamp, of_name, stamp_word, name_word, unescaped_for, command_of, of_words, longest_line, IsCommand}
 use Rattle.command_lines.specs.Written.{command_texts, command_line, CommandsReadBack}
-
--- timestamps are read back from their texts
-abbrev pub StampsReadBack : Type 0
-StampsReadBack = (s : Stamp) → IsStamp s → read_stamp (stamp_text s) ≡ Ok s
 
 parts_written : (text : List ℕ) (texts : List (List ℕ)) → parts (join_with_byte 9 (map escaped (text ∷ texts))) ≡ map escaped (text ∷ texts)
 parts_written text [] = parts-none (escaped text) (escaped-no_tab text)

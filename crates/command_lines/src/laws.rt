@@ -3,7 +3,7 @@ ghost use Rattle.command_lines.specs.ReplyLines.{RepliesAreLines};
 ghost use Rattle.command_lines.specs.Written.{CommandsReadBack, LinesWriteBack};
 
 use field_merge::message_lines;
-use field_values::value::{texts_write_back, values_read_back};
+use field_values::{texts_write_back, values_read_back};
 use hybrid_clock::{read_writes_back, text_reads_back};
 
 /// A law: a reader who cuts the text of a reply at its line feeds finds the lines of the reply, if no

@@ -9,7 +9,8 @@ use Rattle.std.proofs.lemmas.Cmp.{nat_list_cmp_total, upto}
 use Rattle.std.proofs.lemmas.List.{reverse-append}
 use Rattle.std.proofs.lemmas.List.Elements.{filter-append}
 use Rattle.hybrid_clock.specs.declared.stamp.Stamp.{Stamp}
-use Rattle.hybrid_clock.specs.Stamp.{IsStamp, stamp_text}
+use Rattle.hybrid_clock.specs.Stamp.{stamp_text}
+use Rattle.hybrid_clock.specs.Laws.{StampsAreInOrder}
 use Rattle.hybrid_clock.specs.Order.{stamp_cmp}
 use Rattle.field_merge.specs.declared.message.Message.{Message}
 use Rattle.field_merge.specs.Messages.{AreMessages, IsMessage}
@@ -17,10 +18,6 @@ use Rattle.field_merge.specs.Log.{IsRising, is_after, messages_after}
 use Rattle.field_merge.proofs.Members.{all_keys}
 use Rattle.field_merge.proofs.Ordered.{cons, head, in_order_nil, tail}
 use Rattle.field_merge.proofs.Joining.{stamp_of}
-
--- the order of timestamps is that of their texts
-abbrev pub TextsOrder : Type 0
-TextsOrder = (a b : Stamp) → IsStamp a → IsStamp b → slice_cmp nat_cmp (stamp_text a) (stamp_text b) ≡ stamp_cmp a b
 
 module _ {A : Type 0} where
   pub all_front : (P : A → Type 0) (xs : List A) (x : A) → AllByRecursion P (xs ++ x ∷ []) → AllByRecursion P xs
@@ -54,14 +51,14 @@ below_last (m ∷ ms) n s =
     let below = all_keys stamp_of (λ (t : Stamp). stamp_cmp m.stamp t ≡ Less) (ms ++ n ∷ []) (head stamp_of stamp_cmp m (ms ++ n ∷ []) s) in
     (at_end (λ (l : Message). stamp_cmp m.stamp l.stamp ≡ Less) ms n below, below_last ms n (tail stamp_of stamp_cmp m (ms ++ n ∷ []) s))
 
-none_after : TextsOrder → (text : List ℕ) (ms : List Message) (n : Message) → AreMessages ms → IsMessage n → is_after text n ≡ false → AllByRecursion (λ (m : Message). stamp_cmp m.stamp n.stamp ≡ Less) ms → AllByRecursion (λ m. is_after text m ≡ false) ms
+none_after : StampsAreInOrder → (text : List ℕ) (ms : List Message) (n : Message) → AreMessages ms → IsMessage n → is_after text n ≡ false → AllByRecursion (λ (m : Message). stamp_cmp m.stamp n.stamp ≡ Less) ms → AllByRecursion (λ m. is_after text m ≡ false) ms
 none_after order text [] n v w isnt h = tt
 none_after order text (m ∷ ms) n v w isnt h =
     let under : is_gt (slice_cmp nat_cmp (stamp_text m.stamp) (stamp_text n.stamp)) ≡ false = ap is_gt (order m.stamp n.stamp v.0.stamp w.stamp ∙ h.0) in
     (upto nat_list_cmp_total (stamp_text m.stamp) (stamp_text n.stamp) text under isnt, none_after order text ms n v.1 w isnt h.1)
 
 -- where the last message is not after the text, none is
-pub none_later : TextsOrder → (text : List ℕ) (ms : List Message) (n : Message) → AreMessages (ms ++ n ∷ []) → IsRising (ms ++ n ∷ []) → is_after text n ≡ false → messages_after text (ms ++ n ∷ []) ≡ []
+pub none_later : StampsAreInOrder → (text : List ℕ) (ms : List Message) (n : Message) → AreMessages (ms ++ n ∷ []) → IsRising (ms ++ n ∷ []) → is_after text n ≡ false → messages_after text (ms ++ n ∷ []) ≡ []
 none_later order text ms n v s isnt =
     filter-append (is_after text) ms (n ∷ [])
     ∙ ap (λ ns. ns ++ filter (is_after text) (n ∷ [])) (filter_none (is_after text) ms (none_after order text ms n (all_front IsMessage ms n v) (at_end IsMessage ms n v) isnt (below_last ms n s)))

@@ -8,7 +8,12 @@ use Rattle.std.specs.declared.cmp.Ordering.{Ordering}
 use Rattle.std.specs.declared.cmp.Ordering.TheVariants.{Less, Equal, Greater}
 use Rattle.std.proofs.Math.Seq.{drop-nil}
 use Rattle.field_values.specs.Names.{FieldNames}
-use Rattle.field_values.specs.Heads.{head_from, head_of, AreBytes, bound, IsShortLength, IsHead, AreHeads, IsKey, KeepsHeads}
+use Rattle.field_values.specs.Heads.{head_from, head_of, AreBytes, IsShortLength, IsHead, AreHeads, IsKey, KeepsHeads}
+
+-- the numbers that n bytes spell are below it
+abbrev pub bound : ℕ → ℕ
+bound zero = 1
+bound (suc n) = 256 * bound n
 
 less : (x y : ℕ) → x < y → nat_cmp x y ≡ Less
 less x y h = sym (nat_cmp_is x y Less h)

@@ -10,7 +10,7 @@ use Rattle.std.proofs.lemmas.Slice.Eq.{bytes_eq-Decides}
 use Rattle.std.proofs.lemmas.Bool.{cond_both, and_parts, and_from, leb-true, le-leb, false≢true, ne_eqb}
 use Rattle.std.proofs.lemmas.Int.{ints}
 use lib.Signed.{mag}
-use Rattle.field_values.specs.Value.{HoldsNumber, IsNumberText, number_of}
+use Rattle.field_values.specs.Value.{largest_number, HoldsNumber, IsNumberText, number_of}
 
 pub number_fits : (n : ℤ) → HoldsNumber n → FitsSigned w64 n
 number_fits n h = omega (arith, ints, h.low, h.high)
@@ -48,11 +48,11 @@ value_of_decimal (negsuc n) small =
     let k = decimal_is_IsNumeral (suc n) (omega arith) in
     ap (λ m. neg_ℤ (pos m)) k.1
 
-held : (n : ℤ) → unsigned_abs n ≤ 9_007_199_254_740_991 → HoldsNumber n
+held : (n : ℤ) → unsigned_abs n ≤ largest_number → HoldsNumber n
 held (pos n) h = record { low = omega (arith, ints, h); high = omega (arith, ints, h) }
 held (negsuc n) h = record { low = omega (arith, ints, h); high = omega (arith, ints, h) }
 
-near : (n : ℤ) → HoldsNumber n → unsigned_abs n ≤ 9_007_199_254_740_991
+near : (n : ℤ) → HoldsNumber n → unsigned_abs n ≤ largest_number
 near (pos n) h = omega (arith, ints, h.low, h.high)
 near (negsuc n) h = omega (arith, ints, h.low, h.high)
 
@@ -60,12 +60,12 @@ near (negsuc n) h = omega (arith, ints, h.low, h.high)
 pub number_of_is : (digits : List ℕ) → IsNumberText digits (number_of digits)
 number_of_is digits =
     let n = signed_digits_value 10 digits in
-    let tests : Bool = nat_le (unsigned_abs n) 9_007_199_254_740_991 && bytes_eq (signed_decimal n) digits in
+    let tests : Bool = nat_le (unsigned_abs n) largest_number && bytes_eq (signed_decimal n) digits in
     cond_both tests (Some n) None (IsNumberText digits)
     (λ e. let both = and_parts _ _ e in
     (held n (leb-true _ _ both.0), sym ((bytes_eq-Decides (signed_decimal n) digits).0 both.1)))
     (λ e m h is.
     let same : n ≡ m = ap (signed_digits_value 10) is ∙ value_of_decimal m (number_small m h) in
-    let low : nat_le (unsigned_abs n) 9_007_199_254_740_991 ≡ true = le-leb _ _ (near n (subst HoldsNumber (sym same) h)) in
+    let low : nat_le (unsigned_abs n) largest_number ≡ true = le-leb _ _ (near n (subst HoldsNumber (sym same) h)) in
     let written : signed_decimal n ≡ digits = ap signed_decimal same ∙ sym is in
     false≢true (sym e ∙ and_from _ _ low ((bytes_eq-Decides (signed_decimal n) digits).1 written)))

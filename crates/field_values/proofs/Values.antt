@@ -1,5 +1,5 @@
 -- Values and their texts are one to one.
-use Rattle.std.proofs.Common.{◌≡◌, ◌∙◌, ℕ, List, ◌∷◌, ◌++◌, arith, ap, sym, refl, ℤ, drop, take, ◌<◌, lit<, true, false, Option, Some, None}
+use Rattle.std.proofs.Common.{◌≡◌, ◌∙◌, ℕ, List, ◌∷◌, ◌++◌, arith, ap, sym, refl, subst, ℤ, drop, take, ◌<◌, lit<, true, false, Option, Some, None}
 use Rattle.std.specs.Prelude.{codes, nat_eq}
 use Rattle.std.specs.Fmt.{signed_decimal}
 use Rattle.std.specs.List.{starts_with}
@@ -10,7 +10,7 @@ use Rattle.std.proofs.lemmas.Slice.Eq.{bytes_eq-Decides}
 use Rattle.std.proofs.lemmas.Bool.{cond_both, false≢true}
 use Rattle.field_values.specs.declared.value.Value.{Value}
 use Rattle.field_values.specs.declared.value.Value.TheVariants.{Null, Number, Text, Other}
-use Rattle.field_values.specs.Value.{value_text, IsValue, value_of, number_of, number_or_other, IsNumberText, ValuesReadBack, TextsWriteBack}
+use Rattle.field_values.specs.Value.{value_text, IsValue, IsOtherText, KeepsText, value_of, number_of, number_or_other, IsNumberText, ValuesReadBack, TextsWriteBack}
 use Rattle.field_values.proofs.Numbers.{number_small, number_of_is}
 
 differ : (m n : ℕ) (xs ys : List ℕ) → m < n → m ∷ xs ≡ n ∷ ys → ⊥
@@ -91,3 +91,11 @@ pub value_of_is : (v : Value) (text : List ℕ) → IsValue v → value_text v �
 value_of_is v text p e =
     let back = texts_write_back_lem text in
     value_text-injective v (value_of text) p back.0 (e ∙ sym back.1)
+
+-- a text that begins with `S:` is read as a value that keeps a text
+pub text_is_kept : (text rest : List ℕ) → text ≡ codes "S:" ++ rest → KeepsText (value_of text)
+text_is_kept text rest e = subst KeepsText (value_of_is (Text rest) text tt (sym e)) tt
+
+-- and so is one of no form
+pub other_is_kept : (text : List ℕ) → IsOtherText text → KeepsText (value_of text)
+other_is_kept text p = subst KeepsText (value_of_is (Other text) text p refl) tt

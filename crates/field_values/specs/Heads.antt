@@ -12,6 +12,7 @@ head_from (suc n) k (x ∷ xs) = head_from n (k * 256 + x) xs
 abbrev pub head_of : List ℕ → ℕ
 head_of xs = head_from 16 0 xs
 
+-- each of them is below 256, as a byte is
 abbrev pub AreBytes : List ℕ → Type 0
 AreBytes xs = (k : ℕ) → slice_index xs k < 256
 
@@ -42,8 +43,3 @@ pub record IsKey (dataset dataset_len one two three row_len column column_len : 
 -- the same, which is not unfolded in the crates above
 unfoldable pub KeepsHeads : (dataset dataset_len one two three row_len column column_len : ℕ) → FieldNames → Type 0
 KeepsHeads dataset dataset_len one two three row_len column column_len names = IsKey dataset dataset_len one two three row_len column column_len names
-
--- the numbers that n bytes spell are below it
-abbrev pub bound : ℕ → ℕ
-bound zero = 1
-bound (suc n) = 256 * bound n

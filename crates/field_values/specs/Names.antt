@@ -9,6 +9,7 @@ use Rattle.field_values.specs.declared.name.NamePart.TheVariants.{Dataset, Row, 
 use Rattle.field_values.specs.declared.name.NameFault.{NameFault}
 use Rattle.field_values.specs.declared.name.NameFault.TheVariants.{Empty, TooLong, BadByte}
 
+-- the dataset, the row and the column of a field, each the bytes of a text
 pub record FieldNames : Type 0 where
   pub dataset : List ℕ
   pub row : List ℕ
@@ -38,11 +39,13 @@ pub record IsName (name : List ℕ) : Type 0 where
   pub short : length name ≤ 255
   pub bytes : All IsNameByte name
 
+-- each of the three is a name
 pub record AreNames (names : FieldNames) : Type 0 where
   pub dataset : IsName names.dataset
   pub row : IsName names.row
   pub column : IsName names.column
 
+-- whether a byte is a control character of ASCII, which no name may have
 abbrev pub is_bad_byte : ℕ → Bool
 is_bad_byte b = nat_lt b 32 || (b == 127)
 

@@ -7,10 +7,14 @@ use Rattle.std.specs.Str.Parse.{signed_digits_value}
 use Rattle.field_values.specs.declared.value.Value.{Value}
 use Rattle.field_values.specs.declared.value.Value.TheVariants.{Null, Number, Text, Other}
 
+-- the largest number that a value may hold: 2 to the 53 less 1
+abbrev pub largest_number : ℕ
+largest_number = 9_007_199_254_740_991
+
 -- a number that a value may hold: it is so near to 0 that each such whole number has a 64-bit float of its own
 pub record HoldsNumber (n : ℤ) : Type 0 where
-  pub low : neg_ℤ (pos 9_007_199_254_740_991) ≤ℤ n
-  pub high : n ≤ℤ pos 9_007_199_254_740_991
+  pub low : neg_ℤ (pos largest_number) ≤ℤ n
+  pub high : n ≤ℤ pos largest_number
 
 -- the text of a value
 abbrev pub value_text : Value → List ℕ
@@ -32,11 +36,18 @@ IsValue (Number n) = HoldsNumber n
 IsValue (Text t) = Unit {0}
 IsValue (Other t) = IsOtherText t
 
+-- a value that holds a text, which takes memory: neither null nor a number
+abbrev pub KeepsText : Value → Type 0
+KeepsText Null = ⊥
+KeepsText (Number n) = ⊥
+KeepsText (Text t) = Unit {0}
+KeepsText (Other t) = Unit {0}
+
 -- the number that the digits write, where it may be held and its decimal text is these very digits:
 -- so no plus, no leading zero, no minus before 0
 abbrev pub number_of : List ℕ → Option ℤ
 number_of digits = let n = signed_digits_value 10 digits in
-    if nat_le (unsigned_abs n) 9_007_199_254_740_991 && bytes_eq (signed_decimal n) digits then Some n else None
+    if nat_le (unsigned_abs n) largest_number && bytes_eq (signed_decimal n) digits then Some n else None
 
 -- the number, or the whole text unread
 abbrev pub number_or_other : List ℕ → Option ℤ → Value

@@ -4,7 +4,7 @@ ghost use Rattle.std.specs.Ordering.{as_partial_cmp};
 ghost use Rattle.std.proofs.Common.{rules};
 ghost use Rattle.std.specs.Cmp.Rules.{comparing};
 ghost use Rattle.std.specs.Cmp.{partial_order_from_own_ties};
-ghost use Rattle.field_values.specs.Names.{names_eq, names_cmp, names_fault, field_of, AreNames};
+ghost use Rattle.field_values.specs.Names.{names_eq, names_cmp, names_fault, field_of, IsName, AreNames};
 
 use crate::items::Copied;
 use crate::memory::NoMemory;
@@ -46,13 +46,16 @@ impl Model for Names {
 }
 
 impl Model for Field {
-    ghost use Rattle.field_values.specs.Names.{FieldNames};
+    ghost use Rattle.field_values.specs.Names.{FieldNames, AreNames};
 
     ghost Value = { FieldNames };
 
     ghost view = { λ f. f.names.value };
+
+    ghost invariant = { λ f. AreNames f.names.value };
 }
 
+/// Tests the names in their order.
 fn check_names(dataset: &str, row: &str, column: &str) -> Result<(), NameFault>
     ensures good { OnOk result (names_fault (field_of dataset.now row.now column.now) ≡ None) }
     ensures valid { OnOk result (AreNames (field_of dataset.now row.now column.now)) }
@@ -102,6 +105,7 @@ impl Names {
     }
 }
 
+/// The names in memory of their own, of which they are the only owner.
 fn shared(alloc: Global, names: Names) -> Result<Rc<Names>, NoMemory>
     ensures { IfOk result (λ block. block.value ≡ names) }
 {
@@ -128,20 +132,26 @@ impl Field {
         Ok(Field { names })
     }
 
+    /// The name of its dataset.
     pub fn dataset(&self) -> &str
-        ensures { result.now ≡ self.now.dataset }
+        ensures value { result.now ≡ self.now.dataset }
+        ensures name { IsName result.now }
     {
         self.names.as_ref().dataset()
     }
 
+    /// The name of its row.
     pub fn row(&self) -> &str
-        ensures { result.now ≡ self.now.row }
+        ensures value { result.now ≡ self.now.row }
+        ensures name { IsName result.now }
     {
         self.names.as_ref().row()
     }
 
+    /// The name of its column.
     pub fn column(&self) -> &str
-        ensures { result.now ≡ self.now.column }
+        ensures value { result.now ≡ self.now.column }
+        ensures name { IsName result.now }
     {
         self.names.as_ref().column()
     }

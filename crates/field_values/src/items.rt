@@ -30,18 +30,21 @@ impl<T> Items<T> {
         Items { elements }
     }
 
+    /// The elements, in order.
     pub fn as_slice(&self) -> &[T]
         ensures { result.now ≡ self.now }
     {
         self.elements.as_slice()
     }
 
+    /// How many elements there are.
     pub fn len(&self) -> usize
         ensures { result ≡ length self.now }
     {
         self.elements.len()
     }
 
+    /// Whether there is no element.
     pub fn is_empty(&self) -> bool
         ensures { result ≡ (length self.now == 0) }
     {
@@ -59,6 +62,7 @@ impl<T> Items<T> {
 
 /// What can be copied where memory allows. A copy equals what it was made from, which stays as it is.
 pub trait Copied: Sized {
+    /// An equal value.
     fn copied(&self) -> Result<Self, NoMemory>
         ensures { IfOk result (λ v. v ≡ self.now) };
 }

@@ -35,10 +35,10 @@ pub struct FieldKey {
 const HEAD_BYTES: usize = 16;
 
 /// The greatest length that a head tells.
-const HEAD_LEN: u8 = 16;
+const HEAD_LEN: u8 = HEAD_BYTES as u8;
 
 /// The greatest length that the three heads of a row tell.
-const ROW_LEN: u8 = 48;
+const ROW_LEN: u8 = 3 * HEAD_LEN;
 
 /// Stands for each length from 255 on.
 const LONG: u8 = 255;

@@ -1,12 +1,13 @@
 //! The plainest parts of a budget's messages: texts, the values of fields, the names of fields, lists and a counter of steps.
 //!
-//! A value and its text are one to one ([`value::values_read_back`], [`value::texts_write_back`]), and each refusal of a name
-//! says the first thing that is wrong with it.
+//! A value and its text are one to one ([`values_read_back`], [`texts_write_back`]), and each refusal of a name
+//! says the first thing that is wrong with it ([`faults_are_told`]).
 #![tactic(auto)]
 
 pub mod field;
 pub mod items;
 pub mod key;
+mod laws;
 pub mod memory;
 pub mod name;
 pub mod steps;
@@ -18,6 +19,7 @@ pub mod value;
 pub use field::Field;
 pub use items::{Copied, Items};
 pub use key::FieldKey;
+pub use laws::{faults_are_told, texts_write_back, values_read_back};
 pub use memory::NoMemory;
 pub use name::{NameFault, NamePart, check_name};
 pub use steps::Steps;

@@ -1,15 +1,18 @@
 //! What a name of a field may be.
 ghost use Rattle.std.specs.Prelude.{◌≡◌, OnOk, IfErr, Some, None, position};
 ghost use Rattle.field_values.specs.declared.name.NameFault.TheVariants.{NoMemory as OutOfMemory};
-ghost use Rattle.field_values.specs.Names.{is_bad_byte, name_fault, FaultsAreTold};
+ghost use Rattle.field_values.specs.Names.{is_bad_byte, name_fault};
 
 use crate::memory::NoMemory;
 
 /// Which of a field's three names.
 #[derive(Clone, Copy, Debug, PartialEq, Eq)]
 pub enum NamePart {
+    /// The first: what kind of thing the field belongs to.
     Dataset,
+    /// The second: which of these things.
     Row,
+    /// The third: which field of that thing.
     Column,
 }
 
@@ -22,7 +25,7 @@ pub enum NameFault {
     TooLong { part: NamePart, len: usize },
     /// The name's first byte below 32 or equal to 127 is at `at`, counted from 0.
     BadByte { part: NamePart, at: usize },
-    /// Memory ran out.
+    /// The names have no fault, but memory ran out.
     NoMemory,
 }
 
@@ -37,6 +40,7 @@ impl From<NoMemory> for NameFault {
 /// The most bytes that a name has.
 pub const MOST_BYTES: usize = 255;
 
+/// The place of the first byte that no name may have.
 fn bad_byte(name: &[u8]) -> Option<usize>
     ensures { result ≡ position is_bad_byte name.now }
 {
@@ -62,8 +66,3 @@ pub fn check_name(part: NamePart, name: &[u8]) -> Result<(), NameFault>
         None => Ok(()),
     }
 }
-
-/// A law: three names without a fault are names that a field may have, and the other way round.
-pub fn faults_are_told()
-    ensures { FaultsAreTold }
-{}

@@ -33,7 +33,7 @@ pub enum TxtFault {
     /// The bytes are not UTF-8. `at` is the place, counted from 0, of the first byte of the first sequence that is not UTF-8:
     /// for a character that is cut short, the byte where it begins.
     NotUtf8 { at: usize },
-    /// Memory ran out.
+    /// The bytes are UTF-8, but memory for the copy ran out.
     NoMemory,
 }
 
@@ -76,6 +76,7 @@ impl Txt {
         self.text.as_str().as_bytes()
     }
 
+    /// The text as a string slice.
     pub fn as_str(&self) -> &str
         ensures { result.now ≡ self.now }
     {

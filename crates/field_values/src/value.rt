@@ -1,6 +1,6 @@
 //! The values of fields, and their texts.
-ghost use Rattle.std.specs.Prelude.{◌≡◌, IfOk, OnErr, codes};
-ghost use Rattle.field_values.specs.Value.{IsNumberText, value_text, value_of, IsValue, ValuesReadBack, TextsWriteBack};
+ghost use Rattle.std.specs.Prelude.{◌≡◌, IfOk, OnErr};
+ghost use Rattle.field_values.specs.Value.{IsNumberText, value_text, value_of, IsValue, KeepsText};
 
 use crate::items::Copied;
 use crate::memory::NoMemory;
@@ -13,7 +13,7 @@ use std::alloc::Global;
 pub const LARGEST: i64 = 9_007_199_254_740_991;
 
 /// The smallest number that a value holds.
-pub const SMALLEST: i64 = -9_007_199_254_740_991;
+pub const SMALLEST: i64 = -LARGEST;
 
 /// The value of a field. Its text is `0:` for null, `N:` and the decimal text of a number, `S:` and a text, as Actual Budget's
 /// crdt package writes them, or any text that is none of these.
@@ -47,10 +47,11 @@ fn number_in(digits: &str) -> Option<i64>
 }
 
 /// The value with this text, by the three forms.
+#[tactic(auto, using(crate::proofs::Values::other_is_kept))]
 fn by_form(alloc: Global, text: &str) -> Result<Value, NoMemory>
     ensures valid { IfOk result IsValue }
     ensures same_text { IfOk result (λ v. value_text v ≡ text.now) }
-    ensures null { text.now ≡ codes "0:" → OnErr result ⊥ }
+    ensures memory { OnErr result (KeepsText (value_of text.now)) }
 {
     if text == "0:" {
         return Ok(Value::Null);
@@ -73,8 +74,8 @@ impl Value {
         ensures valid { IfOk result IsValue }
         ensures same_text { IfOk result (λ v. value_text v ≡ text.now) }
 
-        // Null takes no memory, so it is always read.
-        ensures null { text.now ≡ codes "0:" → OnErr result ⊥ }
+        // Null and a number take no memory, so they are always read.
+        ensures memory { OnErr result (KeepsText (value_of text.now)) }
     {
         let value = by_form(alloc, text)?;
         Ok(value)
@@ -86,8 +87,8 @@ impl Value {
         ensures valid { IfOk result IsValue }
         ensures same_text { IfOk result (λ v. value_text v ≡ text.now) }
 
-        // Null takes no memory, so it is always read.
-        ensures null { text.now ≡ codes "0:" → OnErr result ⊥ }
+        // Null and a number take no memory, so they are always read.
+        ensures memory { OnErr result (KeepsText (value_of text.now)) }
     {
         Value::read(alloc, text.as_str())
     }
@@ -116,7 +117,10 @@ impl Value {
 
     /// An equal value.
     pub fn copy(&self) -> Result<Value, NoMemory>
-        ensures { IfOk result (λ v. v ≡ self.now) }
+        ensures value { IfOk result (λ v. v ≡ self.now) }
+
+        // Null and a number take no memory, so they are always copied.
+        ensures memory { OnErr result (KeepsText self.now) }
     {
         match self {
             Value::Null => Ok(Value::Null),
@@ -132,13 +136,3 @@ impl Copied for Value {
         self.copy()
     }
 }
-
-/// A law: each value is read back from its text, so no two values have one text.
-pub fn values_read_back()
-    ensures { ValuesReadBack }
-{}
-
-/// A law: each text is written back from the value that it is read as, so no two texts have one value.
-pub fn texts_write_back()
-    ensures { TextsWriteBack }
-{}

@@ -2,6 +2,7 @@
 use Rattle.std.specs.Prelude.{ℕ, zero, suc, ◌+◌, ◌-◌, nat_lt, if◌then◌else◌, pos}
 use Rattle.jiff_core.specs.Calendar.{days_in_year, days_in_month}
 
+-- a date: a year, a month from 1 on and a day of the month from 1 on
 pub record Day : Type 0 where
   pub year : ℕ
   pub month : ℕ

@@ -5,6 +5,7 @@ use Rattle.hybrid_clock.specs.declared.clock.ClockFault.{ClockFault}
 use Rattle.hybrid_clock.specs.declared.clock.ClockFault.TheVariants.{Drift, Overflow, Beyond}
 use Rattle.hybrid_clock.specs.Stamp.{window}
 
+-- a clock of this node that stands at a time and a counter
 abbrev pub stands_at : List ℕ → ℕ → ℕ → Stamp
 stands_at node time counter = record { millis = time; counter = counter; node = node }
 
@@ -13,7 +14,7 @@ abbrev pub clock_after : List ℕ → Option Stamp → Stamp
 clock_after node None = stands_at node 0 0
 clock_after node (Some s) = stands_at node s.millis s.counter
 
--- greater in time and counter
+-- later by its time, or by its counter where the times are the same
 abbrev pub IsLater : Stamp → Stamp → Type 0
 IsLater old new = (old.millis < new.millis) ⊎ ((old.millis ≡ new.millis) × (old.counter < new.counter))
 
@@ -42,6 +43,7 @@ next_counter clock message time =
     then (if message.millis == time then max clock.counter message.counter + 1 else clock.counter + 1)
     else (if message.millis == time then message.counter + 1 else 0)
 
+-- the time to which a clock goes that receives a message: the greatest of its own, the reading and the message's
 abbrev pub new_time : Stamp → ℕ → Stamp → ℕ
 new_time clock reading message = max (max clock.millis reading) message.millis
 

@@ -4,3 +4,4 @@ pub mod Stamp
 pub mod Reading
 pub mod Order
 pub mod Clock
+pub mod Laws

@@ -25,22 +25,27 @@ is_allowed place byte =
 unfoldable pub misfit : List ℕ → Option ℕ
 misfit text = position (λ (place, byte). not (is_allowed place byte)) (zip form text)
 
--- the numbers that a text of the form has at a place: one, two, three and four digits, and four hexadecimal ones
+-- the number that the digit at a place writes
 abbrev pub digit_at : List ℕ → ℕ → ℕ
 digit_at text i = slice_index text i - 48
 
+-- the number that the two digits from a place on write
 abbrev pub two_at : List ℕ → ℕ → ℕ
 two_at text i = 10 * digit_at text i + digit_at text (i + 1)
 
+-- the number that the three digits from a place on write
 abbrev pub three_at : List ℕ → ℕ → ℕ
 three_at text i = 10 * two_at text i + digit_at text (i + 2)
 
+-- the number that the four digits from a place on write
 abbrev pub four_at : List ℕ → ℕ → ℕ
 four_at text i = 10 * three_at text i + digit_at text (i + 3)
 
+-- the number that an upper-case hexadecimal digit writes
 abbrev pub hex_value : ℕ → ℕ
 hex_value byte = if is_ascii_digit byte then byte - 48 else byte - 55
 
+-- the number that the four hexadecimal digits from a place on write
 abbrev pub hex_at : List ℕ → ℕ → ℕ
 hex_at text i =
     4096 * hex_value (slice_index text i) + 256 * hex_value (slice_index text (i + 1))
@@ -51,7 +56,7 @@ abbrev pub is_date : ℕ → ℕ → ℕ → Bool
 is_date year month day =
     nat_le 1970 year && (is_in_range 1 12 month && is_in_range 1 (days_in_month (pos year) month) day)
 
--- and the clock this time
+-- a day of 24 hours of 60 minutes of 60 seconds has this time
 abbrev pub is_time : ℕ → ℕ → ℕ → Bool
 is_time hour minute second = nat_le hour 23 && (nat_le minute 59 && nat_le second 59)
 

@@ -14,13 +14,15 @@ pub record IsStamp (s : Stamp) : Type 0 where
   pub counter : s.counter ≤ 65_535
   pub node : IsNode s.node
 
--- two, three and four decimal digits, before the rest
+-- a number in two decimal digits, before the rest
 abbrev pub two : ℕ → List ℕ → List ℕ
 two n rest = (48 + n / 10) ∷ (48 + n % 10) ∷ rest
 
+-- a number in three decimal digits, before the rest
 abbrev pub three : ℕ → List ℕ → List ℕ
 three n rest = (48 + n / 100) ∷ (48 + n / 10 % 10) ∷ (48 + n % 10) ∷ rest
 
+-- a number in four decimal digits, before the rest
 abbrev pub four : ℕ → List ℕ → List ℕ
 four n rest = (48 + n / 1000) ∷ (48 + n / 100 % 10) ∷ (48 + n / 10 % 10) ∷ (48 + n % 10) ∷ rest
 
@@ -28,7 +30,7 @@ four n rest = (48 + n / 1000) ∷ (48 + n / 100 % 10) ∷ (48 + n / 10 % 10) ∷
 abbrev pub hex_digit : ℕ → ℕ
 hex_digit n = if nat_lt n 10 then 48 + n else 55 + n
 
--- four of them, before the rest
+-- a number in four hexadecimal digits, before the rest
 abbrev pub hex : ℕ → List ℕ → List ℕ
 hex n rest = hex_digit (n / 4096) ∷ hex_digit (n / 256 % 16) ∷ hex_digit (n / 16 % 16) ∷ hex_digit (n % 16) ∷ rest
 

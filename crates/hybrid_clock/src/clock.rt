@@ -7,7 +7,10 @@ use crate::node::Node;
 use crate::stamp::{Stamp, WINDOW};
 use std::marker::Model;
 
-/// A hybrid clock: the last time and counter that it gave or saw, and its own node.
+/// A hybrid clock: a time and a counter at which it stands, and its own node.
+///
+/// After a draw it stands at the last timestamp that it drew. After a receive it stands at a time and a counter that were
+/// neither drawn nor received, later than both. The next timestamps that it draws are later still.
 ///
 /// A contract sees it as the timestamp at which it stands, which is always valid.
 #[derive(Debug, Drop)]

@@ -27,10 +27,13 @@ pub enum NodeFault {
 
 impl Model for Node {
     ghost use Rattle.std.specs.Prelude.{List, ℕ};
+    ghost use Rattle.hybrid_clock.specs.Node.{IsNode};
 
     ghost Value = { List ℕ };
 
     ghost view = { λ n. n.bytes };
+
+    ghost invariant = { λ n. IsNode n.bytes };
 
     ghost inverse = { λ bytes. record { bytes = bytes } };
 }
@@ -67,7 +70,8 @@ impl Node {
 
     /// At most sixteen characters, with `0` on their left up to sixteen.
     fn padded(text: &[u8]) -> Node
-        requires { length text.now ≤ 16 }
+        requires short { length text.now ≤ 16 }
+        requires node { IsNode (padded text.now) }
         ensures { result ≡ padded text.now }
     {
         let mut bytes = [b'0'; 16];
@@ -77,6 +81,7 @@ impl Node {
 
     /// The node of these characters.
     pub(crate) fn of(bytes: [u8; 16]) -> Node
+        requires { IsNode bytes }
         ensures { result ≡ bytes }
     {
         Node { bytes }
@@ -84,7 +89,8 @@ impl Node {
 
     /// Its sixteen characters.
     pub fn bytes(&self) -> [u8; 16]
-        ensures { result ≡ self.now }
+        ensures value { result ≡ self.now }
+        ensures node { IsNode result }
     {
         self.bytes
     }

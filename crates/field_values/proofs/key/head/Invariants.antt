@@ -1,5 +1,6 @@
 use Rattle.std.proofs.Common.{◌≡◌, ◌-◌, ◌<◌, drop}
-use Rattle.field_values.specs.Heads.{head_from, head_of, bound}
+use Rattle.field_values.specs.Heads.{head_from, head_of}
+use Rattle.field_values.proofs.HeadLemmas.{bound}
 use Rattle.field_values.proofs.key.head.Given as goal
 
 -- the bytes so far have been read

@@ -22,3 +22,11 @@ pub returns-clause-stamp : goal.returns-clause-stamp
 returns-clause-stamp c =
     let s : Stamp = stamp_of c.in-Some-millis_of.millis c.hex.result c.of.result in
     (read_valid c.args.text.now s (sym (read c)), read_text c.args.text.now s (sym (read c)))
+
+pub of-requires : goal.of-requires
+of-requires c =
+    let s : Stamp = stamp_of c.in-Some-millis_of.millis c.hex.result c.node_of-node.result in
+    let made : Ok s ≡ read_stamp c.in-Ok.bytes = read_parts c.in-Ok.bytes c.in-Some-millis_of.millis c.hex.result c.node_of-node.result
+    (omega arith) (sym c.misfit.ensures ∙ c.in_default-misfit.is) c.in-Some-millis_of.ensures c.if-minute-ge-WINDOW.false
+    (sym c.is_zeros.ensures ∙ c.if-is_zeros.false) c.hex.ensures c.node_of-node.ensures in
+    (read_valid c.in-Ok.bytes s (sym made)).node

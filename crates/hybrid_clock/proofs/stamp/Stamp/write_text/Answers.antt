@@ -17,7 +17,7 @@ returns-clause-text c =
     let month = ap (λ (d : Day). d.month) day in
     let number = ap (λ (d : Day). d.day) day in
     assembled 30 16 c.copy_from_slice.new.self c.copy_from_slice-2.new.self c.args.out.now first second out
-    ∙ rw (c.copy_from_slice.ensures.after, c.copy_from_slice-2.ensures.after, c.head-head.ensures, c.bytes-node.ensures, year, month, number) refl
+    ∙ rw (c.copy_from_slice.ensures.after, c.copy_from_slice-2.ensures.after, c.head-head.ensures, c.bytes-node.ensures.value, year, month, number) refl
 
 pub returns-clause-reads_back : goal.returns-clause-reads_back
 returns-clause-reads_back c = ap read_stamp (returns-clause-text c) ∙ text_reads c.args.self.now c.requires

@@ -1,5 +1,5 @@
 use Rattle.field_values.proofs.NameLemmas.{faults_are_told_lem}
-use Rattle.field_values.proofs.name.faults_are_told.Goals as goal
+use Rattle.field_values.proofs.laws.faults_are_told.Goals as goal
 
 pub returns : goal.returns
 returns c = faults_are_told_lem
