@@ -25,7 +25,7 @@ use Rattle.field_merge.specs.declared.message.Message.{Message}
 use Rattle.field_merge.specs.declared.line.LineFault.{LineFault}
 use Rattle.field_merge.specs.Escapes.{escaped, unescaped, bad_escape}
 use Rattle.field_merge.specs.Lines.{parts, with_names, with_stamp, of_parts, reading}
-use Rattle.field_merge.specs.Messages.{IsMessage}
+use Rattle.field_merge.specs.Messages.{IsMessage, message_body}
 use Rattle.field_merge.specs.Log.{IsRising, has_stamp, by_stamp, placed, join}
 use Rattle.field_merge.proofs.EscapeLemmas.{Lacks, escaped-no_tab, unescaped-escaped}
 use Rattle.field_merge.proofs.LineLemmas.{parts-at}
@@ -33,7 +33,7 @@ use Rattle.field_merge.proofs.StampLemmas.{stamp_text_escaped}
 use Rattle.field_merge.proofs.Orders.{stamps_total}
 use Rattle.field_merge.proofs.Ordered.{IsBelow, cons, equal, in_order_nil, same}
 use Rattle.field_merge.proofs.Joining.{stamp_of, rising, found}
-use Rattle.device_core.specs.Records.{body_of, record_of, message_in, unless_bad, set_of, kept_set}
+use Rattle.device_core.specs.Records.{record_of, message_in, unless_bad, set_of, kept_set}
 use Rattle.device_core.specs.Device.{new_in}
 use Rattle.device_core.specs.Holding.{Holds, BatchesAreKept}
 use Rattle.device_core.proofs.Keeping.{reads_back, have_keys}
@@ -190,13 +190,13 @@ written_one group entry now ms n h key body lacked has =
     own = (group, stamp_text n.stamp)
 
     by : (o : Option Text) → get now.records place ≡ o → (tied : Bool) → is_eq (place_cmp place own) ≡ tied
-        → option_or o (cond tied (Some (body_of n)) None) ≡ Some body → (m : Message) × Contains (placed by_stamp ms n) m × (record_of m ≡ record { key = key; body = body })
+        → option_or o (cond tied (Some (message_body n)) None) ≡ Some body → (m : Message) × Contains (placed by_stamp ms n) m × (record_of m ≡ record { key = key; body = body })
     by (Some old) is tied at k =
         let w = h.written key body lacked (is ∙ k) in
         (w.0, still_there ms n w.0 w.1, w.2)
     by None is true at k =
         let here : key ≡ stamp_text n.stamp = ap (λ (p : Place). p.1) (place_same place own (equal _ at)) in
-        let same : body_of n ≡ body = cc in
+        let same : message_body n ≡ body = cc in
         (n, placed_is_there ms n, ap₂ (λ (k b : Text). record { key = k; body = b }) (sym here) same)
     by None is false at k = absurd (cc)
 
@@ -211,7 +211,7 @@ holds_one group entry now ms n valid new h =
       messages = reads_kept (records_after after group []) (placed by_stamp ms n) (records_rise after.records group [])
           (let P : List Record → Type 0 = λ rs. Reads rs (placed by_stamp ms n) in subst P (sym grown) reads);
       kept = λ key body had. get_with now.records group (record_of n) (group, key)
-          ∙ ap (λ o. option_or o (cond (is_eq (place_cmp (group, key) (group, stamp_text n.stamp))) (Some (body_of n)) None)) (h.kept key body had);
+          ∙ ap (λ o. option_or o (cond (is_eq (place_cmp (group, key) (group, stamp_text n.stamp))) (Some (message_body n)) None)) (h.kept key body had);
       written = written_one group entry now ms n h;
       others = record {
         records = λ p other. others_with now.records group (record_of n) p other ∙ h.others.records p other;
