@@ -1,5 +1,5 @@
 -- The lines of a device: which words each has, and what it commands.
-use Rattle.std.specs.Prelude.{◌≡◌, ℕ, ◌+◌, List, [], ◌∷◌, length, nat_lt, if◌then◌else◌, codes, Option, None, Some, Result, Ok, Err}
+use Rattle.std.specs.Prelude.{◌≡◌, ℕ, ◌+◌, List, [], ◌∷◌, length, Bool, nat_lt, if◌then◌else◌, codes, Option, None, Some, Result, Ok, Err}
 use Rattle.std.specs.Str.{bytes_eq}
 use Rattle.field_values.specs.declared.name.NamePart.{NamePart}
 use Rattle.field_values.specs.declared.name.NamePart.TheVariants.{Dataset, Row, Column}
