@@ -23,7 +23,7 @@ use Rattle.field_merge.proofs.Latest.{latest-cons}
 use Rattle.device_core.specs.declared.edit.Write.{Write}
 use Rattle.device_core.specs.Records.{record_of}
 use Rattle.device_core.specs.Edits.{write_unless}
-use Rattle.device_core.specs.Device.{State, Accepted, IsUpTo, IsAhead, new_in, stamped, first_of, with_messages, written, writing}
+use Rattle.device_core.specs.Device.{State, Accepted, IsUpTo, IsAhead, new_in, stamped, first_in_row, with_messages, written, writing}
 use Rattle.device_core.specs.ReadBack.{IsReadBack, EditsReadBack}
 
 -- ---- a timestamp past a clock is past all that the clock is not behind
@@ -107,19 +107,19 @@ draw_later clock new reading h = go (nat_lt (reading / 60_000) window) h
 -- ---- one write
 
 write_is : (s : State) (reading : ℕ) (w : Write) (a : Accepted) → writing s reading (Ok (w ∷ [])) ≡ Ok a
-    → (clock : Stamp) × ((draw s.clock reading 1 ≡ Ok clock) × (record { device = with_messages s.messages (stamped (first_of clock 1) (w ∷ [])) clock; count = 1 } ≡ a))
+    → (clock : Stamp) × ((draw s.clock reading 1 ≡ Ok clock) × (record { device = with_messages s.messages (stamped (first_in_row clock 1) (w ∷ [])) clock; count = 1 } ≡ a))
 write_is s reading w a h = go (draw s.clock reading 1) refl h
   where
     go : (d : Result Stamp ClockFault) → draw s.clock reading 1 ≡ d → written s (w ∷ []) d ≡ Ok a
-        → (clock : Stamp) × ((draw s.clock reading 1 ≡ Ok clock) × (record { device = with_messages s.messages (stamped (first_of clock 1) (w ∷ [])) clock; count = 1 } ≡ a))
+        → (clock : Stamp) × ((draw s.clock reading 1 ≡ Ok clock) × (record { device = with_messages s.messages (stamped (first_in_row clock 1) (w ∷ [])) clock; count = 1 } ≡ a))
     go (Ok clock) is k = (clock, (is, cc))
     go (Err fault) is k = absurd (cc)
 
 read_write : (s : State) (dataset row column : List ℕ) (value : Value) (clock : Stamp) → IsAhead s.clock s.messages → IsLater s.clock clock
-    → IsReadBack s.messages dataset row column value (record { device = with_messages s.messages (stamped (first_of clock 1) (record { field = field_of dataset row column; value = value } ∷ [])) clock; count = 1 })
+    → IsReadBack s.messages dataset row column value (record { device = with_messages s.messages (stamped (first_in_row clock 1) (record { field = field_of dataset row column; value = value } ∷ [])) clock; count = 1 })
 read_write s dataset row column value clock ahead later =
     let ms = s.messages in
-    let n : Message = record { stamp = first_of clock 1; field = field_of dataset row column; value = value } in
+    let n : Message = record { stamp = first_in_row clock 1; field = field_of dataset row column; value = value } in
     let counter : clock.counter ≡ clock.counter - (1 - 1) = omega arith in
     let first : clock ≡ n.stamp = ap (λ (k : ℕ). record clock { counter = k }) counter in
     let low : AllByRecursion (λ m. IsLater m.stamp n.stamp) ms = subst (λ (t : Stamp). AllByRecursion (λ m. IsLater m.stamp t) ms) first (all_past s.clock clock ms ahead later) in

@@ -45,7 +45,7 @@ const MOST_WRITES: usize = 65_536;
 /// A device of a household.
 ///
 /// A contract sees its messages, the timestamp at which its clock stands, the records that are not
-/// kept yet, the ids that the last edit made for rows, and whether it is spent. A call that answers
+/// kept yet, the ids that the last accepted line made for rows, and whether it is spent. A call that answers
 /// `NoMemory` and may change the device leaves it spent; then nothing but `is_spent` may be asked of
 /// it.
 #[derive(Drop)]
@@ -71,7 +71,8 @@ impl Model for Device {
 }
 
 impl Device {
-    /// A device with this node that begins with the messages that records keep, in any order.
+    /// A device with this node that begins with the messages that records keep. Of records with one
+    /// timestamp the first counts.
     ///
     /// Its clock goes on after the last of them, and nothing is pending.
     ///
@@ -253,7 +254,7 @@ impl Device {
         self.batch.as_slice()
     }
 
-    /// The ids that the last accepted line made for rows.
+    /// The ids that were made for rows: `prepare` and `incoming` say which. No edit makes one yet.
     pub fn made(&self) -> &Items<Txt>
         requires { self.now.spent ≡ false }
         ensures { result.now ≡ self.now.made }
@@ -261,7 +262,7 @@ impl Device {
         &self.made
     }
 
-    /// The batch is kept: nothing is pending any more.
+    /// Takes the batch as kept: nothing is pending any more, and all else stays.
     pub fn commit(&mut self)
         requires { self.old.spent ≡ false }
         ensures { self.new ≡ record self.old { batch = [] } }
@@ -290,8 +291,7 @@ impl Device {
     /// The trie of the messages' timestamps, by which two devices find from when on they exchange messages.
     ///
     /// It depends on the messages alone: after the same messages have come, by edits, in batches in
-    /// any order, or from records when a device starts again, it holds the same. A new message
-    /// costs one insertion, and a known one none.
+    /// any order, or from records when a device starts again, it holds the same.
     pub fn trie(&self) -> &Trie
         requires { self.now.spent ≡ false }
         ensures trie { IsTrieOf (pairs_of self.now.state.messages) result.now }

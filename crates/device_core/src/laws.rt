@@ -2,6 +2,13 @@
 ghost use Rattle.device_core.specs.Holding.{BatchesAreKept};
 ghost use Rattle.device_core.specs.News.{NewOnesAreAdded, GreatestIsTold};
 ghost use Rattle.device_core.specs.ReadBack.{EditsReadBack};
+ghost use Rattle.device_core.specs.Records.{RecordsReadBack};
+
+/// A law: the record of a message keeps that message. A record that keeps a message is the record of
+/// that message, but for the bytes 0 and LF that stand in its body without their escape.
+pub fn records_read_back()
+    ensures { RecordsReadBack }
+{}
 
 /// A law: a group that keeps a message set keeps, with the records of the new ones of other messages
 /// appended, that set joined with these messages. It loses none of the records that it had at entry
@@ -19,8 +26,8 @@ pub fn edits_read_back()
     ensures { EditsReadBack }
 {}
 
-/// A law: of messages that come, joining those alone that are new joins all of them, and the join has
-/// one message more for each of these. So the count of an `incoming` says by how many messages the
+/// A law: of messages that come, those that are new stand in the order in which they came; joining them
+/// alone joins all of them, and the join has one message more for each. So the count of an `incoming` says by how many messages the
 /// device has grown, and a timestamp that comes twice counts once.
 pub fn new_ones_are_added()
     ensures { NewOnesAreAdded }
