@@ -1,11 +1,12 @@
 //! A device.
-ghost use Rattle.std.specs.Prelude.{◌≡◌, ◌+◌, ◌-◌, ◌≤◌, ◌<◌, [], length, true, false, IfOk, IfErr, OnOk, OnErr};
+ghost use Rattle.std.specs.Prelude.{◌≡◌, ◌≢◌, ◌+◌, ◌-◌, ◌≤◌, ◌<◌, [], length, true, false, IfOk, IfErr, OnOk, OnErr, Err};
 ghost use Rattle.hybrid_clock.specs.Node.{IsNode};
 ghost use Rattle.hybrid_clock.specs.Stamp.{IsStamp};
 ghost use Rattle.budget_ports.specs.Keeper.{HaveKeys};
 ghost use Rattle.field_merge.specs.Log.{messages_after};
 ghost use Rattle.field_merge.specs.Messages.{AreMessages};
-ghost use Rattle.minute_trie.specs.Trie.{IsTrieOf, ArePairs};
+ghost use Rattle.minute_trie.specs.Trie.{is_spent, IsTrieOf, ArePairs};
+ghost use Rattle.device_core.specs.declared.edit.LineRefusal.TheVariants.{Edit as OfEdit};
 ghost use Rattle.device_core.specs.declared.device.StartFault.TheVariants.{NoMemory as OutOfMemory};
 ghost use Rattle.device_core.specs.Records.{kept_set};
 ghost use Rattle.device_core.specs.Edits.{IsEdit, AreWrites};
@@ -120,6 +121,7 @@ impl Device {
         ensures ok { IfOk result (IsAccepted (edited self.old.state edit.now reading) self.new) }
         ensures refused { IfErr result (IsRefused (edited self.old.state edit.now reading) self.old self.new) }
         ensures live { OnOk result (self.new.spent ≡ false) }
+        ensures memory { result ≢ Err (OfEdit EditFault.NoMemory) }
         ensures steps { steps.new ≡ steps.old }
     {
         match edit_writes(self.alloc, edit) {
@@ -141,6 +143,7 @@ impl Device {
         ensures ok { IfOk result (IsAccepted (writing self.old.state reading (Ok writes.now)) self.new) }
         ensures refused { IfErr result (IsRefused (writing self.old.state reading (Ok writes.now)) self.old self.new) }
         ensures live { OnOk result (self.new.spent ≡ false) }
+        ensures memory { result ≢ Err (OfEdit EditFault.NoMemory) }
     {
         let count = writes.len();
         if count == 0 {
@@ -294,6 +297,7 @@ impl Device {
     /// any order, or from records when a device starts again, it holds the same.
     pub fn trie(&self) -> &Trie
         requires { self.now.spent ≡ false }
+        ensures live { is_spent result.now ≡ false }
         ensures trie { IsTrieOf (pairs_of self.now.state.messages) result.now }
         ensures pairs { ArePairs (pairs_of self.now.state.messages) }
     {

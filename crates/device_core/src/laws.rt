@@ -19,8 +19,9 @@ pub fn batches_are_kept()
 {}
 
 /// A law: where the clock is not behind a message, a write of a value into a field that is accepted is
-/// one message under a timestamp that no message had. It joins the messages, is the latest of its
-/// field, so that the field has that value, and its record alone is pending. So a write is never lost
+/// one message under a timestamp that no message had, of the device's own node, at which the clock then
+/// stands. It joins the messages, is the latest of its field, so that the field has that value, and its
+/// record alone is pending. So a write is never lost
 /// to a message that came before it, whatever clock that message had.
 pub fn edits_read_back()
     ensures { EditsReadBack }
