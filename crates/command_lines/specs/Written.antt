@@ -29,7 +29,7 @@ command_line c = line_of_texts (command_texts c)
 abbrev pub receive_line : List ℕ → List ℕ
 receive_line line = codes "receive" ++ 9 ∷ line
 
--- a line behind `receive`, where both are not too long, is the command to receive a message exactly where the line is read as that message
+-- a line behind `receive`, where the whole is not too long, is the command to receive a message exactly where the line is read as that message
 abbrev pub ReceivesMessageLines : Type 0
 ReceivesMessageLines = (line : List ℕ) (m : Message) → length (receive_line line) ≤ longest_line →
     ((command (receive_line line) ≡ Ok (Receive m)) ↔ (reading line ≡ Ok m))
