@@ -5,3 +5,4 @@ pub mod ReadingLemmas
 pub mod ReplyLemmas
 pub mod WrittenLemmas
 pub mod RawLemmas
+pub mod ReceivedLines

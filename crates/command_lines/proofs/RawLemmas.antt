@@ -1,13 +1,10 @@
 -- A line that is read as a command is the line of the command, but for the bytes that stand in it without their escape.
 use Rattle.std.proofs.Common.{◌≡◌, ℕ, ◌+◌, Bool, true, false, cond, List, [], ◌∷◌, ◌++◌, length, map, Option, None, Some, Result, Ok, Err, IfOk, refl, ap, sym, subst, ◌∙◌, append_assoc}
-use Rattle.std.specs.Prelude.{codes, nat_lt}
+use Rattle.std.specs.Prelude.{codes, nat_lt, if◌then◌else◌}
 use Rattle.std.specs.List.{join_with_byte, AllByRecursion}
 use Rattle.std.specs.Str.{bytes_eq}
 use Rattle.std.proofs.lemmas.List.{append-nil}
 use Rattle.std.proofs.lemmas.Slice.Eq.{bytes_eq-Decides}
-use Rattle.field_values.specs.declared.name.NamePart.TheVariants.{Dataset, Row, Column}
-use Rattle.field_values.specs.declared.name.NameFault.{NameFault}
-use Rattle.field_values.specs.Names.{name_fault}
 use Rattle.field_values.specs.Value.{value_text, value_of, TextsWriteBack}
 use Rattle.hybrid_clock.specs.declared.stamp.Stamp.{Stamp}
 use Rattle.hybrid_clock.specs.declared.stamp.StampFault.{StampFault}
@@ -17,7 +14,7 @@ use Rattle.field_merge.specs.Escapes.{escaped, unescaped, bad_escape}
 use Rattle.field_merge.specs.Lines.{parts}
 use Rattle.field_merge.proofs.RawLines.{IsGood, parts_write_back}
 use Rattle.command_lines.specs.declared.command.Command.{Command}
-use Rattle.command_lines.specs.Commands.{Wanted, word, no_more, misfit, of_stamp, of_name, set_words, receive_words, fields_words, messages_words, value_words, trie_words, line_words, unescaped_for, command_of, of_words, longest_line}
+use Rattle.command_lines.specs.Commands.{Wanted, word, no_more, misfit, is_name, of_stamp, set_words, receive_words, fields_words, messages_words, value_words, trie_words, line_words, unescaped_for, command_of, of_words, longest_line}
 use Rattle.command_lines.specs.Written.{command_texts, LinesWriteBack}
 
 -- the command that is made of a line's words has them as its texts, behind those in front
@@ -33,9 +30,9 @@ tells_stamp : (read : Result Stamp StampFault) (front : List (List ℕ)) (text :
 tells_stamp (Err fault) front text next e h = tt
 tells_stamp (Ok s) front text next e h = h s e
 
-tells_name : (found : Option NameFault) (front : List (List ℕ)) (next : Wanted) → Tells front next → Tells front (of_name next found)
-tells_name None front next h = h
-tells_name (Some fault) front next h = tt
+tells_name : (is : Bool) (front : List (List ℕ)) (next : Wanted) → Tells front next → Tells front (if is then next else misfit)
+tells_name true front next h = h
+tells_name false front next h = tt
 
 tells_set : TextsWriteBack → Tells (codes "set" ∷ []) set_words
 tells_set values d r c v = ap (λ t. codes "set" ∷ d ∷ r ∷ c ∷ t ∷ []) (values v).1
@@ -43,9 +40,9 @@ tells_set values d r c v = ap (λ t. codes "set" ∷ d ∷ r ∷ c ∷ t ∷ [])
 tells_receive : TextsWriteBack → StampsWriteBack → Tells (codes "receive" ∷ []) receive_words
 tells_receive values stamps text =
     tells_stamp (read_stamp text) (codes "receive" ∷ text ∷ []) text _ refl (λ s told d.
-    tells_name (name_fault Dataset d) (codes "receive" ∷ text ∷ d ∷ []) _ (λ r.
-    tells_name (name_fault Row r) (codes "receive" ∷ text ∷ d ∷ r ∷ []) _ (λ c.
-    tells_name (name_fault Column c) (codes "receive" ∷ text ∷ d ∷ r ∷ c ∷ []) _ (λ v.
+    tells_name (is_name d) (codes "receive" ∷ text ∷ d ∷ []) _ (λ r.
+    tells_name (is_name r) (codes "receive" ∷ text ∷ d ∷ r ∷ []) _ (λ c.
+    tells_name (is_name c) (codes "receive" ∷ text ∷ d ∷ r ∷ c ∷ []) _ (λ v.
     ap (λ t. codes "receive" ∷ t ∷ d ∷ r ∷ c ∷ value_text (value_of v) ∷ []) (stamps text s told).1
     ∙ ap (λ t. codes "receive" ∷ text ∷ d ∷ r ∷ c ∷ t ∷ []) (values v).1))))
 

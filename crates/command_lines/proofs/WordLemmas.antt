@@ -1,10 +1,13 @@
 -- The words of a line, and the command of words.
-use Rattle.std.proofs.Common.{◌≡◌, ℕ, ◌+◌, ◌<◌, ◌≤◌, Bool, true, false, cond, eqb, List, [], ◌∷◌, length, Result, Ok, Err, refl, ap, sym, subst, arith}
+use Rattle.std.proofs.Common.{◌≡◌, ℕ, ◌+◌, ◌<◌, ◌≤◌, Bool, true, false, cond, eqb, List, [], ◌∷◌, length, None, Some, Result, Ok, Err, refl, ap, sym, subst, arith}
 use Rattle.std.specs.Result.{IsErrAnd}
 use Rattle.std.specs.Prelude.{◌==◌, ◌^◌}
 use Rattle.std.specs.List.{onto_first}
 use Rattle.std.proofs.lemmas.List.Splits.{length-slice_split}
 use Rattle.std.proofs.lemmas.List.Sums.{count_by-le-length}
+use Rattle.field_values.specs.declared.name.NameFault.{NameFault}
+use Rattle.field_values.specs.Names.{IsName, field_of, names_fault}
+use Rattle.field_values.proofs.NameLemmas.{names_fault-none}
 use Rattle.field_merge.specs.Lines.{parts}
 use Rattle.command_lines.specs.declared.command.Command.{Command}
 use Rattle.command_lines.specs.declared.command.CommandFault.{CommandFault}
@@ -36,3 +39,8 @@ at_later_exit meant left r fault e h f = at_exit meant r fault h (subst (λ m. I
 pub few_words : (line name : List ℕ) (ws : List (List ℕ)) → parts line ≡ name ∷ ws → length line ≤ 1_048_576 → length ws < 2 ^ 31
 few_words line name ws e short =
     omega (arith, ap length e, length-slice_split (λ b. b == 9) line, count_by-le-length (λ b. b == 9) line)
+
+-- three names have no fault together
+pub names_are_fine : (d r c : List ℕ) (fault : NameFault) → IsName d → IsName r → IsName c → names_fault (field_of d r c) ≡ Some fault → ⊥
+names_are_fine d r c fault first second third bad =
+    let none : names_fault (field_of d r c) ≡ None = names_fault-none (field_of d r c) (record { dataset = first; row = second; column = third }) in cc

@@ -1,13 +1,12 @@
 -- The line of a command is read as the command.
-use Rattle.std.proofs.Common.{◌≡◌, ℕ, ◌+◌, List, [], ◌∷◌, length, map, None, Ok, Err, refl, ap, sym, ◌∙◌}
+use Rattle.std.proofs.Common.{◌≡◌, ℕ, ◌+◌, List, [], ◌∷◌, length, map, is_none, None, Ok, Err, refl, ap, sym, ◌∙◌}
 use Rattle.std.specs.Prelude.{codes, if◌then◌else◌}
 use Rattle.std.specs.List.{join_with_byte}
 use Rattle.std.proofs.lemmas.Bool.{le-ltb}
 use Rattle.std.proofs.lemmas.List.{append-nil}
-use Rattle.field_values.specs.declared.name.NamePart.{NamePart}
-use Rattle.field_values.specs.declared.name.NamePart.TheVariants.{Dataset, Row, Column}
+use Rattle.field_values.specs.declared.name.NamePart.TheVariants.{Dataset}
 use Rattle.field_values.specs.declared.value.Value.{Value as AnyValue}
-use Rattle.field_values.specs.Names.{IsName, field_of, name_fault}
+use Rattle.field_values.specs.Names.{IsName, field_of}
 use Rattle.field_values.specs.Value.{value_text, value_of, IsValue, ValuesReadBack}
 use Rattle.field_values.proofs.NameLemmas.{name_fault-none}
 use Rattle.hybrid_clock.specs.declared.stamp.Stamp.{Stamp}
@@ -24,7 +23,7 @@ use Rattle.device_core.specs.declared.edit.Edit.TheVariants.{Book}
 use Rattle.device_core.specs.declared.edit.BookEdit.TheVariants.{Set}
 use Rattle.command_lines.specs.declared.command.Command.{Command}
 use Rattle.command_lines.specs.declared.command.Command.TheVariants.{Edit, Receive, Fields, Messages, Value, Trie}
-use Rattle.command_lines.specs.Commands.{Wanted, word, no_more, of_stamp, of_name, stamp_word, name_word, unescaped_for, command_of, of_words, longest_line, IsCommand}
+use Rattle.command_lines.specs.Commands.{Wanted, word, no_more, misfit, is_name, of_stamp, stamp_word, name_word, unescaped_for, command_of, of_words, longest_line, IsCommand}
 use Rattle.command_lines.specs.Written.{command_texts, command_line, CommandsReadBack}
 
 parts_written : (text : List ℕ) (texts : List (List ℕ)) → parts (join_with_byte 9 (map escaped (text ∷ texts))) ≡ map escaped (text ∷ texts)
@@ -48,11 +47,11 @@ read_stamp_word next last s ws back =
     read_word (λ text. of_stamp next (read_stamp text)) last (stamp_text s) ws
     ∙ ap (λ read. command_of (of_stamp next read) (last + 1) ws) back
 
-read_name : (part : NamePart) (next : List ℕ → Wanted) (last : ℕ) (name : List ℕ) (ws : List (List ℕ)) → IsName name
-    → command_of (name_word part next) last (escaped name ∷ ws) ≡ command_of (next name) (last + 1) ws
-read_name part next last name ws is =
-    read_word (λ text. of_name (next text) (name_fault part text)) last name ws
-    ∙ ap (λ fault. command_of (of_name (next name) fault) (last + 1) ws) (name_fault-none part name is)
+read_name : (next : List ℕ → Wanted) (last : ℕ) (name : List ℕ) (ws : List (List ℕ)) → IsName name
+    → command_of (name_word next) last (escaped name ∷ ws) ≡ command_of (next name) (last + 1) ws
+read_name next last name ws is =
+    read_word (λ text. if is_name text then next text else misfit) last name ws
+    ∙ ap (λ fault. command_of (if is_none fault then next name else misfit) (last + 1) ws) (name_fault-none Dataset name is)
 
 receive_back : ValuesReadBack → StampsReadBack → (m : Message) → IsMessage m → of_words (map escaped (command_texts (Receive m))) ≡ Ok (Receive m)
 receive_back values stamps m is =
@@ -62,12 +61,12 @@ receive_back values stamps m is =
     let c : List ℕ = m.field.column in
     let v : List ℕ = escaped (value_text m.value) in
     let value_word : List ℕ → List ℕ → List ℕ → Wanted = λ dataset row column. word (λ value. no_more (Receive (message_of s (field_of dataset row column) value))) in
-    let column_word : List ℕ → List ℕ → Wanted = λ dataset row. name_word Column (λ column. value_word dataset row column) in
-    let row_word : List ℕ → Wanted = λ dataset. name_word Row (λ row. column_word dataset row) in
+    let column_word : List ℕ → List ℕ → Wanted = λ dataset row. name_word (λ column. value_word dataset row column) in
+    let row_word : List ℕ → Wanted = λ dataset. name_word (λ row. column_word dataset row) in
     read_stamp_word _ 0 s (escaped d ∷ escaped r ∷ escaped c ∷ v ∷ []) (stamps s is.stamp)
-    ∙ read_name Dataset row_word 1 d (escaped r ∷ escaped c ∷ v ∷ []) is.field.dataset
-    ∙ read_name Row (column_word d) 2 r (escaped c ∷ v ∷ []) is.field.row
-    ∙ read_name Column (value_word d r) 3 c (v ∷ []) is.field.column
+    ∙ read_name row_word 1 d (escaped r ∷ escaped c ∷ v ∷ []) is.field.dataset
+    ∙ read_name (column_word d) 2 r (escaped c ∷ v ∷ []) is.field.row
+    ∙ read_name (value_word d r) 3 c (v ∷ []) is.field.column
     ∙ read_word (λ value. no_more (Receive (message_of s (field_of d r c) value))) 4 (value_text m.value) []
     ∙ ap (λ value. Ok (Receive (record m { value = value }))) (values m.value is.value)
 

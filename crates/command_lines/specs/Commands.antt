@@ -1,9 +1,7 @@
 -- The lines of a device: which words each has, and what it commands.
-use Rattle.std.specs.Prelude.{Bool, ◌≡◌, ℕ, ◌+◌, List, [], ◌∷◌, length, nat_lt, if◌then◌else◌, codes, Option, None, Some, Result, Ok, Err}
+use Rattle.std.specs.Prelude.{◌≡◌, ℕ, ◌+◌, List, [], ◌∷◌, length, Bool, nat_lt, if◌then◌else◌, codes, Option, None, Some, is_none, Result, Ok, Err}
 use Rattle.std.specs.Str.{bytes_eq}
-use Rattle.field_values.specs.declared.name.NamePart.{NamePart}
-use Rattle.field_values.specs.declared.name.NamePart.TheVariants.{Dataset, Row, Column}
-use Rattle.field_values.specs.declared.name.NameFault.{NameFault}
+use Rattle.field_values.specs.declared.name.NamePart.TheVariants.{Dataset}
 use Rattle.field_values.specs.Names.{field_of, name_fault}
 use Rattle.field_values.specs.Value.{value_of}
 use Rattle.hybrid_clock.specs.declared.stamp.Stamp.{Stamp}
@@ -27,42 +25,46 @@ pub data Wanted : Type 0 where
   word : (List ℕ → Wanted) → Wanted
   misfit : Wanted
 
--- a word that is a timestamp's text
+-- what is wanted behind a word that was read as a timestamp, or was none
 abbrev pub of_stamp : (Stamp → Wanted) → Result Stamp StampFault → Wanted
 of_stamp next (Ok stamp) = next stamp
 of_stamp next (Err fault) = misfit
 
+-- a word that is a timestamp's text
 abbrev pub stamp_word : (Stamp → Wanted) → Wanted
 stamp_word next = word (λ text. of_stamp next (read_stamp text))
 
+-- whether a text is a name; the part of the field is told with a fault, and decides nothing
+abbrev pub is_name : List ℕ → Bool
+is_name text = is_none (name_fault Dataset text)
+
 -- a word that is a name of a field
-abbrev pub of_name : Wanted → Option NameFault → Wanted
-of_name next None = next
-of_name next (Some fault) = misfit
+abbrev pub name_word : (List ℕ → Wanted) → Wanted
+name_word next = word (λ text. if is_name text then next text else misfit)
 
-abbrev pub name_word : NamePart → (List ℕ → Wanted) → Wanted
-name_word part next = word (λ text. of_name (next text) (name_fault part text))
-
--- the words of each line behind its name
+-- the words of each line, behind its name. `set`: a field's three names, which the edit judges, and the text of a value
 abbrev pub set_words : Wanted
 set_words = word (λ dataset. word (λ row. word (λ column. word (λ value.
     no_more (Edit (Book (Set dataset row column (value_of value))))))))
 
+-- `receive`: the parts of a message's line
 abbrev pub receive_words : Wanted
-receive_words = stamp_word (λ stamp. name_word Dataset (λ dataset. name_word Row (λ row. name_word Column (λ column. word (λ value.
+receive_words = stamp_word (λ stamp. name_word (λ dataset. name_word (λ row. name_word (λ column. word (λ value.
     no_more (Receive (message_of stamp (field_of dataset row column) value)))))))
 
--- `fields`
+-- `fields`: no word
 abbrev pub fields_words : Wanted
 fields_words = no_more Fields
 
+-- `messages`: any text
 abbrev pub messages_words : Wanted
 messages_words = word (λ since. no_more (Messages since))
 
+-- `value`: any three texts
 abbrev pub value_words : Wanted
 value_words = word (λ dataset. word (λ row. word (λ column. no_more (Value dataset row column))))
 
--- `trie`
+-- `trie`: no word
 abbrev pub trie_words : Wanted
 trie_words = no_more Trie
 

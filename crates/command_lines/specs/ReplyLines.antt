@@ -13,6 +13,7 @@ use Rattle.command_lines.specs.Replies.{wrote, added, faulty, refused, reply_lin
 abbrev pub IsLine : List ℕ → Type 0
 IsLine text = All (λ b. b ≢ 10) text
 
+-- texts without a line feed
 abbrev pub AreLines : List (List ℕ) → Type 0
 AreLines texts = AllByRecursion IsLine texts
 

@@ -14,6 +14,6 @@ abbrev pub words_of : Option (List ℕ) → List (List ℕ)
 words_of None = []
 words_of (Some text) = parts text
 
--- the command that the words give a line that wants these
-abbrev pub given : Wanted → UnreadWords → Result Command ℕ
-given wanted unread = command_of wanted unread.last unread.words
+-- the command of the words that are still to be read, where a line wants these
+abbrev pub command_of_unread : Wanted → UnreadWords → Result Command ℕ
+command_of_unread wanted unread = command_of wanted unread.last unread.words

@@ -2,12 +2,12 @@
 ghost use Rattle.std.specs.Prelude.{◌≡◌, ◌<◌, IfOk};
 ghost use Rattle.command_lines.specs.declared.command.CommandFault.TheVariants.{NoMemory as OutOfMemory};
 ghost use Rattle.command_lines.specs.Commands.{set_words, receive_words, fields_words, messages_words, value_words, trie_words, line_words, command, command_of, IsRead, IsCommand};
-ghost use Rattle.command_lines.specs.Unread.{given};
+ghost use Rattle.command_lines.specs.Unread.{command_of_unread};
 
 use crate::words::{Words, cut_word};
 use device_core::{BookEdit, Edit};
 use field_merge::Message;
-use field_values::{Field, NamePart, NoMemory, Txt, Value};
+use field_values::{Field, NameFault, NoMemory, Txt, Value};
 use std::alloc::Global;
 
 /// What a line commands.
@@ -52,7 +52,7 @@ pub const LONGEST_LINE: usize = 1_048_576;
 
 /// The words behind `set`. Its names are judged by the edit.
 fn set(alloc: Global, words: &mut Words<'_>) -> Result<Command, CommandFault>
-    ensures read { IsRead (given set_words words.old) result }
+    ensures read { IsRead (command_of_unread set_words words.old) result }
     ensures valid { IfOk result IsCommand }
 {
     let dataset = words.text(alloc)?;
@@ -71,17 +71,16 @@ fn set(alloc: Global, words: &mut Words<'_>) -> Result<Command, CommandFault>
 
 /// The words behind `receive`.
 fn receive(alloc: Global, words: &mut Words<'_>) -> Result<Command, CommandFault>
-    ensures read { IsRead (given receive_words words.old) result }
+    ensures read { IsRead (command_of_unread receive_words words.old) result }
     ensures valid { IfOk result IsCommand }
 {
     let stamp = words.stamp(alloc)?;
-    let dataset = words.name(alloc, NamePart::Dataset)?;
-    let row = words.name(alloc, NamePart::Row)?;
-    let column = words.name(alloc, NamePart::Column)?;
+    let dataset = words.name(alloc)?;
+    let row = words.name(alloc)?;
+    let column = words.name(alloc)?;
     let value = words.text(alloc)?;
     words.end()?;
     let value = Value::read(alloc, value.as_str())?;
-    // The names are those of a field, so only memory can be missing.
     match Field::make(alloc, dataset.as_str(), row.as_str(), column.as_str()) {
         Ok(field) => Ok(Command::Receive {
             message: Message {
@@ -90,13 +89,17 @@ fn receive(alloc: Global, words: &mut Words<'_>) -> Result<Command, CommandFault
                 value,
             },
         }),
-        Err(_) => Err(CommandFault::NoMemory),
+        Err(fault) => match fault {
+            NameFault::NoMemory => Err(CommandFault::NoMemory),
+            // The names are those of a field.
+            _ => unreachable!(),
+        },
     }
 }
 
 /// The words behind `fields`.
 fn fields(words: &Words<'_>) -> Result<Command, CommandFault>
-    ensures read { IsRead (given fields_words words.now) result }
+    ensures read { IsRead (command_of_unread fields_words words.now) result }
     ensures valid { IfOk result IsCommand }
 {
     words.end()?;
@@ -105,7 +108,7 @@ fn fields(words: &Words<'_>) -> Result<Command, CommandFault>
 
 /// The words behind `messages`.
 fn messages(alloc: Global, words: &mut Words<'_>) -> Result<Command, CommandFault>
-    ensures read { IsRead (given messages_words words.old) result }
+    ensures read { IsRead (command_of_unread messages_words words.old) result }
     ensures valid { IfOk result IsCommand }
 {
     let since = words.text(alloc)?;
@@ -115,7 +118,7 @@ fn messages(alloc: Global, words: &mut Words<'_>) -> Result<Command, CommandFaul
 
 /// The words behind `value`. Names that no field has are fine.
 fn value(alloc: Global, words: &mut Words<'_>) -> Result<Command, CommandFault>
-    ensures read { IsRead (given value_words words.old) result }
+    ensures read { IsRead (command_of_unread value_words words.old) result }
     ensures valid { IfOk result IsCommand }
 {
     let dataset = words.text(alloc)?;
@@ -131,7 +134,7 @@ fn value(alloc: Global, words: &mut Words<'_>) -> Result<Command, CommandFault>
 
 /// The words behind `trie`.
 fn trie(words: &Words<'_>) -> Result<Command, CommandFault>
-    ensures read { IsRead (given trie_words words.now) result }
+    ensures read { IsRead (command_of_unread trie_words words.now) result }
     ensures valid { IfOk result IsCommand }
 {
     words.end()?;
@@ -141,7 +144,7 @@ fn trie(words: &Words<'_>) -> Result<Command, CommandFault>
 /// The words behind a line's name.
 fn command_of(alloc: Global, name: &str, words: &mut Words<'_>) -> Result<Command, CommandFault>
     requires { words.old.last ≡ 0 }
-    ensures read { IsRead (given (line_words name.now) words.old) result }
+    ensures read { IsRead (command_of_unread (line_words name.now) words.old) result }
     ensures valid { IfOk result IsCommand }
 {
     match name {

@@ -1,6 +1,6 @@
 //! Facts about lines and replies, which a proof can call for.
 ghost use Rattle.command_lines.specs.ReplyLines.{RepliesAreLines};
-ghost use Rattle.command_lines.specs.Written.{CommandsReadBack, LinesWriteBack};
+ghost use Rattle.command_lines.specs.Written.{CommandsReadBack, LinesWriteBack, ReceivesMessageLines};
 
 use field_merge::message_lines;
 use field_values::{texts_write_back, values_read_back};
@@ -32,3 +32,9 @@ pub fn lines_write_back()
     texts_write_back();
     read_writes_back();
 }
+
+/// A law: a line behind `receive` and a TAB commands to receive a message exactly where it is read as that message, unless
+/// the whole is too long. So a device takes the message lines that `merge` takes, up to that length.
+pub fn receives_message_lines()
+    ensures { ReceivesMessageLines }
+{}

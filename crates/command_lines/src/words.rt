@@ -1,13 +1,13 @@
 //! The words of a line, read one after the other.
 ghost use Rattle.std.specs.Prelude.{◌≡◌, ◌+◌, ◌<◌, ◌^◌, ◌∷◌, [], IfOk, IfErr, OnOk, IfNone, IfSome, List, ℕ, length};
 ghost use Rattle.std.specs.Option.{option_copied};
-ghost use Rattle.field_values.specs.Names.{name_fault};
+ghost use Rattle.field_values.specs.Names.{IsName};
 ghost use Rattle.field_merge.specs.Lines.{parts};
 ghost use Rattle.hybrid_clock.specs.Stamp.{IsStamp};
 ghost use Rattle.hybrid_clock.specs.declared.stamp.Stamp.{Stamp};
 ghost use Rattle.command_lines.specs.declared.command.Command.{Command};
 ghost use Rattle.command_lines.specs.Commands.{Wanted, word, no_more, stamp_word, name_word, IsCommandFault};
-ghost use Rattle.command_lines.specs.Unread.{words_of, given};
+ghost use Rattle.command_lines.specs.Unread.{words_of, command_of_unread};
 
 use crate::command::CommandFault;
 use field_merge::{bad_escape, cut_part, unescape};
@@ -89,8 +89,8 @@ impl<'a> Words<'a> {
 
     /// The text of the next word. It is at fault where it is missing or has a bad escape.
     pub(crate) fn text(&mut self, alloc: Global) -> Result<Txt, CommandFault>
-        ensures ok { IfOk result (λ text. (next : List ℕ → Wanted) → given (word next) self.old ≡ given (next text) self.new) }
-        ensures err { IfErr result (λ fault. (next : List ℕ → Wanted) → IsCommandFault (given (word next) self.old) fault) }
+        ensures ok { IfOk result (λ text. (next : List ℕ → Wanted) → command_of_unread (word next) self.old ≡ command_of_unread (next text) self.new) }
+        ensures err { IfErr result (λ fault. (next : List ℕ → Wanted) → IsCommandFault (command_of_unread (word next) self.old) fault) }
     {
         let Some(written) = self.next() else {
             return Err(self.behind_last());
@@ -105,9 +105,9 @@ impl<'a> Words<'a> {
     /// The timestamp whose text the next word is. The word is at fault where it is missing, has a bad
     /// escape or is no timestamp.
     pub(crate) fn stamp(&mut self, alloc: Global) -> Result<Stamp, CommandFault>
-        ensures ok { IfOk result (λ stamp. (next : Stamp → Wanted) → given (stamp_word next) self.old ≡ given (next stamp) self.new) }
+        ensures ok { IfOk result (λ stamp. (next : Stamp → Wanted) → command_of_unread (stamp_word next) self.old ≡ command_of_unread (next stamp) self.new) }
         ensures valid { IfOk result IsStamp }
-        ensures err { IfErr result (λ fault. (next : Stamp → Wanted) → IsCommandFault (given (stamp_word next) self.old) fault) }
+        ensures err { IfErr result (λ fault. (next : Stamp → Wanted) → IsCommandFault (command_of_unread (stamp_word next) self.old) fault) }
     {
         let text = self.text(alloc)?;
         match Stamp::parse(text.bytes()) {
@@ -118,13 +118,14 @@ impl<'a> Words<'a> {
 
     /// The name that the next word is. The word is at fault where it is missing, has a bad escape or is
     /// no name.
-    pub(crate) fn name(&mut self, alloc: Global, part: NamePart) -> Result<Txt, CommandFault>
-        ensures ok { IfOk result (λ name. (next : List ℕ → Wanted) → given (name_word part next) self.old ≡ given (next name) self.new) }
-        ensures good { IfOk result (λ name. name_fault part name ≡ None) }
-        ensures err { IfErr result (λ fault. (next : List ℕ → Wanted) → IsCommandFault (given (name_word part next) self.old) fault) }
+    pub(crate) fn name(&mut self, alloc: Global) -> Result<Txt, CommandFault>
+        ensures ok { IfOk result (λ name. (next : List ℕ → Wanted) → command_of_unread (name_word next) self.old ≡ command_of_unread (next name) self.new) }
+        ensures good { IfOk result IsName }
+        ensures err { IfErr result (λ fault. (next : List ℕ → Wanted) → IsCommandFault (command_of_unread (name_word next) self.old) fault) }
     {
         let name = self.text(alloc)?;
-        match check_name(part, name.bytes()) {
+        // The part is told with a fault, and only whether there is one matters here.
+        match check_name(NamePart::Dataset, name.bytes()) {
             Ok(()) => Ok(name),
             Err(_) => Err(self.at_last()),
         }
@@ -132,8 +133,8 @@ impl<'a> Words<'a> {
 
     /// Nothing, where no word is left. The next word is one too many, and at fault.
     pub(crate) fn end(&self) -> Result<(), CommandFault>
-        ensures ok { OnOk result ((command : Command) → given (no_more command) self.now ≡ Ok command) }
-        ensures err { IfErr result (λ fault. (command : Command) → IsCommandFault (given (no_more command) self.now) fault) }
+        ensures ok { OnOk result ((command : Command) → command_of_unread (no_more command) self.now ≡ Ok command) }
+        ensures err { IfErr result (λ fault. (command : Command) → IsCommandFault (command_of_unread (no_more command) self.now) fault) }
     {
         match self.rest {
             Some(_) => Err(self.behind_last()),

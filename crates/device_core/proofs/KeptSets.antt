@@ -33,7 +33,7 @@ use Rattle.field_merge.proofs.StampLemmas.{stamp_text_escaped}
 use Rattle.field_merge.proofs.Orders.{stamps_total}
 use Rattle.field_merge.proofs.Ordered.{IsBelow, cons, equal, in_order_nil, same}
 use Rattle.field_merge.proofs.Joining.{stamp_of, rising, found}
-use Rattle.device_core.specs.Records.{record_of, message_in, unless_bad, set_of, kept_set}
+use Rattle.device_core.specs.Records.{record_of, message_in, unless_bad, kept_set}
 use Rattle.device_core.specs.Device.{new_in}
 use Rattle.device_core.specs.Holding.{Holds, BatchesAreKept}
 use Rattle.device_core.proofs.Keeping.{reads_back, have_keys}
@@ -62,15 +62,15 @@ parts_stamp key (b ∷ c ∷ d ∷ e ∷ []) None s m is h =
     read_names (read_stamp (unescaped key)) s (field_of (unescaped b) (unescaped c) (unescaped d)) (unescaped e) m is h
 parts_stamp key (b ∷ c ∷ d ∷ e ∷ f ∷ ps) bad s m is h = absurd (cc)
 
-ok_of : (read : Result Message LineFault) (m : Message) → result_ok read ≡ Some m → read ≡ Ok m
+pub ok_of : (read : Result Message LineFault) (m : Message) → result_ok read ≡ Some m → read ≡ Ok m
 ok_of (Ok n) m h = let same : n ≡ m = cc in ap (λ x. Ok x) same
 ok_of (Err fault) m h = absurd (cc)
 
-record IsKeyOf (key : List ℕ) (s : Stamp) : Type 0 where
-  valid : IsStamp s
-  text : stamp_text s ≡ key
+pub record IsKeyOf (key : List ℕ) (s : Stamp) : Type 0 where
+  pub valid : IsStamp s
+  pub text : stamp_text s ≡ key
 
-key_is : (r : Record) (m : Message) → message_in r ≡ Some m → IsKeyOf r.key m.stamp
+pub key_is : (r : Record) (m : Message) → message_in r ≡ Some m → IsKeyOf r.key m.stamp
 key_is r m h = by (read_stamp r.key) refl h
   where
     by : (stamp : Result Stamp StampFault) → read_stamp r.key ≡ stamp → (if is_ok stamp then result_ok (reading (r.key ++ 9 ∷ r.body)) else None) ≡ Some m → IsKeyOf r.key m.stamp
@@ -147,7 +147,7 @@ all_are (r ∷ rs) (m ∷ ms) reads = ap₂ (λ (o : Option Message) (xs : List 
 kept_reads : (rs : List Record) (ms : List Message) → Rise rs → kept_set rs ≡ Ok ms → Reads rs ms
 kept_reads rs ms up h = by (position_from keeps_none 0 rs) refl h
   where
-    by : (o : Option ℕ) → position_from keeps_none 0 rs ≡ o → set_of (unless_bad o (filter_map message_in rs)) ≡ Ok ms → Reads rs ms
+    by : (o : Option ℕ) → position_from keeps_none 0 rs ≡ o → unless_bad o (join [] (filter_map message_in rs)) ≡ Ok ms → Reads rs ms
     by None is k =
         let reads = all_read rs 0 is in
         let joined : join [] (filter_map message_in rs) ≡ ms = cc in
@@ -156,7 +156,7 @@ kept_reads rs ms up h = by (position_from keeps_none 0 rs) refl h
 
 reads_kept : (rs : List Record) (ms : List Message) → Rise rs → Reads rs ms → kept_set rs ≡ Ok ms
 reads_kept rs ms up reads =
-    ap₂ (λ (o : Option ℕ) (read : List Message). set_of (unless_bad o read)) (none_bad rs ms 0 reads) (all_are rs ms reads)
+    ap₂ (λ (o : Option ℕ) (read : List Message). unless_bad o (join [] read)) (none_bad rs ms 0 reads) (all_are rs ms reads)
     ∙ ap (λ x. Ok x) (join_itself ms (rise_too rs ms up reads))
 
 -- ---- one message more

@@ -9,3 +9,4 @@ pub mod Writing
 pub mod Tracking
 pub mod ReadBack
 pub mod News
+pub mod WritingBack

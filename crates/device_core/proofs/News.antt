@@ -1,5 +1,5 @@
 -- The new ones of messages join as all of them do, and the greatest timestamp of messages is that of one of them.
-use Rattle.std.proofs.Common.{◌≡◌, zero, suc, ◌+◌, true, false, cond, List, [], ◌∷◌, Option, None, Some, map, length, refl, sym, ap, ◌∙◌, arith, Ordering, Less, Equal, Greater}
+use Rattle.std.proofs.Common.{◌≡◌, inl, inr, zero, suc, ◌+◌, true, false, cond, List, [], ◌∷◌, Option, None, Some, map, length, refl, sym, ap, ◌∙◌, arith, Ordering, Less, Equal, Greater}
 use Rattle.std.specs.Option.{option_or}
 use Rattle.std.specs.Ordering.{is_lt, is_gt, ordering_reverse}
 use Rattle.std.specs.Cmp.{tied_itself, upto}
@@ -12,7 +12,7 @@ use Rattle.field_merge.proofs.Joining.{stamp_of, found_one}
 use Rattle.field_merge.proofs.Members.{all_of, all_weaker, here, none_from_any, there}
 use Rattle.field_merge.proofs.Orders.{stamps_total}
 use Rattle.device_core.specs.Device.{new_in, later_of, greatest}
-use Rattle.device_core.specs.News.{NewOnesAreAdded, GreatestIsTold}
+use Rattle.device_core.specs.News.{IsPartOf, NewOnesAreAdded, GreatestIsTold}
 
 -- ---- the new ones
 
@@ -42,9 +42,22 @@ one_each ms (n ∷ ns) =
       | false ↦ let longer = one_longer ms n in let rest = one_each (placed by_stamp ms n) ns in omega arith
     ]
 
--- one of ns, whose timestamp no message of ms has
-abbrev IsUnknown : List Message → List Message → Message → Type 0
-IsUnknown ms ns m = Contains ns m × (at_stamp ms m.stamp ≡ None)
+-- one more may be left out at the front
+part_behind : (ms ns : List Message) (n : Message) → IsPartOf ms ns → IsPartOf ms (n ∷ ns)
+part_behind [] ns n h = tt
+part_behind (m ∷ ms) ns n h = inr h
+
+part_of : (ms ns : List Message) → IsPartOf (new_in ms ns) ns
+part_of ms [] = tt
+part_of ms (n ∷ ns) =
+    elim (list_any (has_stamp n.stamp) ms) as (λ b. IsPartOf (cond b (new_in ms ns) (n ∷ new_in (cond b ms (placed by_stamp ms n)) ns)) (n ∷ ns)) [
+      | true ↦ part_behind (new_in ms ns) ns n (part_of ms ns)
+      | false ↦ inl (refl, part_of (placed by_stamp ms n) ns)
+    ]
+
+-- no message of ms has its timestamp
+abbrev IsUnknown : List Message → Message → Type 0
+IsUnknown ms m = at_stamp ms m.stamp ≡ None
 
 first_none : (o p : Option Message) → option_or o p ≡ None → o ≡ None
 first_none None p h = refl
@@ -55,16 +68,15 @@ unknown_before ms n s new h =
     first_none (at_stamp ms s) (cond (has_stamp s n) (Some n) None)
     (sym (found_one ms n s) ∙ ap (λ b. at_stamp (cond b ms (placed by_stamp ms n)) s) new ∙ h)
 
-are_unknown : (ms ns : List Message) → AllByRecursion (IsUnknown ms ns) (new_in ms ns)
+are_unknown : (ms ns : List Message) → AllByRecursion (IsUnknown ms) (new_in ms ns)
 are_unknown ms [] = tt
 are_unknown ms (n ∷ ns) =
     elim (list_any (has_stamp n.stamp) ms) as (λ b. list_any (has_stamp n.stamp) ms ≡ b
-    → AllByRecursion (IsUnknown ms (n ∷ ns)) (cond b (new_in ms ns) (n ∷ new_in (cond b ms (placed by_stamp ms n)) ns))) [
-      | true ↦ λ known. all_weaker (IsUnknown ms ns) (IsUnknown ms (n ∷ ns)) (λ m h. (there n ns m h.0, h.1)) (new_in ms ns) (are_unknown ms ns)
+    → AllByRecursion (IsUnknown ms) (cond b (new_in ms ns) (n ∷ new_in (cond b ms (placed by_stamp ms n)) ns))) [
+      | true ↦ λ known. are_unknown ms ns
       | false ↦ λ new. (
-        (here n ns, none_from_any (has_stamp n.stamp) ms new),
-        all_weaker (IsUnknown (placed by_stamp ms n) ns) (IsUnknown ms (n ∷ ns))
-            (λ m h. (there n ns m h.0, unknown_before ms n m.stamp new h.1))
+        none_from_any (has_stamp n.stamp) ms new,
+        all_weaker (IsUnknown (placed by_stamp ms n)) (IsUnknown ms) (λ m h. unknown_before ms n m.stamp new h)
             (new_in (placed by_stamp ms n) ns) (are_unknown (placed by_stamp ms n) ns),
       )
     ] refl
@@ -73,7 +85,8 @@ pub new_ones : NewOnesAreAdded
 new_ones ms ns = record {
   joined = join_all ms ns;
   number = one_each ms ns;
-  unknown = all_of (IsUnknown ms ns) (new_in ms ns) (are_unknown ms ns);
+  in_order = part_of ms ns;
+  unknown = all_of (IsUnknown ms) (new_in ms ns) (are_unknown ms ns);
 }
 
 -- ---- the greatest timestamp

@@ -23,7 +23,7 @@ use Rattle.field_merge.proofs.Latest.{latest-cons}
 use Rattle.device_core.specs.declared.edit.Write.{Write}
 use Rattle.device_core.specs.Records.{record_of}
 use Rattle.device_core.specs.Edits.{write_unless}
-use Rattle.device_core.specs.Device.{State, Accepted, IsUpTo, IsAhead, new_in, stamped, first_of, with_messages, written, writing}
+use Rattle.device_core.specs.Device.{State, Accepted, IsUpTo, IsAhead, new_in, stamped, first_in_row, with_messages, written, writing}
 use Rattle.device_core.specs.ReadBack.{IsReadBack, EditsReadBack}
 
 -- ---- a timestamp past a clock is past all that the clock is not behind
@@ -104,22 +104,31 @@ draw_later clock new reading h = go (nat_lt (reading / 60_000) window) h
     go true h = subst (IsLater clock) (moved_to clock new reading (max clock.millis reading) (first_counter clock (max clock.millis reading) + (1 - 1)) h) (on_at clock reading)
     go false h = absurd (cc)
 
+-- and keeps its node
+draw_node : (clock new : Stamp) (reading : ℕ) → draw clock reading 1 ≡ Ok new → new.node ≡ clock.node
+unfolding draw
+draw_node clock new reading h = go (nat_lt (reading / 60_000) window) h
+  where
+    go : (within : Bool) → cond within (moved clock reading (max clock.millis reading) (first_counter clock (max clock.millis reading) + (1 - 1))) (Err (ClockFault.Beyond reading)) ≡ Ok new → new.node ≡ clock.node
+    go true h = sym (ap (λ (s : Stamp). s.node) (moved_to clock new reading (max clock.millis reading) (first_counter clock (max clock.millis reading) + (1 - 1)) h))
+    go false h = absurd (cc)
+
 -- ---- one write
 
 write_is : (s : State) (reading : ℕ) (w : Write) (a : Accepted) → writing s reading (Ok (w ∷ [])) ≡ Ok a
-    → (clock : Stamp) × ((draw s.clock reading 1 ≡ Ok clock) × (record { device = with_messages s.messages (stamped (first_of clock 1) (w ∷ [])) clock; count = 1 } ≡ a))
+    → (clock : Stamp) × ((draw s.clock reading 1 ≡ Ok clock) × (record { device = with_messages s.messages (stamped (first_in_row clock 1) (w ∷ [])) clock; count = 1 } ≡ a))
 write_is s reading w a h = go (draw s.clock reading 1) refl h
   where
     go : (d : Result Stamp ClockFault) → draw s.clock reading 1 ≡ d → written s (w ∷ []) d ≡ Ok a
-        → (clock : Stamp) × ((draw s.clock reading 1 ≡ Ok clock) × (record { device = with_messages s.messages (stamped (first_of clock 1) (w ∷ [])) clock; count = 1 } ≡ a))
+        → (clock : Stamp) × ((draw s.clock reading 1 ≡ Ok clock) × (record { device = with_messages s.messages (stamped (first_in_row clock 1) (w ∷ [])) clock; count = 1 } ≡ a))
     go (Ok clock) is k = (clock, (is, cc))
     go (Err fault) is k = absurd (cc)
 
-read_write : (s : State) (dataset row column : List ℕ) (value : Value) (clock : Stamp) → IsAhead s.clock s.messages → IsLater s.clock clock
-    → IsReadBack s.messages dataset row column value (record { device = with_messages s.messages (stamped (first_of clock 1) (record { field = field_of dataset row column; value = value } ∷ [])) clock; count = 1 })
-read_write s dataset row column value clock ahead later =
+read_write : (s : State) (dataset row column : List ℕ) (value : Value) (clock : Stamp) → IsAhead s.clock s.messages → IsLater s.clock clock → clock.node ≡ s.clock.node
+    → IsReadBack s dataset row column value (record { device = with_messages s.messages (stamped (first_in_row clock 1) (record { field = field_of dataset row column; value = value } ∷ [])) clock; count = 1 })
+read_write s dataset row column value clock ahead later own =
     let ms = s.messages in
-    let n : Message = record { stamp = first_of clock 1; field = field_of dataset row column; value = value } in
+    let n : Message = record { stamp = first_in_row clock 1; field = field_of dataset row column; value = value } in
     let counter : clock.counter ≡ clock.counter - (1 - 1) = omega arith in
     let first : clock ≡ n.stamp = ap (λ (k : ℕ). record clock { counter = k }) counter in
     let low : AllByRecursion (λ m. IsLater m.stamp n.stamp) ms = subst (λ (t : Stamp). AllByRecursion (λ m. IsLater m.stamp t) ms) first (all_past s.clock clock ms ahead later) in
@@ -128,6 +137,8 @@ read_write s dataset row column value clock ahead later =
     let added : new_in ms (n ∷ []) ≡ n ∷ [] = ap (λ b. cond b (new_in ms []) (n ∷ new_in (join_one ms n) [])) unknown in record {
       message = n;
       new = none_from_any (has_stamp n.stamp) ms unknown;
+      own = own;
+      at_clock = first;
       joined = refl;
       is_latest = ap (λ all. latest all (field_of dataset row column)) last ∙ latest_last ms n;
       has_value = refl;
@@ -138,8 +149,8 @@ read_write s dataset row column value clock ahead later =
 pub read_back : EditsReadBack
 read_back s dataset row column value reading a ahead h = by (names_fault (field_of dataset row column)) h
   where
-    by : (o : Option NameFault) → writing s reading (write_unless o (field_of dataset row column) value) ≡ Ok a → IsReadBack s.messages dataset row column value a
+    by : (o : Option NameFault) → writing s reading (write_unless o (field_of dataset row column) value) ≡ Ok a → IsReadBack s dataset row column value a
     by (Some fault) k = absurd (cc)
     by None k =
         let w = write_is s reading (record { field = field_of dataset row column; value = value }) a k in
-        subst (IsReadBack s.messages dataset row column value) w.1.1 (read_write s dataset row column value w.0 ahead (draw_later s.clock w.0 reading w.1.0))
+        subst (IsReadBack s dataset row column value) w.1.1 (read_write s dataset row column value w.0 ahead (draw_later s.clock w.0 reading w.1.0) (draw_node s.clock w.0 reading w.1.0))

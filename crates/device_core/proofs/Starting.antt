@@ -7,7 +7,7 @@ use Rattle.hybrid_clock.specs.Order.{stamp_cmp}
 use Rattle.field_merge.specs.Log.{IsRising, join_one, join}
 use Rattle.field_merge.proofs.Ordered.{in_order_nil}
 use Rattle.field_merge.proofs.Joining.{stamp_of, rising}
-use Rattle.device_core.specs.Records.{message_in, unless_bad, set_of, kept_set}
+use Rattle.device_core.specs.Records.{message_in, unless_bad, kept_set}
 
 -- the message set after the records from one with this index on were read into messages
 abbrev pub kept_after : List Message → ℕ → List Record → Result (List Message) ℕ
@@ -34,7 +34,7 @@ after_is ms index (r ∷ rs) =
       | Some m ↦ after_is (join_one ms m) (index + 1) rs ∙ settled_on (position_from keeps_none (index + 1) rs) ms m (filter_map message_in rs)
     ]
 
-set_is : (o : Option ℕ) (read : List Message) → settled [] o read ≡ set_of (unless_bad o read)
+set_is : (o : Option ℕ) (read : List Message) → settled [] o read ≡ unless_bad o (join [] read)
 set_is None read = refl
 set_is (Some index) read = refl
 
@@ -42,7 +42,7 @@ set_is (Some index) read = refl
 pub kept_is : (rs : List Record) → kept_after [] 0 rs ≡ kept_set rs
 kept_is rs = after_is [] 0 rs ∙ set_is (position_from keeps_none 0 rs) (filter_map message_in rs)
 
-rising_of : (o : Option ℕ) (read ms : List Message) → set_of (unless_bad o read) ≡ Ok ms → IsRising ms
+rising_of : (o : Option ℕ) (read ms : List Message) → unless_bad o (join [] read) ≡ Ok ms → IsRising ms
 rising_of None read ms is = let same : join [] read ≡ ms = cc in subst IsRising same (rising [] read (in_order_nil stamp_of stamp_cmp))
 rising_of (Some index) read ms is = absurd (cc)
 

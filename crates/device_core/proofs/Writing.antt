@@ -14,7 +14,7 @@ use Rattle.device_core.specs.declared.edit.EditFault.{EditFault}
 use Rattle.device_core.specs.declared.edit.EditFault.TheVariants.{BadId, TooManyWrites, NoMemory as OutOfMemory}
 use Rattle.device_core.specs.declared.edit.LineRefusal.TheVariants.{Edit as OfEdit}
 use Rattle.device_core.specs.Edits.{bad_id, write_unless, set_writes, writes_of, IsEditFault}
-use Rattle.device_core.specs.Device.{State, at_rest, written, writing, edited, first_of}
+use Rattle.device_core.specs.Device.{State, at_rest, written, writing, edited, first_in_row}
 
 pub writing_none : (s : State) (reading : ℕ) (ws : List Write) → length ws ≡ 0 → writing s reading (Ok ws) ≡ Ok (record { device = at_rest s; count = 0 })
 writing_none s reading [] none = refl
@@ -33,7 +33,7 @@ writing_some s reading (w ∷ ws) some few =
 pub ruleset writings = (writing_none, writing_many, writing_some)
 
 -- the first of timestamps in a row, by the last
-pub first_is : (clock first : Stamp) (n : ℕ) → clock ≡ record first { counter = first.counter + (n - 1) } → first_of clock n ≡ first
+pub first_is : (clock first : Stamp) (n : ℕ) → clock ≡ record first { counter = first.counter + (n - 1) } → first_in_row clock n ≡ first
 first_is clock first n row =
     let back : (first.counter + (n - 1)) - (n - 1) ≡ first.counter = omega arith in
     ap (λ (c : Stamp). record c { counter = c.counter - (n - 1) }) row ∙ ap (λ (k : ℕ). record first { counter = k }) back

@@ -29,7 +29,7 @@ pub record State : Type 0 where
   pub messages : List Message
   pub clock : Stamp
 
--- the state, the records that are not kept yet, the ids that the last edit made for rows, and whether a want of memory has spoilt the device
+-- the state, the records that are not kept yet, the ids that the last accepted line made for rows, and whether a want of memory has spoilt the device
 pub record DeviceState : Type 0 where
   pub state : State
   pub batch : List Record
@@ -64,14 +64,14 @@ abbrev pub stamped : Stamp → List Write → List Message
 stamped s [] = []
 stamped s (w ∷ ws) = record { stamp = s; field = w.field; value = w.value } ∷ stamped (record s { counter = s.counter + 1 }) ws
 
--- the clock stands at the last of n timestamps in a row, and this is the first
-abbrev pub first_of : Stamp → ℕ → Stamp
-first_of clock n = record clock { counter = clock.counter - (n - 1) }
+-- the first of n timestamps in a row, at the last of which the clock stands
+abbrev pub first_in_row : Stamp → ℕ → Stamp
+first_in_row clock n = record clock { counter = clock.counter - (n - 1) }
 
 -- writes under the timestamp that the clock drew, or its refusal
 abbrev pub written : State → List Write → Result Stamp ClockFault → Result Accepted LineRefusal
 written s ws (Err fault) = Err (OfClock fault)
-written s ws (Ok clock) = Ok (record { device = with_messages s.messages (stamped (first_of clock (length ws)) ws) clock; count = length ws })
+written s ws (Ok clock) = Ok (record { device = with_messages s.messages (stamped (first_in_row clock (length ws)) ws) clock; count = length ws })
 
 -- writes are made at a reading of the wall clock: none need no timestamp, and 65,536 are the most
 abbrev pub writing : State → ℕ → Result (List Write) EditFault → Result Accepted LineRefusal

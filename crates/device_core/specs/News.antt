@@ -1,5 +1,5 @@
 -- Which of the messages that come are new, and the greatest of their timestamps.
-use Rattle.std.specs.Prelude.{◌≡◌, ◌+◌, List, [], length, map, false, Option, None, Some}
+use Rattle.std.specs.Prelude.{◌≡◌, ◌+◌, ◌⊎◌, List, [], ◌∷◌, length, map, false, Option, None, Some}
 use Rattle.std.specs.List.{Contains}
 use Rattle.std.specs.Ordering.{is_gt}
 use Rattle.hybrid_clock.specs.declared.stamp.Stamp.{Stamp}
@@ -8,11 +8,18 @@ use Rattle.field_merge.specs.declared.message.Message.{Message}
 use Rattle.field_merge.specs.Log.{at_stamp, join}
 use Rattle.device_core.specs.Device.{new_in, greatest_of}
 
--- `new` are those of ns that are new to ms: joining them joins all of ns, the join has one message more for each of them, and each is one of ns under a timestamp that no message of ms has
+-- the first messages are the second ones, in their order, with some left out or none
+abbrev pub IsPartOf : List Message → List Message → Type 0
+IsPartOf [] ns = Unit {0}
+IsPartOf (m ∷ ms) [] = ⊥
+IsPartOf (m ∷ ms) (n ∷ ns) = ((m ≡ n) × IsPartOf ms ns) ⊎ IsPartOf (m ∷ ms) ns
+
+-- `new` are those of ns that are new to ms, in the order of ns: joining them joins all of ns, the join has one message more for each of them, and each has a timestamp that no message of ms has
 pub record AreNew (ms ns new : List Message) : Type 0 where
   pub joined : join ms new ≡ join ms ns
   pub number : length (join ms ns) ≡ length ms + length new
-  pub unknown : (m : Message) → Contains new m → Contains ns m × (at_stamp ms m.stamp ≡ None)
+  pub in_order : IsPartOf new ns
+  pub unknown : (m : Message) → Contains new m → at_stamp ms m.stamp ≡ None
 
 -- `new_in` finds the messages that are new, and no others
 abbrev pub NewOnesAreAdded : Type 0

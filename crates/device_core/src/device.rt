@@ -1,11 +1,12 @@
 //! A device.
-ghost use Rattle.std.specs.Prelude.{◌≡◌, ◌+◌, ◌-◌, ◌≤◌, ◌<◌, [], length, true, false, IfOk, IfErr, OnOk, OnErr};
+ghost use Rattle.std.specs.Prelude.{◌≡◌, ◌≢◌, ◌+◌, ◌-◌, ◌≤◌, ◌<◌, [], length, true, false, IfOk, IfErr, OnOk, OnErr, Err};
 ghost use Rattle.hybrid_clock.specs.Node.{IsNode};
 ghost use Rattle.hybrid_clock.specs.Stamp.{IsStamp};
 ghost use Rattle.budget_ports.specs.Keeper.{HaveKeys};
 ghost use Rattle.field_merge.specs.Log.{messages_after};
 ghost use Rattle.field_merge.specs.Messages.{AreMessages};
-ghost use Rattle.minute_trie.specs.Trie.{IsTrieOf, ArePairs};
+ghost use Rattle.minute_trie.specs.Trie.{is_spent, IsTrieOf, ArePairs};
+ghost use Rattle.device_core.specs.declared.edit.LineRefusal.TheVariants.{Edit as OfEdit};
 ghost use Rattle.device_core.specs.declared.device.StartFault.TheVariants.{NoMemory as OutOfMemory};
 ghost use Rattle.device_core.specs.Records.{kept_set};
 ghost use Rattle.device_core.specs.Edits.{IsEdit, AreWrites};
@@ -45,7 +46,7 @@ const MOST_WRITES: usize = 65_536;
 /// A device of a household.
 ///
 /// A contract sees its messages, the timestamp at which its clock stands, the records that are not
-/// kept yet, the ids that the last edit made for rows, and whether it is spent. A call that answers
+/// kept yet, the ids that the last accepted line made for rows, and whether it is spent. A call that answers
 /// `NoMemory` and may change the device leaves it spent; then nothing but `is_spent` may be asked of
 /// it.
 #[derive(Drop)]
@@ -71,7 +72,8 @@ impl Model for Device {
 }
 
 impl Device {
-    /// A device with this node that begins with the messages that records keep, in any order.
+    /// A device with this node that begins with the messages that records keep. Of records with one
+    /// timestamp the first counts.
     ///
     /// Its clock goes on after the last of them, and nothing is pending.
     ///
@@ -119,6 +121,7 @@ impl Device {
         ensures ok { IfOk result (IsAccepted (edited self.old.state edit.now reading) self.new) }
         ensures refused { IfErr result (IsRefused (edited self.old.state edit.now reading) self.old self.new) }
         ensures live { OnOk result (self.new.spent ≡ false) }
+        ensures memory { result ≢ Err (OfEdit EditFault.NoMemory) }
         ensures steps { steps.new ≡ steps.old }
     {
         match edit_writes(self.alloc, edit) {
@@ -140,6 +143,7 @@ impl Device {
         ensures ok { IfOk result (IsAccepted (writing self.old.state reading (Ok writes.now)) self.new) }
         ensures refused { IfErr result (IsRefused (writing self.old.state reading (Ok writes.now)) self.old self.new) }
         ensures live { OnOk result (self.new.spent ≡ false) }
+        ensures memory { result ≢ Err (OfEdit EditFault.NoMemory) }
     {
         let count = writes.len();
         if count == 0 {
@@ -253,7 +257,7 @@ impl Device {
         self.batch.as_slice()
     }
 
-    /// The ids that the last accepted line made for rows.
+    /// The ids that were made for rows: `prepare` and `incoming` say which. No edit makes one yet.
     pub fn made(&self) -> &Items<Txt>
         requires { self.now.spent ≡ false }
         ensures { result.now ≡ self.now.made }
@@ -261,7 +265,7 @@ impl Device {
         &self.made
     }
 
-    /// The batch is kept: nothing is pending any more.
+    /// Takes the batch as kept: nothing is pending any more, and all else stays.
     pub fn commit(&mut self)
         requires { self.old.spent ≡ false }
         ensures { self.new ≡ record self.old { batch = [] } }
@@ -290,10 +294,10 @@ impl Device {
     /// The trie of the messages' timestamps, by which two devices find from when on they exchange messages.
     ///
     /// It depends on the messages alone: after the same messages have come, by edits, in batches in
-    /// any order, or from records when a device starts again, it holds the same. A new message
-    /// costs one insertion, and a known one none.
+    /// any order, or from records when a device starts again, it holds the same.
     pub fn trie(&self) -> &Trie
         requires { self.now.spent ≡ false }
+        ensures live { is_spent result.now ≡ false }
         ensures trie { IsTrieOf (pairs_of self.now.state.messages) result.now }
         ensures pairs { ArePairs (pairs_of self.now.state.messages) }
     {

@@ -2,6 +2,13 @@
 ghost use Rattle.device_core.specs.Holding.{BatchesAreKept};
 ghost use Rattle.device_core.specs.News.{NewOnesAreAdded, GreatestIsTold};
 ghost use Rattle.device_core.specs.ReadBack.{EditsReadBack};
+ghost use Rattle.device_core.specs.Records.{RecordsReadBack};
+
+/// A law: the record of a message keeps that message. A record that keeps a message is the record of
+/// that message, but for the bytes 0 and LF that stand in its body without their escape.
+pub fn records_read_back()
+    ensures { RecordsReadBack }
+{}
 
 /// A law: a group that keeps a message set keeps, with the records of the new ones of other messages
 /// appended, that set joined with these messages. It loses none of the records that it had at entry
@@ -12,15 +19,16 @@ pub fn batches_are_kept()
 {}
 
 /// A law: where the clock is not behind a message, a write of a value into a field that is accepted is
-/// one message under a timestamp that no message had. It joins the messages, is the latest of its
-/// field, so that the field has that value, and its record alone is pending. So a write is never lost
+/// one message under a timestamp that no message had, of the device's own node, at which the clock then
+/// stands. It joins the messages, is the latest of its field, so that the field has that value, and its
+/// record alone is pending. So a write is never lost
 /// to a message that came before it, whatever clock that message had.
 pub fn edits_read_back()
     ensures { EditsReadBack }
 {}
 
-/// A law: of messages that come, joining those alone that are new joins all of them, and the join has
-/// one message more for each of these. So the count of an `incoming` says by how many messages the
+/// A law: of messages that come, those that are new stand in the order in which they came; joining them
+/// alone joins all of them, and the join has one message more for each. So the count of an `incoming` says by how many messages the
 /// device has grown, and a timestamp that comes twice counts once.
 pub fn new_ones_are_added()
     ensures { NewOnesAreAdded }

@@ -90,8 +90,3 @@ pub(crate) fn read_record(alloc: Global, kept: &Record) -> Result<Option<Message
     let line = record_line(alloc, kept)?;
     message_of_line(alloc, &line)
 }
-
-/// A law: the record that keeps a message keeps that message.
-pub fn records_read_back()
-    ensures { (m : Message) → IsMessage m → message_in (record_of m) ≡ Some m }
-{}
