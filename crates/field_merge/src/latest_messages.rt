@@ -3,7 +3,7 @@ ghost use Rattle.std.specs.Prelude.{◌≡◌, ◌∷◌, ◌++◌, [], List, If
 ghost use Rattle.field_merge.specs.declared.message.Message.{Message};
 ghost use Rattle.field_merge.specs.Messages.{IsMessage};
 ghost use Rattle.field_merge.specs.Log.{IsByField, fields, join};
-ghost use Rattle.field_merge.specs.Latest.{CameFrom, KeepsLatest};
+ghost use Rattle.field_merge.specs.Latest.{CameFrom, IsFew, KeepsLatest};
 
 use crate::arrival::Arrival;
 use crate::message::Message;
@@ -37,7 +37,7 @@ impl Model for LatestMessages {
 
     ghost Value = { LatestState };
 
-    ghost view = { λ l. record { stamps = l.stamps.keys; messages = l.came.items; spent = l.spent } };
+    ghost view = { λ l. record { stamps = l.stamps.keys; messages = l.came.items; most = l.most; spent = l.spent } };
 }
 
 /// Sorts messages by field, and keeps the latest of each field.
@@ -71,11 +71,13 @@ impl LatestMessages {
         self.spent
     }
 
-    /// Takes one message more. Where its timestamp came before, it is passed over.
+    /// Takes one message more. Where its timestamp came before, it is passed over. Older messages go once there are more than
+    /// 2,048 and more than two for each field.
     pub fn add(&mut self, message: Message) -> Result<(), NoMemory>
         requires live { self.old.spent ≡ false }
         requires valid { IsMessage message }
         ensures came { OnOk result ((ms : List Message) → CameFrom ms self.old → CameFrom (ms ++ message ∷ []) self.new) }
+        ensures few { OnOk result ((ms : List Message) → CameFrom ms self.old → IsFew (ms ++ message ∷ []) self.new) }
         ensures kept { OnOk result (self.new.spent ≡ false) }
         ensures spent { OnErr result (self.new.spent ≡ true) }
     {
@@ -106,6 +108,7 @@ impl LatestMessages {
     pub fn tidy(&mut self) -> Result<(), NoMemory>
         requires live { self.old.spent ≡ false }
         ensures came { OnOk result ((ms : List Message) → CameFrom ms self.old → CameFrom ms self.new) }
+        ensures latest { OnOk result ((ms : List Message) → CameFrom ms self.old → self.new.messages ≡ fields (join [] ms)) }
         ensures tidy { OnOk result (IsByField self.new.messages) }
         ensures kept { OnOk result (self.new.spent ≡ false) }
         ensures spent { OnErr result (self.new.spent ≡ true) }
