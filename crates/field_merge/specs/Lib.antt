@@ -5,3 +5,4 @@ pub mod Log
 pub mod Joining
 pub mod Stored
 pub mod Latest
+pub mod Laws

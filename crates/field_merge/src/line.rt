@@ -277,21 +277,3 @@ pub fn write_line(alloc: Global, message: &Message) -> Result<Txt, NoMemory>
     push_line(alloc, &mut line, message)?;
     Ok(Txt::new(line))
 }
-
-/// Laws of all lines and messages.
-pub fn message_lines()
-    // what is written is read back
-    ensures reads_back { (m : Message) → IsMessage m → reading (message_line m) ≡ Ok m }
-
-    // what is read is a message that may be written
-    ensures valid { (line : List ℕ) (m : Message) → reading line ≡ Ok m → IsMessage m }
-
-    // a line that is read as a message is the message's line, but for the bytes 0 and LF that stand in it without their escape
-    ensures writes_back { (line : List ℕ) (m : Message) → reading line ≡ Ok m → message_line m ≡ flat_map raw_escaped line }
-
-    // a line has no LF, so lines that LF ends can be told apart
-    ensures one_line { (m : Message) → All (λ b. b ≢ 10) (message_line m) }
-
-    // a line begins with the text of its timestamp, as it is
-    ensures stamp { (s : Stamp) → IsStamp s → escaped (stamp_text s) ≡ stamp_text s }
-{}
