@@ -12,7 +12,7 @@ use Rattle.field_merge.specs.declared.message.Message.{Message}
 use Rattle.field_merge.specs.Messages.{IsMessage}
 use Rattle.field_merge.specs.Log.{IsByField, fields, has_stamp, join, latest}
 
--- the timestamps that came, messages among which are the latest ones, how many of these are kept before older ones go, and whether a want of memory has spoilt them
+-- the timestamps that came, messages among which are the latest ones, how many of these there are when older ones go, and whether a want of memory has spoilt them
 pub record LatestState : Type 0 where
   pub stamps : List Stamp
   pub messages : List Message

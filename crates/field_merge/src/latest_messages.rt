@@ -24,12 +24,12 @@ pub struct LatestMessages {
     stamps: HashSet<Stamp>,
     /// Messages among which are the latest ones. From time to time they are sorted by field, and the older ones go.
     came: Vec<Arrival>,
-    /// How many of them are kept before that is done again.
+    /// That is done again once there are so many of them.
     most: usize,
     spent: bool,
 }
 
-/// So many messages are kept before older ones are looked for: about as many as the processor's nearer caches hold.
+/// Older messages are first looked for once there are so many: about as many as the processor's nearer caches hold.
 const FEW: usize = 1 << 11;
 
 impl Model for LatestMessages {
@@ -71,8 +71,8 @@ impl LatestMessages {
         self.spent
     }
 
-    /// Takes one message more. Where its timestamp came before, it is passed over. Older messages go once there are more than
-    /// 2,048 and more than two for each field.
+    /// Takes one message more. Where its timestamp came before, it is passed over. Older messages go before
+    /// there are more messages than two for each field, or than 2,048 where that is more.
     pub fn add(&mut self, message: Message) -> Result<(), NoMemory>
         requires live { self.old.spent ≡ false }
         requires valid { IsMessage message }
