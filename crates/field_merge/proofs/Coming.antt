@@ -12,7 +12,7 @@ use Rattle.hybrid_clock.specs.declared.stamp.Stamp.{Stamp}
 use Rattle.hybrid_clock.specs.Order.{stamp_cmp}
 use Rattle.field_merge.specs.declared.message.Message.{Message}
 use Rattle.field_merge.specs.Log.{IsByField, IsRising, at_stamp, by_stamp, fields, has_field, has_stamp, join, join_one, latest, placed}
-use Rattle.field_merge.specs.Latest.{CameFrom, KeepsLatest, LatestState, few_messages, most_kept}
+use Rattle.field_merge.specs.Latest.{CameFrom, KeepsLatest, LatestState, few_messages, has_time, most_kept}
 use Rattle.field_merge.proofs.Joining.{found, in_turn, rising, stamp_of}
 use Rattle.field_merge.proofs.Stored.{flips, join-fresh, join-there, marked-more}
 use Rattle.field_merge.proofs.Entering.{latest-placed, wins}
@@ -22,10 +22,6 @@ use Rattle.field_merge.proofs.Latest.{IsUpTo, is_some-latest, latest_greatest, l
 use Rattle.field_merge.proofs.Members.{all_of, found_in, is_some-find, none_from_any, some_passes}
 use Rattle.field_merge.proofs.Ordered.{equal, found_by_key, in_order_nil, same}
 use Rattle.field_merge.proofs.Orders.{names_total, stamps_exact, stamps_total}
-
--- whether a list of timestamps has one
-abbrev pub has_time : Stamp → List Stamp → Bool
-has_time s ts = list_any (λ t. is_eq (stamp_cmp s t)) ts
 
 swapped : (a b c : Bool) → (a || (b || c)) ≡ (b || (a || c))
 swapped true true c = refl

@@ -16,8 +16,8 @@ use std::marker::Model;
 
 /// The latest message of each field, for those who want no older ones, in whatever order messages come and however often.
 ///
-/// It takes less memory than a `Log`, and less time: of older messages it keeps the timestamps alone, by which a later message
-/// with one of them is passed over. After `NoMemory` it is spent.
+/// It takes less memory than a `Log`, and less time: of the messages that it lets go it keeps the timestamps alone, by which a
+/// later message with one of them is passed over. After `NoMemory` it is spent.
 #[derive(Drop)]
 pub struct LatestMessages {
     alloc: Global,
