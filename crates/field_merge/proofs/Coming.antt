@@ -1,5 +1,5 @@
 -- What one message more makes of what is kept of those that came.
-use Rattle.std.proofs.Common.{◌≡◌, ◌≤◌, ◌*◌, ℕ, max, length, arith, List, [], ◌∷◌, ◌++◌, Bool, true, false, ◌||◌, ◌&&◌, inl, inr, cond, Option, None, Some, refl, sym, ap, ◌∙◌, subst}
+use Rattle.std.proofs.Common.{◌≡◌, ◌≤◌, length, arith, List, [], ◌∷◌, ◌++◌, Bool, true, false, ◌||◌, ◌&&◌, inl, inr, cond, Option, None, Some, refl, sym, ap, ◌∙◌, subst}
 use Rattle.std.specs.Ordering.{is_eq, is_gt, is_lt}
 use Rattle.std.specs.Option.{is_some, option_or}
 use Rattle.std.specs.Cmp.{tied_itself}
@@ -12,7 +12,7 @@ use Rattle.hybrid_clock.specs.declared.stamp.Stamp.{Stamp}
 use Rattle.hybrid_clock.specs.Order.{stamp_cmp}
 use Rattle.field_merge.specs.declared.message.Message.{Message}
 use Rattle.field_merge.specs.Log.{IsByField, IsRising, at_stamp, by_stamp, fields, has_field, has_stamp, join, join_one, latest, placed}
-use Rattle.field_merge.specs.Latest.{CameFrom, KeepsLatest, LatestState, few_messages, has_time, most_kept}
+use Rattle.field_merge.specs.Latest.{CameFrom, KeepsLatest, LatestState, has_time, most_kept, next_most}
 use Rattle.field_merge.proofs.Joining.{found, in_turn, rising, stamp_of}
 use Rattle.field_merge.proofs.Stored.{flips, join-fresh, join-there, marked-more}
 use Rattle.field_merge.proofs.Entering.{latest-placed, wins}
@@ -90,6 +90,7 @@ came_new ms n l m came fresh more pushed same_most =
       latest = λ x h. subst (λ (xs : List Message). Contains xs x) (sym pushed)
           (latest_came ms n x l came (wins (join [] ms) n && has_field x.field n)
           (sym (latest-placed (join [] ms) n (joined_rises ms) new x.field) ∙ ap (λ (js : List Message). latest js x.field) joined ∙ h));
+      least = omega (arith, came.least, same_most);
       most = still_few ms n l m came same_most;
     }
   where
@@ -113,6 +114,7 @@ came_again ms n l m came there same_stamps same_messages same_most =
           ∙ sym (any-last (has_stamp s) ms n);
       some = λ x c. subst (λ (js : List Message). Contains js x) joined (came.some x (subst (λ (xs : List Message). Contains xs x) same_messages c));
       latest = λ x h. subst (λ (xs : List Message). Contains xs x) (sym same_messages) (came.latest x (ap (λ (js : List Message). latest js x.field) joined ∙ h));
+      least = omega (arith, came.least, same_most);
       most = still_few ms n l m came same_most;
     }
 
@@ -162,10 +164,6 @@ listed_by_field ms kept some latest_kept in_order =
 pub listed_latest : (ms : List Message) (l : LatestState) → CameFrom ms l → IsByField l.messages → l.messages ≡ fields (join [] ms)
 listed_latest ms l came in_order = listed_by_field ms l.messages came.some came.latest in_order
 
--- so many messages that are tidy may be kept at once
-abbrev pub tidied_most : List Message → ℕ
-tidied_most kept = max few_messages (2 * length kept)
-
 kept_latest : (ms old new : List Message) → ((m : Message) → Contains old m → Contains (join [] ms) m) → ((m : Message) → latest (join [] ms) m.field ≡ Some m → Contains old m) → KeepsLatest old new → (m : Message) → latest (join [] ms) m.field ≡ Some m → Contains new m
 kept_latest ms old new some latest_kept keeps m h =
     let y = keeps.covers m (latest_kept m h) in
@@ -176,10 +174,11 @@ pub listed_tidied : (ms new : List Message) (l : LatestState) → CameFrom ms l 
 listed_tidied ms new l came keeps =
     listed_by_field ms new (λ m c. came.some m (keeps.some m c)) (kept_latest ms l.messages new came.some came.latest keeps) keeps.in_order
 
-pub came_tidied : (ms : List Message) (l m : LatestState) → CameFrom ms l → KeepsLatest l.messages m.messages → m.stamps ≡ l.stamps → m.most ≤ tidied_most m.messages → CameFrom ms m
+pub came_tidied : (ms : List Message) (l m : LatestState) → CameFrom ms l → KeepsLatest l.messages m.messages → m.stamps ≡ l.stamps → m.most ≡ next_most m.messages → CameFrom ms m
 came_tidied ms l m came keeps same_stamps few = record {
   stamps = λ s. ap (has_time s) same_stamps ∙ came.stamps s;
   some = λ x c. came.some x (keeps.some x c);
   latest = kept_latest ms l.messages m.messages came.some came.latest keeps;
+  least = omega (arith, few);
   most = let listed = ap (λ (xs : List Message). length xs) (listed_tidied ms m.messages l came keeps) in omega (arith, few, listed);
 }

@@ -23,9 +23,13 @@ pub record LatestState : Type 0 where
 abbrev pub few_messages : ℕ
 few_messages = 2_048
 
--- how many messages may be kept where ms came: two for each field, or else a few
+-- how many messages there are when older ones next go, where now there are these and no older ones: twice as many, or a few
+abbrev pub next_most : List Message → ℕ
+next_most kept = max few_messages (2 * length kept)
+
+-- how many messages may be kept where ms came: two for each field, or a few
 abbrev pub most_kept : List Message → ℕ
-most_kept ms = max few_messages (2 * length (fields (join [] ms)))
+most_kept ms = next_most (fields (join [] ms))
 
 -- no more messages than that are kept
 abbrev pub IsFew : List Message → LatestState → Type 0
@@ -35,11 +39,12 @@ IsFew ms l = length l.messages ≤ most_kept ms
 abbrev pub has_time : Stamp → List Stamp → Bool
 has_time s stamps = list_any (λ t. is_eq (stamp_cmp s t)) stamps
 
--- nothing but the messages ms came: these are their timestamps, the messages are some of their join, the latest one of each field among them, and older ones go before there are too many
+-- nothing but the messages ms came: these are their timestamps, the messages are some of their join, the latest one of each field among them, and older ones go neither before there are a few nor once there are too many
 pub record CameFrom (ms : List Message) (l : LatestState) : Type 0 where
   pub stamps : (s : Stamp) → has_time s l.stamps ≡ list_any (has_stamp s) ms
   pub some : (m : Message) → Contains l.messages m → Contains (join [] ms) m
   pub latest : (m : Message) → latest (join [] ms) m.field ≡ Some m → Contains l.messages m
+  pub least : few_messages ≤ l.most
   pub most : l.most ≤ most_kept ms
 
 -- messages by field, those of one field from the latest on

@@ -3,7 +3,7 @@ ghost use Rattle.std.specs.Prelude.{◌≡◌, ◌∷◌, ◌++◌, [], List, If
 ghost use Rattle.field_merge.specs.declared.message.Message.{Message};
 ghost use Rattle.field_merge.specs.Messages.{IsMessage};
 ghost use Rattle.field_merge.specs.Log.{IsByField, fields, join};
-ghost use Rattle.field_merge.specs.Latest.{CameFrom, IsFew, KeepsLatest};
+ghost use Rattle.field_merge.specs.Latest.{CameFrom, IsFew, KeepsLatest, next_most};
 
 use crate::arrival::Arrival;
 use crate::message::Message;
@@ -24,7 +24,7 @@ pub struct LatestMessages {
     stamps: HashSet<Stamp>,
     /// Messages among which are the latest ones. From time to time they are sorted by field, and the older ones go.
     came: Vec<Arrival>,
-    /// That is done again once there are so many of them.
+    /// How many there are when that is done next.
     most: usize,
     spent: bool,
 }
@@ -110,12 +110,13 @@ impl LatestMessages {
         ensures came { OnOk result ((ms : List Message) → CameFrom ms self.old → CameFrom ms self.new) }
         ensures latest { OnOk result ((ms : List Message) → CameFrom ms self.old → self.new.messages ≡ fields (join [] ms)) }
         ensures tidy { OnOk result (IsByField self.new.messages) }
+        ensures most { OnOk result (self.new.most ≡ next_most self.new.messages) }
         ensures kept { OnOk result (self.new.spent ≡ false) }
         ensures spent { OnErr result (self.new.spent ≡ true) }
     {
         self.spent = true;
         keep_latest(&mut self.came)?;
-        self.most = self.came.len().saturating_mul(2).max(FEW);
+        self.most = (2 * self.came.len()).max(FEW);
         self.spent = false;
         Ok(())
     }
