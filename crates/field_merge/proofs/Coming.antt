@@ -1,5 +1,5 @@
 -- What one message more makes of what is kept of those that came.
-use Rattle.std.proofs.Common.{◌≡◌, List, [], ◌∷◌, ◌++◌, Bool, true, false, ◌||◌, ◌&&◌, inl, inr, cond, Option, None, Some, refl, sym, ap, ◌∙◌, subst}
+use Rattle.std.proofs.Common.{◌≡◌, ◌≤◌, length, arith, List, [], ◌∷◌, ◌++◌, Bool, true, false, ◌||◌, ◌&&◌, inl, inr, cond, Option, None, Some, refl, sym, ap, ◌∙◌, subst}
 use Rattle.std.specs.Ordering.{is_eq, is_gt, is_lt}
 use Rattle.std.specs.Option.{is_some, option_or}
 use Rattle.std.specs.Cmp.{tied_itself}
@@ -12,19 +12,16 @@ use Rattle.hybrid_clock.specs.declared.stamp.Stamp.{Stamp}
 use Rattle.hybrid_clock.specs.Order.{stamp_cmp}
 use Rattle.field_merge.specs.declared.message.Message.{Message}
 use Rattle.field_merge.specs.Log.{IsByField, IsRising, at_stamp, by_stamp, fields, has_field, has_stamp, join, join_one, latest, placed}
-use Rattle.field_merge.specs.Latest.{CameFrom, KeepsLatest, LatestState}
+use Rattle.field_merge.specs.Latest.{CameFrom, KeepsLatest, LatestState, has_time, most_kept, next_most}
 use Rattle.field_merge.proofs.Joining.{found, in_turn, rising, stamp_of}
 use Rattle.field_merge.proofs.Stored.{flips, join-fresh, join-there, marked-more}
 use Rattle.field_merge.proofs.Entering.{latest-placed, wins}
+use Rattle.field_merge.proofs.Few.{fields_more}
 use Rattle.field_merge.proofs.Fields.{field_of, fields_in_order, find-fields}
 use Rattle.field_merge.proofs.Latest.{IsUpTo, is_some-latest, latest_greatest, latest_there}
 use Rattle.field_merge.proofs.Members.{all_of, found_in, is_some-find, none_from_any, some_passes}
 use Rattle.field_merge.proofs.Ordered.{equal, found_by_key, in_order_nil, same}
 use Rattle.field_merge.proofs.Orders.{names_total, stamps_exact, stamps_total}
-
--- whether a list of timestamps has one
-abbrev pub has_time : Stamp → List Stamp → Bool
-has_time s ts = list_any (λ t. is_eq (stamp_cmp s t)) ts
 
 swapped : (a b c : Bool) → (a || (b || c)) ≡ (b || (a || c))
 swapped true true c = refl
@@ -71,9 +68,16 @@ enters ms n new =
     ∙ ap (λ b. cond b (Some n) None) (its_own n.stamp) in
     subst (λ (js : List Message). Contains js n) (one_more ms n) (found_in (has_stamp n.stamp) (join (join [] ms) (n ∷ [])) n at).0
 
+-- with one message more, as many messages may be kept, or more
+more_kept : (ms : List Message) (n : Message) → most_kept ms ≤ most_kept (ms ++ n ∷ [])
+more_kept ms n = let longer = fields_more (join [] ms) (join [] (ms ++ n ∷ [])) (stays ms n) in omega (arith, longer)
+
+still_few : (ms : List Message) (n : Message) (l m : LatestState) → CameFrom ms l → m.most ≡ l.most → m.most ≤ most_kept (ms ++ n ∷ [])
+still_few ms n l m came same_most = omega (arith, came.most, same_most, more_kept ms n)
+
 -- ---- one message more
-pub came_new : (ms : List Message) (n : Message) (l m : LatestState) → CameFrom ms l → has_time n.stamp l.stamps ≡ false → ((s : Stamp) → has_time s m.stamps ≡ (has_stamp s n || has_time s l.stamps)) → m.messages ≡ l.messages ++ n ∷ [] → CameFrom (ms ++ n ∷ []) m
-came_new ms n l m came fresh more pushed =
+pub came_new : (ms : List Message) (n : Message) (l m : LatestState) → CameFrom ms l → has_time n.stamp l.stamps ≡ false → ((s : Stamp) → has_time s m.stamps ≡ (has_stamp s n || has_time s l.stamps)) → m.messages ≡ l.messages ++ n ∷ [] → m.most ≡ l.most → CameFrom (ms ++ n ∷ []) m
+came_new ms n l m came fresh more pushed same_most =
     let lacks : list_any (has_stamp n.stamp) (join [] ms) ≡ false = known ms n.stamp ∙ sym (came.stamps n.stamp) ∙ fresh in
     let new : at_stamp (join [] ms) n.stamp ≡ None = none_from_any (has_stamp n.stamp) (join [] ms) lacks in
     let joined : placed by_stamp (join [] ms) n ≡ join [] (ms ++ n ∷ []) = join-fresh (join [] ms) n lacks ∙ one_more ms n in
@@ -86,6 +90,8 @@ came_new ms n l m came fresh more pushed =
       latest = λ x h. subst (λ (xs : List Message). Contains xs x) (sym pushed)
           (latest_came ms n x l came (wins (join [] ms) n && has_field x.field n)
           (sym (latest-placed (join [] ms) n (joined_rises ms) new x.field) ∙ ap (λ (js : List Message). latest js x.field) joined ∙ h));
+      least = omega (arith, came.least, same_most);
+      most = still_few ms n l m came same_most;
     }
   where
     latest_came : (ms : List Message) (n x : Message) (l : LatestState) → CameFrom ms l → (b : Bool) → cond b (Some n) (latest (join [] ms) x.field) ≡ Some x → Contains (l.messages ++ n ∷ []) x
@@ -97,8 +103,8 @@ there_too true c h = sym (h refl)
 there_too false c h = refl
 
 -- a message came whose timestamp had come before
-pub came_again : (ms : List Message) (n : Message) (l m : LatestState) → CameFrom ms l → has_time n.stamp l.stamps ≡ true → m.stamps ≡ l.stamps → m.messages ≡ l.messages → CameFrom (ms ++ n ∷ []) m
-came_again ms n l m came there same_stamps same_messages =
+pub came_again : (ms : List Message) (n : Message) (l m : LatestState) → CameFrom ms l → has_time n.stamp l.stamps ≡ true → m.stamps ≡ l.stamps → m.messages ≡ l.messages → m.most ≡ l.most → CameFrom (ms ++ n ∷ []) m
+came_again ms n l m came there same_stamps same_messages same_most =
     let has : list_any (has_stamp n.stamp) ms ≡ true = sym (came.stamps n.stamp) ∙ there in
     let joined : join [] ms ≡ join [] (ms ++ n ∷ []) = join-there (join [] ms) n (known ms n.stamp ∙ has) ∙ one_more ms n in
     record {
@@ -108,6 +114,8 @@ came_again ms n l m came there same_stamps same_messages =
           ∙ sym (any-last (has_stamp s) ms n);
       some = λ x c. subst (λ (js : List Message). Contains js x) joined (came.some x (subst (λ (xs : List Message). Contains xs x) same_messages c));
       latest = λ x h. subst (λ (xs : List Message). Contains xs x) (sym same_messages) (came.latest x (ap (λ (js : List Message). latest js x.field) joined ∙ h));
+      least = omega (arith, came.least, same_most);
+      most = still_few ms n l m came same_most;
     }
 
 -- the set of timestamps, whose test for equal ones is that of the order
@@ -134,31 +142,43 @@ not_older ms m n h c field not_before =
     let stamps : n.stamp ≡ m.stamp = stamps_exact n.stamp m.stamp (level _ not_before not_after) in
     unsome n m (sym (at_its_stamp ms n c) ∙ ap (at_stamp (join [] ms)) stamps ∙ at_its_stamp ms m (latest_there (join [] ms) m.field m h).0)
 
-pub came_tidied : (ms : List Message) (l m : LatestState) → CameFrom ms l → KeepsLatest l.messages m.messages → m.stamps ≡ l.stamps → CameFrom ms m
-came_tidied ms l m came keeps same_stamps = record {
-  stamps = λ s. ap (has_time s) same_stamps ∙ came.stamps s;
-  some = λ x c. came.some x (keeps.some x c);
-  latest = λ x h.
-      let y = keeps.covers x (came.latest x h) in
-      let one : y.0 ≡ x = not_older ms x y.0 h (came.some y.0 (keeps.some y.0 y.1.0)) y.1.1 y.1.2 in
-      subst (λ (z : Message). Contains m.messages z) one y.1.0;
-}
-
 -- what is kept, by field, is the list of the latest messages
-pub listed_latest : (ms : List Message) (l : LatestState) → CameFrom ms l → IsByField l.messages → l.messages ≡ fields (join [] ms)
-listed_latest ms l came in_order =
-    same field_of names_cmp names_total l.messages (fields (join [] ms)) in_order (fields_in_order (join [] ms))
+listed_by_field : (ms kept : List Message) → ((m : Message) → Contains kept m → Contains (join [] ms) m) → ((m : Message) → latest (join [] ms) m.field ≡ Some m → Contains kept m) → IsByField kept → kept ≡ fields (join [] ms)
+listed_by_field ms kept some latest_kept in_order =
+    same field_of names_cmp names_total kept (fields (join [] ms)) in_order (fields_in_order (join [] ms))
     (λ k. found_latest k (latest (join [] ms) k) refl ∙ sym (find-fields (join [] ms) k))
   where
-    found_none : (k : FieldNames) → latest (join [] ms) k ≡ None → (o : Option Message) → find (has_field k) l.messages ≡ o → o ≡ None
+    found_none : (k : FieldNames) → latest (join [] ms) k ≡ None → (o : Option Message) → find (has_field k) kept ≡ o → o ≡ None
     found_none k e None is = refl
     found_none k e (Some x) is =
-        let at = found_in (has_field k) l.messages x is in
-        absurd (some_passes (has_field k) (join [] ms) x (came.some x at.0) at.1 (none_from_any (has_field k) (join [] ms) (sym (is_some-latest (join [] ms) k) ∙ ap is_some e)))
+        let at = found_in (has_field k) kept x is in
+        absurd (some_passes (has_field k) (join [] ms) x (some x at.0) at.1 (none_from_any (has_field k) (join [] ms) (sym (is_some-latest (join [] ms) k) ∙ ap is_some e)))
 
-    found_latest : (k : FieldNames) (o : Option Message) → latest (join [] ms) k ≡ o → find (has_field k) l.messages ≡ latest (join [] ms) k
-    found_latest k None e = found_none k e (find (has_field k) l.messages) refl ∙ sym e
+    found_latest : (k : FieldNames) (o : Option Message) → latest (join [] ms) k ≡ o → find (has_field k) kept ≡ latest (join [] ms) k
+    found_latest k None e = found_none k e (find (has_field k) kept) refl ∙ sym e
     found_latest k (Some y) e =
         let of_field : y.field ≡ k = (latest_there (join [] ms) k y e).1 in
-        let there : Contains l.messages y = came.latest y (ap (latest (join [] ms)) of_field ∙ e) in
-        subst (λ (f : FieldNames). find (has_field f) l.messages ≡ Some y) of_field (found_by_key field_of names_cmp names_total l.messages in_order y there) ∙ sym e
+        let there : Contains kept y = latest_kept y (ap (latest (join [] ms)) of_field ∙ e) in
+        subst (λ (f : FieldNames). find (has_field f) kept ≡ Some y) of_field (found_by_key field_of names_cmp names_total kept in_order y there) ∙ sym e
+
+pub listed_latest : (ms : List Message) (l : LatestState) → CameFrom ms l → IsByField l.messages → l.messages ≡ fields (join [] ms)
+listed_latest ms l came in_order = listed_by_field ms l.messages came.some came.latest in_order
+
+kept_latest : (ms old new : List Message) → ((m : Message) → Contains old m → Contains (join [] ms) m) → ((m : Message) → latest (join [] ms) m.field ≡ Some m → Contains old m) → KeepsLatest old new → (m : Message) → latest (join [] ms) m.field ≡ Some m → Contains new m
+kept_latest ms old new some latest_kept keeps m h =
+    let y = keeps.covers m (latest_kept m h) in
+    let one : y.0 ≡ m = not_older ms m y.0 h (some y.0 (keeps.some y.0 y.1.0)) y.1.1 y.1.2 in
+    subst (λ (z : Message). Contains new z) one y.1.0
+
+pub listed_tidied : (ms new : List Message) (l : LatestState) → CameFrom ms l → KeepsLatest l.messages new → new ≡ fields (join [] ms)
+listed_tidied ms new l came keeps =
+    listed_by_field ms new (λ m c. came.some m (keeps.some m c)) (kept_latest ms l.messages new came.some came.latest keeps) keeps.in_order
+
+pub came_tidied : (ms : List Message) (l m : LatestState) → CameFrom ms l → KeepsLatest l.messages m.messages → m.stamps ≡ l.stamps → m.most ≡ next_most m.messages → CameFrom ms m
+came_tidied ms l m came keeps same_stamps few = record {
+  stamps = λ s. ap (has_time s) same_stamps ∙ came.stamps s;
+  some = λ x c. came.some x (keeps.some x c);
+  latest = kept_latest ms l.messages m.messages came.some came.latest keeps;
+  least = omega (arith, few);
+  most = let listed = ap (λ (xs : List Message). length xs) (listed_tidied ms m.messages l came keeps) in omega (arith, few, listed);
+}

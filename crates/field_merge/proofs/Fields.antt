@@ -1,5 +1,5 @@
 -- The list of the latest message of each field.
-use Rattle.std.proofs.Common.{◌≡◌, List, [], ◌∷◌, Bool, true, false, cond, Option, None, Some, refl, sym, ap, ◌∙◌, subst}
+use Rattle.std.proofs.Common.{◌≡◌, List, [], ◌∷◌, true, false, cond, None, Some, refl, sym, ap, ◌∙◌, subst}
 use Rattle.std.specs.Option.{is_some, option_or}
 use Rattle.std.specs.List.{find, list_any}
 use Rattle.field_values.specs.Names.{FieldNames, names_cmp}
@@ -7,18 +7,13 @@ use Rattle.field_merge.specs.declared.message.Message.{Message}
 use Rattle.field_merge.specs.Log.{IsByField, by_field, fields, has_field, latest, placed}
 use Rattle.field_merge.specs.Joining.{ListsLatest}
 use Rattle.field_merge.proofs.Orders.{names_exact, names_total}
-use Rattle.field_merge.proofs.Members.{found_in, new_or_there, none, or_none}
+use Rattle.field_merge.proofs.Members.{found_in, new_or_there, none, there_already}
 use Rattle.field_merge.proofs.Ordered.{equal, found_by_key, in_order_nil}
 use Rattle.field_merge.proofs.Placing.{find-placed, in_order}
 use Rattle.field_merge.proofs.Latest.{is_some-latest, latest-cons}
 
 abbrev pub field_of : Message → FieldNames
 field_of m = m.field
-
-stays : (b : Bool) (o : Option Message) (n : Message) → (b ≡ true → is_some o ≡ true) → o ≡ option_or o (cond b (Some n) None)
-stays true None n h = let no : false ≡ true = h refl in cc
-stays true (Some m) n h = refl
-stays false o n h = or_none o
 
 no_latest : (ms : List Message) (f : FieldNames) → list_any (has_field f) ms ≡ false → latest ms f ≡ None
 no_latest ms f h = none (latest ms f) (is_some-latest ms f ∙ h)
@@ -28,7 +23,7 @@ pub find-fields : (ms : List Message) (f : FieldNames) → find (has_field f) (f
 find-fields [] f = refl
 find-fields (m ∷ ms) f =
     elim (list_any (has_field m.field) ms) as (λ b. list_any (has_field m.field) ms ≡ b → find (has_field f) (cond b (fields ms) (placed by_field (fields ms) m)) ≡ option_or (latest ms f) (cond (has_field f m) (Some m) None)) [
-      | true ↦ λ p. find-fields ms f ∙ stays (has_field f m) (latest ms f) m
+      | true ↦ λ p. find-fields ms f ∙ there_already (has_field f m) (latest ms f) m
           (λ t. subst (λ (g : FieldNames). is_some (latest ms g) ≡ true) (sym (names_exact f m.field (equal _ t))) (is_some-latest ms m.field ∙ p))
       | false ↦ λ p.
           let new : find (has_field m.field) (fields ms) ≡ None = find-fields ms m.field ∙ no_latest ms m.field p in

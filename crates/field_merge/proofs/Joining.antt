@@ -1,5 +1,5 @@
 -- What a join keeps, what is found in it, and in which orders messages may be joined.
-use Rattle.std.proofs.Common.{◌≡◌, ◌⊎◌, List, [], ◌∷◌, ◌++◌, Bool, true, false, cond, Option, None, Some, refl, sym, ap, ◌∙◌, subst, inl, inr}
+use Rattle.std.proofs.Common.{◌≡◌, ◌⊎◌, List, [], ◌∷◌, ◌++◌, true, false, cond, Option, None, Some, refl, sym, ap, ◌∙◌, subst, inl, inr}
 use Rattle.std.specs.Ordering.{is_eq}
 use Rattle.std.specs.Option.{is_some, option_or}
 use Rattle.std.specs.Cmp.{tied_itself}
@@ -10,23 +10,18 @@ use Rattle.field_merge.specs.declared.message.Message.{Message}
 use Rattle.field_merge.specs.Log.{IsRising, at_stamp, by_stamp, has_stamp, join, join_one, placed}
 use Rattle.field_merge.specs.Joining.{HasOneEach, HaveSame, IsJoin}
 use Rattle.field_merge.proofs.Orders.{stamps_total, stamps_exact}
-use Rattle.field_merge.proofs.Members.{all_of, all_from, found_in, is_some-find, new_or_there, none_from_any, or_assoc, or_none, some_passes}
+use Rattle.field_merge.proofs.Members.{all_of, all_from, found_in, is_some-find, new_or_there, none_from_any, or_assoc, or_none, some_passes, there_already}
 use Rattle.field_merge.proofs.Ordered.{equal, same}
 use Rattle.field_merge.proofs.Placing.{all_placed, find-placed, in_order}
 
 abbrev pub stamp_of : Message → Stamp
 stamp_of m = m.stamp
 
-stays : (b : Bool) (o : Option Message) (n : Message) → (b ≡ true → is_some o ≡ true) → o ≡ option_or o (cond b (Some n) None)
-stays true None n h = let no : false ≡ true = h refl in cc
-stays true (Some m) n h = refl
-stays false o n h = or_none o
-
 -- ---- one message
 pub found_one : (ms : List Message) (n : Message) (s : Stamp) → at_stamp (join_one ms n) s ≡ option_or (at_stamp ms s) (cond (has_stamp s n) (Some n) None)
 found_one ms n s =
     elim (list_any (has_stamp n.stamp) ms) as (λ b. list_any (has_stamp n.stamp) ms ≡ b → at_stamp (cond b ms (placed by_stamp ms n)) s ≡ option_or (at_stamp ms s) (cond (has_stamp s n) (Some n) None)) [
-      | true ↦ λ p. stays (has_stamp s n) (at_stamp ms s) n
+      | true ↦ λ p. there_already (has_stamp s n) (at_stamp ms s) n
           (λ t. subst (λ (z : Stamp). is_some (at_stamp ms z) ≡ true) (sym (stamps_exact s n.stamp (equal _ t))) (is_some-find (has_stamp n.stamp) ms ∙ p))
       | false ↦ λ p.
           let new : at_stamp ms n.stamp ≡ None = none_from_any (has_stamp n.stamp) ms p in

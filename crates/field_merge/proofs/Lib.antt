@@ -14,5 +14,6 @@ pub mod Entering
 pub mod Stored
 pub mod Listed
 pub mod LastOnes
+pub mod Few
 pub mod Coming
 pub mod Tidying

@@ -66,6 +66,12 @@ module _ {A : Type 0} where
   or_none None = refl
   or_none (Some x) = refl
 
+  -- one that is there where it is asked for
+  pub there_already : (b : Bool) (o : Option A) (x : A) → (b ≡ true → is_some o ≡ true) → o ≡ option_or o (cond b (Some x) None)
+  there_already true None x h = let no : false ≡ true = h refl in cc
+  there_already true (Some y) x h = refl
+  there_already false o x h = or_none o
+
   -- one that is new, or is there already
   pub new_or_there : (b : Bool) (x : A) (o : Option A) → (b ≡ true → o ≡ None) → cond b (Some x) o ≡ option_or o (cond b (Some x) None)
   new_or_there true x o h = rw (h refl) refl

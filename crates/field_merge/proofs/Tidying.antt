@@ -6,16 +6,15 @@ use Rattle.std.specs.List.{AllByRecursion, Contains, dedup, dedup_from}
 use Rattle.std.specs.List.Sorted.{IsPermutation, IsSorted, IsStrictlySortedBy}
 use Rattle.std.specs.declared.cmp.Ordering.{Ordering}
 use Rattle.std.specs.declared.cmp.Ordering.TheVariants.{Less, Equal, Greater}
-use Rattle.std.proofs.lemmas.Cmp.{back_total, on_total, then_total}
+use Rattle.std.proofs.lemmas.Cmp.{on_total}
 use Rattle.std.proofs.lemmas.List.Kept.{Contains-from_dedup, IsStrictlySortedBy-dedup}
 use Rattle.std.proofs.lemmas.List.Sorted.{Contains-permutation, IsPermutation-sym, ranks_by, sorted_far}
 use Rattle.field_values.specs.Names.{names_cmp, names_eq}
 use Rattle.hybrid_clock.specs.Order.{stamp_cmp}
 use Rattle.field_merge.specs.declared.message.Message.{Message}
 use Rattle.field_merge.specs.Log.{IsByField, by_field}
-use Rattle.field_merge.specs.Latest.{KeepsLatest, latest_first}
+use Rattle.field_merge.specs.Latest.{KeepsLatest, latest_first, latest_first_total}
 use Rattle.field_merge.proofs.Fields.{field_of}
-use Rattle.field_merge.proofs.Joining.{stamp_of}
 use Rattle.field_merge.proofs.Members.{all_from, here, there}
 use Rattle.field_merge.proofs.Ordered.{equal}
 use Rattle.field_merge.proofs.Orders.{names_alike, names_exact, names_total, stamps_total}
@@ -25,9 +24,6 @@ same_field m n = names_eq m.field n.field
 
 fields_total : IsTotalOrder by_field
 fields_total = on_total field_of names_total
-
-first_total : IsTotalOrder latest_first
-first_total = then_total fields_total (back_total (on_total stamp_of stamps_total))
 
 -- ---- by field alone
 first_decides : (r s : Ordering) → is_lt (ordering_then r s) ≡ false → is_lt r ≡ false
@@ -67,7 +63,7 @@ falls [] up = tt
 falls (x ∷ xs) up = (
   all_from (λ (n : Message). is_lt (latest_first n x) ≡ false) xs
       (λ y c. subst (λ (z : Message). is_lt (latest_first z x) ≡ false) c.2
-      (sorted_far (λ m n. is_lt (latest_first m n)) (ranks_by first_total (λ (m : Message). m)) (x ∷ xs) up 0 (suc c.0) y (omega arith) (omega (arith, c.1)))),
+      (sorted_far (λ m n. is_lt (latest_first m n)) (ranks_by latest_first_total (λ (m : Message). m)) (x ∷ xs) up 0 (suc c.0) y (omega arith) (omega (arith, c.1)))),
   falls xs (sorted_rest x xs up),
 )
 

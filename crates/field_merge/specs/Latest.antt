@@ -1,5 +1,5 @@
 -- What is kept of messages whose older writes are forgotten.
-use Rattle.std.specs.Prelude.{◌≡◌, List, [], Bool, false, Some}
+use Rattle.std.specs.Prelude.{◌≡◌, ◌≤◌, ◌*◌, ℕ, List, [], length, max, Bool, false, Some}
 use Rattle.std.specs.Cmp.{IsTotalOrder}
 use Rattle.std.proofs.lemmas.Cmp.{back_total, nat_cmp_total, nat_list_cmp_total, on_total, then_total}
 use Rattle.std.specs.List.{Contains, list_any}
@@ -10,19 +10,42 @@ use Rattle.hybrid_clock.specs.declared.stamp.Stamp.{Stamp}
 use Rattle.hybrid_clock.specs.Order.{stamp_cmp}
 use Rattle.field_merge.specs.declared.message.Message.{Message}
 use Rattle.field_merge.specs.Messages.{IsMessage}
-use Rattle.field_merge.specs.Log.{IsByField, has_stamp, join, latest}
+use Rattle.field_merge.specs.Log.{IsByField, fields, has_stamp, join, latest}
 
--- the timestamps that came, messages among which are the latest ones, and whether a want of memory has spoilt them
+-- the timestamps that came, messages among which are the latest ones, how many of these there are when older ones go, and whether a want of memory has spoilt them
 pub record LatestState : Type 0 where
   pub stamps : List Stamp
   pub messages : List Message
+  pub most : ℕ
   pub spent : Bool
 
--- nothing but the messages ms came: these are their timestamps, and the messages are some of their join, the latest one of each field among them
+-- so many messages may be kept, however few fields there are
+abbrev pub few_messages : ℕ
+few_messages = 2_048
+
+-- how many messages there are when older ones next go, where now there are these and no older ones: twice as many, or a few
+abbrev pub next_most : List Message → ℕ
+next_most kept = max few_messages (2 * length kept)
+
+-- how many messages may be kept where ms came: two for each field, or a few
+abbrev pub most_kept : List Message → ℕ
+most_kept ms = next_most (fields (join [] ms))
+
+-- no more messages than that are kept
+abbrev pub IsFew : List Message → LatestState → Type 0
+IsFew ms l = length l.messages ≤ most_kept ms
+
+-- whether a list of timestamps has one
+abbrev pub has_time : Stamp → List Stamp → Bool
+has_time s stamps = list_any (λ t. is_eq (stamp_cmp s t)) stamps
+
+-- nothing but the messages ms came: these are their timestamps, the messages are some of their join, the latest one of each field among them, and older ones go neither before there are a few nor once there are too many
 pub record CameFrom (ms : List Message) (l : LatestState) : Type 0 where
-  pub stamps : (s : Stamp) → list_any (λ t. is_eq (stamp_cmp s t)) l.stamps ≡ list_any (has_stamp s) ms
+  pub stamps : (s : Stamp) → has_time s l.stamps ≡ list_any (has_stamp s) ms
   pub some : (m : Message) → Contains l.messages m → Contains (join [] ms) m
   pub latest : (m : Message) → latest (join [] ms) m.field ≡ Some m → Contains l.messages m
+  pub least : few_messages ≤ l.most
+  pub most : l.most ≤ most_kept ms
 
 -- messages by field, those of one field from the latest on
 abbrev pub latest_first : Message → Message → Ordering
@@ -39,7 +62,7 @@ pub record IsArrival (key : FieldNames) (m : Message) : Type 0 where
   pub own : key ≡ m.field
   pub valid : IsMessage m
 
--- it is an order
+-- `latest_first` is an order
 pub latest_first_total : IsTotalOrder latest_first
 latest_first_total =
     then_total

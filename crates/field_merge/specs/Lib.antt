@@ -5,3 +5,5 @@ pub mod Log
 pub mod Joining
 pub mod Stored
 pub mod Latest
+pub mod Pieces
+pub mod Laws

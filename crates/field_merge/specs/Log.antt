@@ -26,10 +26,11 @@ IsRising ms = IsStrictlySortedBy stamp_cmp (map (λ m. m.stamp) ms)
 abbrev pub IsByField : List Message → Type 0
 IsByField ms = IsStrictlySortedBy names_cmp (map (λ m. m.field) ms)
 
--- whether a message has the timestamp; whether it is one of the field
+-- whether a message has the timestamp
 abbrev pub has_stamp : Stamp → Message → Bool
 has_stamp s m = is_eq (stamp_cmp s m.stamp)
 
+-- whether a message is one of the field
 abbrev pub has_field : FieldNames → Message → Bool
 has_field f m = is_eq (names_cmp f m.field)
 
@@ -42,10 +43,11 @@ abbrev pub placed : (Message → Message → Ordering) → List Message → Mess
 placed cmp [] n = n ∷ []
 placed cmp (m ∷ ms) n = if is_lt (cmp n m) then n ∷ m ∷ ms else m ∷ placed cmp ms n
 
--- the two orders of messages: by timestamp; by dataset, row and column of the field
+-- the order of messages by timestamp
 abbrev pub by_stamp : Message → Message → Ordering
 by_stamp m n = stamp_cmp m.stamp n.stamp
 
+-- the order of messages by dataset, row and column of the field
 abbrev pub by_field : Message → Message → Ordering
 by_field m n = names_cmp m.field n.field
 

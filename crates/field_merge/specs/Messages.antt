@@ -8,12 +8,13 @@ use Rattle.hybrid_clock.specs.Stamp.{stamp_text, IsStamp}
 use Rattle.field_merge.specs.declared.message.Message.{Message}
 use Rattle.field_merge.specs.Escapes.{escaped}
 
--- a timestamp, three names and a value that are valid
+-- a message whose timestamp, names and value are valid
 pub record IsMessage (m : Message) : Type 0 where
   pub stamp : IsStamp m.stamp
   pub field : AreNames m.field
   pub value : IsValue m.value
 
+-- each message is valid
 abbrev pub AreMessages : List Message → Type 0
 AreMessages ms = AllByRecursion IsMessage ms
 

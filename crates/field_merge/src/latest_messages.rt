@@ -3,7 +3,7 @@ ghost use Rattle.std.specs.Prelude.{◌≡◌, ◌∷◌, ◌++◌, [], List, If
 ghost use Rattle.field_merge.specs.declared.message.Message.{Message};
 ghost use Rattle.field_merge.specs.Messages.{IsMessage};
 ghost use Rattle.field_merge.specs.Log.{IsByField, fields, join};
-ghost use Rattle.field_merge.specs.Latest.{CameFrom, KeepsLatest};
+ghost use Rattle.field_merge.specs.Latest.{CameFrom, IsFew, KeepsLatest, next_most};
 
 use crate::arrival::Arrival;
 use crate::message::Message;
@@ -16,20 +16,20 @@ use std::marker::Model;
 
 /// The latest message of each field, for those who want no older ones, in whatever order messages come and however often.
 ///
-/// It takes less memory than a `Log`, and less time: of older messages it keeps the timestamps alone, by which a later message
-/// with one of them is passed over. After `NoMemory` it is spent.
+/// It takes less memory than a `Log`, and less time: of the messages that it lets go it keeps the timestamps alone, by which a
+/// later message with one of them is passed over. After `NoMemory` it is spent.
 #[derive(Drop)]
 pub struct LatestMessages {
     alloc: Global,
     stamps: HashSet<Stamp>,
     /// Messages among which are the latest ones. From time to time they are sorted by field, and the older ones go.
     came: Vec<Arrival>,
-    /// How many of them are kept before that is done again.
+    /// How many there are when that is done next.
     most: usize,
     spent: bool,
 }
 
-/// So many messages are kept before older ones are looked for: about as many as the processor's nearer caches hold.
+/// Older messages are first looked for once there are so many: about as many as the processor's nearer caches hold.
 const FEW: usize = 1 << 11;
 
 impl Model for LatestMessages {
@@ -37,7 +37,7 @@ impl Model for LatestMessages {
 
     ghost Value = { LatestState };
 
-    ghost view = { λ l. record { stamps = l.stamps.keys; messages = l.came.items; spent = l.spent } };
+    ghost view = { λ l. record { stamps = l.stamps.keys; messages = l.came.items; most = l.most; spent = l.spent } };
 }
 
 /// Sorts messages by field, and keeps the latest of each field.
@@ -71,11 +71,13 @@ impl LatestMessages {
         self.spent
     }
 
-    /// Takes one message more. Where its timestamp came before, it is passed over.
+    /// Takes one message more. Where its timestamp came before, it is passed over. Older messages go before
+    /// there are more messages than two for each field, or than 2,048 where that is more.
     pub fn add(&mut self, message: Message) -> Result<(), NoMemory>
         requires live { self.old.spent ≡ false }
         requires valid { IsMessage message }
         ensures came { OnOk result ((ms : List Message) → CameFrom ms self.old → CameFrom (ms ++ message ∷ []) self.new) }
+        ensures few { OnOk result ((ms : List Message) → CameFrom ms self.old → IsFew (ms ++ message ∷ []) self.new) }
         ensures kept { OnOk result (self.new.spent ≡ false) }
         ensures spent { OnErr result (self.new.spent ≡ true) }
     {
@@ -106,13 +108,15 @@ impl LatestMessages {
     pub fn tidy(&mut self) -> Result<(), NoMemory>
         requires live { self.old.spent ≡ false }
         ensures came { OnOk result ((ms : List Message) → CameFrom ms self.old → CameFrom ms self.new) }
+        ensures latest { OnOk result ((ms : List Message) → CameFrom ms self.old → self.new.messages ≡ fields (join [] ms)) }
         ensures tidy { OnOk result (IsByField self.new.messages) }
+        ensures most { OnOk result (self.new.most ≡ next_most self.new.messages) }
         ensures kept { OnOk result (self.new.spent ≡ false) }
         ensures spent { OnErr result (self.new.spent ≡ true) }
     {
         self.spent = true;
         keep_latest(&mut self.came)?;
-        self.most = self.came.len().saturating_mul(2).max(FEW);
+        self.most = (2 * self.came.len()).max(FEW);
         self.spent = false;
         Ok(())
     }

@@ -1,42 +1,57 @@
-//! The laws of the message log.
-ghost use Rattle.std.specs.Prelude.{◌≡◌, ◌++◌, List};
-ghost use Rattle.field_values.specs.Names.{FieldNames};
-ghost use Rattle.field_merge.specs.declared.message.Message.{Message};
-ghost use Rattle.field_merge.specs.Log.{IsRising, fields, join, latest};
-ghost use Rattle.field_merge.specs.Joining.{HasOneEach, HaveSame, IsJoin, IsLatestOrNone, ListsLatest};
+//! Facts about messages, their lines and lists of them, which a proof can call for.
+ghost use Rattle.field_merge.specs.Laws.{
+  FieldsListLatest,
+  JoinsAgain,
+  JoinsAreJoins,
+  JoinsInAnyOrder,
+  JoinsInTurn,
+  LatestIsLatest,
+  MessagesHaveOneLine,
+  MessagesReadBack,
+  ReadLinesWriteBack,
+  ReadMessagesAreValid,
+  StampsHaveNoEscape,
+};
 
-/// The join of two lists rises by timestamp where the first does; a timestamp
-/// finds in it the message of the first list, or else the first one of the
-/// second; and it has no other message.
+/// Laws of all lines and messages: what is written is read back, and what is read is valid and written
+/// back; a message has one line, which begins with the text of its timestamp.
+pub fn message_lines()
+    ensures reads_back { MessagesReadBack }
+    ensures valid { ReadMessagesAreValid }
+    ensures writes_back { ReadLinesWriteBack }
+    ensures one_line { MessagesHaveOneLine }
+    ensures stamp { StampsHaveNoEscape }
+{}
+
+/// A law: the join of two lists rises by timestamp where the first does; a timestamp finds in it the
+/// message of the first list, or else the first one of the second; and it has no other message.
 pub fn joined()
-    ensures { (ms ns : List Message) → IsJoin ms ns (join ms ns) }
+    ensures { JoinsAreJoins }
 {}
 
-/// The latest message of a field is one of the field, and none of the field
-/// has a greater timestamp; there is none exactly where no message has the
-/// field.
+/// A law: the latest message of a field is one of the field, and none of the field has a greater
+/// timestamp; there is none exactly where no message has the field.
 pub fn latest_message()
-    ensures { (ms : List Message) (f : FieldNames) → IsRising ms → IsLatestOrNone ms f (latest ms f) }
+    ensures { LatestIsLatest }
 {}
 
-/// `fields` lists exactly the latest message of each field, by dataset, row
-/// and column.
+/// A law: `fields` lists exactly the latest message of each field, by dataset, row and column.
 pub fn listed_fields()
-    ensures { (ms : List Message) → ListsLatest ms (fields ms) }
+    ensures { FieldsListLatest }
 {}
 
-/// Joining the same messages again changes nothing.
+/// A law: joining the same messages again changes nothing.
 pub fn joined_again()
-    ensures { (ms ns : List Message) → join (join ms ns) ns ≡ join ms ns }
+    ensures { JoinsAgain }
 {}
 
-/// Joining two lists in turn is joining the one followed by the other.
+/// A law: joining two lists in turn is joining the one followed by the other.
 pub fn joined_in_turn()
-    ensures { (ms ns ps : List Message) → join (join ms ns) ps ≡ join ms (ns ++ ps) }
+    ensures { JoinsInTurn }
 {}
 
-/// Where equal timestamps mean equal messages, the order and the number in
-/// which messages are joined do not matter.
+/// A law: where equal timestamps mean equal messages, the order and the number in which messages are
+/// joined do not matter.
 pub fn joined_in_any_order()
-    ensures { (ms ns ps : List Message) → IsRising ms → HasOneEach ns → HaveSame ns ps → join ms ns ≡ join ms ps }
+    ensures { JoinsInAnyOrder }
 {}

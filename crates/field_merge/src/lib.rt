@@ -17,10 +17,9 @@ pub use escape::{bad_escape, push_escaped, unescape};
 pub use latest_messages::LatestMessages;
 pub use laws::{
     joined, joined_again, joined_in_any_order, joined_in_turn, latest_message, listed_fields,
+    message_lines,
 };
-pub use line::{
-    LineFault, cut_part, message_lines, push_body, push_line, read_line, read_text, write_line,
-};
+pub use line::{LineFault, cut_part, push_body, read_line, read_text, write_line};
 pub use log::{Joined, Log};
 pub use message::Message;
 pub use pieces::FieldLines;

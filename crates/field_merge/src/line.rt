@@ -1,13 +1,10 @@
 //! The line of a message, read and written.
-ghost use Rattle.std.specs.Prelude.{ℕ, List, All, ◌≡◌, ◌≢◌, ◌==◌, ◌≤◌, ◌∷◌, ◌++◌, [], length, count_by, IfOk, IfErr, OnErr, OnOk, MatchOption, MatchResult, IsUtf8, Ok, Some, None, string_bytes};
-ghost use Rattle.hybrid_clock.specs.declared.stamp.Stamp.{Stamp};
-ghost use Rattle.field_merge.specs.declared.message.Message.{Message};
+ghost use Rattle.std.specs.Prelude.{◌≡◌, ◌≢◌, ◌==◌, ◌≤◌, ◌∷◌, ◌++◌, [], length, count_by, IfOk, IfErr, OnErr, OnOk, MatchOption, MatchResult, IsUtf8, Ok, Some, None, string_bytes};
 ghost use Rattle.field_values.specs.Names.{field_of, names_fault, AreNames};
 ghost use Rattle.field_values.specs.Value.{value_of, IsValue};
 ghost use Rattle.hybrid_clock.specs.Stamp.{stamp_text, IsStamp};
 ghost use Rattle.hybrid_clock.specs.Reading.{read_stamp};
-ghost use Rattle.field_merge.specs.Escapes.{escaped, unescaped, raw_escaped, BeginsWith};
-ghost use Rattle.std.specs.List.{flat_map};
+ghost use Rattle.field_merge.specs.Escapes.{escaped, unescaped, BeginsWith};
 ghost use Rattle.field_merge.specs.Lines.{reading, parts, of_parts, IsLineFault};
 ghost use Rattle.field_merge.specs.Messages.{IsMessage, message_line, message_body};
 ghost use Rattle.field_merge.specs.declared.line.LineFault.TheVariants.{NoMemory as OutOfMemory};
@@ -256,7 +253,7 @@ pub fn push_body(alloc: Global, line: &mut String, message: &Message) -> Result<
 
 /// Puts a message's line at the end of a text. After `NoMemory` the text may have got a part of it.
 #[tactic(auto, using(crate::proofs::LineLemmas::line_pushed))]
-pub fn push_line(alloc: Global, line: &mut String, message: &Message) -> Result<(), NoMemory>
+pub(crate) fn push_line(alloc: Global, line: &mut String, message: &Message) -> Result<(), NoMemory>
     requires { IsMessage message.now }
     ensures line { OnOk result (string_bytes line.new ≡ string_bytes line.old ++ message_line message.now) }
     ensures front { OnErr result (BeginsWith (string_bytes line.old) (string_bytes line.new)) }
@@ -277,21 +274,3 @@ pub fn write_line(alloc: Global, message: &Message) -> Result<Txt, NoMemory>
     push_line(alloc, &mut line, message)?;
     Ok(Txt::new(line))
 }
-
-/// Laws of all lines and messages.
-pub fn message_lines()
-    // what is written is read back
-    ensures reads_back { (m : Message) → IsMessage m → reading (message_line m) ≡ Ok m }
-
-    // what is read is a message that may be written
-    ensures valid { (line : List ℕ) (m : Message) → reading line ≡ Ok m → IsMessage m }
-
-    // a line that is read as a message is the message's line, but for the bytes 0 and LF that stand in it without their escape
-    ensures writes_back { (line : List ℕ) (m : Message) → reading line ≡ Ok m → message_line m ≡ flat_map raw_escaped line }
-
-    // a line has no LF, so lines that LF ends can be told apart
-    ensures one_line { (m : Message) → All (λ b. b ≢ 10) (message_line m) }
-
-    // a line begins with the text of its timestamp, as it is
-    ensures stamp { (s : Stamp) → IsStamp s → escaped (stamp_text s) ≡ stamp_text s }
-{}

@@ -4,6 +4,7 @@ ghost use Rattle.std.specs.List.{flat_map};
 ghost use Rattle.std.specs.Slice.Iter.{iter_rest};
 ghost use Rattle.field_merge.specs.Messages.{IsMessage};
 ghost use Rattle.field_merge.specs.Log.{ended_line};
+ghost use Rattle.field_merge.specs.Pieces.{IsPiece};
 
 use crate::arrival::Arrival;
 use crate::line::push_line;
@@ -59,6 +60,7 @@ fn push_first(
     ensures lines { OnOk result (string_bytes text.new ++ flat_map ended_line (iter_rest left.new) ≡ string_bytes text.old ++ flat_map ended_line (iter_rest left.old)) }
     ensures fewer { length (iter_rest left.new) ≤ length (iter_rest left.old) }
     ensures some { IfOk result (λ some. MatchBool some (length (iter_rest left.new) < length (iter_rest left.old)) ((iter_rest left.old ≡ []) × (iter_rest left.new ≡ []))) }
+    ensures one { IfOk result (λ some. MatchBool some ((m : Message) × (string_bytes text.new ≡ string_bytes text.old ++ ended_line m)) (string_bytes text.new ≡ string_bytes text.old)) }
 {
     let Some(message) = left.next() else {
         return Ok(false);
@@ -75,11 +77,12 @@ impl<'a> FieldLines<'a> {
     }
 
     /// The lines of the next messages, each with a line feed: 64 KiB and the rest of a line, or all that are left. `None` says
-    /// that no message is left. No clause bounds the size of a piece. After `NoMemory` lines may be lost, so ask for no more
+    /// that no message is left. After `NoMemory` lines may be lost, so ask for no more
     /// pieces then.
     pub fn next_piece(&mut self) -> Result<Option<Txt>, NoMemory>
-        ensures { IfOk result (λ piece. MatchOption piece ((self.old ≡ []) × (self.new ≡ []))
+        ensures lines { IfOk result (λ piece. MatchOption piece ((self.old ≡ []) × (self.new ≡ []))
             (λ text. (flat_map ended_line self.old ≡ text ++ flat_map ended_line self.new) × (length self.new < length self.old))) }
+        ensures size { IfOk result (λ piece. MatchOption piece (Unit {0}) (IsPiece self.new)) }
     {
         let mut text = String::with_capacity(self.alloc, ROOM)?;
         if !push_first(self.alloc, &mut text, &mut self.left)? {

@@ -2,7 +2,7 @@
 use Rattle.field_merge.proofs.LineLemmas.{reading_of_line, reading_is_message, message_line_on_one_line}
 use Rattle.field_merge.proofs.RawLines.{line_writes_back}
 use Rattle.field_merge.proofs.StampLemmas.{stamp_text_escaped}
-use Rattle.field_merge.proofs.line.message_lines.Goals as goal
+use Rattle.field_merge.proofs.laws.message_lines.Goals as goal
 
 pub returns-clause-reads_back : goal.returns-clause-reads_back
 returns-clause-reads_back c = reading_of_line
