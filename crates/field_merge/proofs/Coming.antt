@@ -12,7 +12,7 @@ use Rattle.hybrid_clock.specs.declared.stamp.Stamp.{Stamp}
 use Rattle.hybrid_clock.specs.Order.{stamp_cmp}
 use Rattle.field_merge.specs.declared.message.Message.{Message}
 use Rattle.field_merge.specs.Log.{IsByField, IsRising, at_stamp, by_stamp, fields, has_field, has_stamp, join, join_one, latest, placed}
-use Rattle.field_merge.specs.Latest.{CameFrom, KeepsLatest, LatestState, has_time, most_kept, next_most}
+use Rattle.field_merge.specs.Latest.{CameFrom, KeepsLatest, LatestState, is_among, most_kept, next_most}
 use Rattle.field_merge.proofs.Joining.{found, in_turn, rising, stamp_of}
 use Rattle.field_merge.proofs.Stored.{flips, join-fresh, join-there, marked-more}
 use Rattle.field_merge.proofs.Entering.{latest-placed, wins}
@@ -76,7 +76,7 @@ still_few : (ms : List Message) (n : Message) (l m : LatestState) → CameFrom m
 still_few ms n l m came same_most = omega (arith, came.most, same_most, more_kept ms n)
 
 -- ---- one message more
-pub came_new : (ms : List Message) (n : Message) (l m : LatestState) → CameFrom ms l → has_time n.stamp l.stamps ≡ false → ((s : Stamp) → has_time s m.stamps ≡ (has_stamp s n || has_time s l.stamps)) → m.messages ≡ l.messages ++ n ∷ [] → m.most ≡ l.most → CameFrom (ms ++ n ∷ []) m
+pub came_new : (ms : List Message) (n : Message) (l m : LatestState) → CameFrom ms l → is_among n.stamp l.stamps ≡ false → ((s : Stamp) → is_among s m.stamps ≡ (has_stamp s n || is_among s l.stamps)) → m.messages ≡ l.messages ++ n ∷ [] → m.most ≡ l.most → CameFrom (ms ++ n ∷ []) m
 came_new ms n l m came fresh more pushed same_most =
     let lacks : list_any (has_stamp n.stamp) (join [] ms) ≡ false = known ms n.stamp ∙ sym (came.stamps n.stamp) ∙ fresh in
     let new : at_stamp (join [] ms) n.stamp ≡ None = none_from_any (has_stamp n.stamp) (join [] ms) lacks in
@@ -103,13 +103,13 @@ there_too true c h = sym (h refl)
 there_too false c h = refl
 
 -- a message came whose timestamp had come before
-pub came_again : (ms : List Message) (n : Message) (l m : LatestState) → CameFrom ms l → has_time n.stamp l.stamps ≡ true → m.stamps ≡ l.stamps → m.messages ≡ l.messages → m.most ≡ l.most → CameFrom (ms ++ n ∷ []) m
+pub came_again : (ms : List Message) (n : Message) (l m : LatestState) → CameFrom ms l → is_among n.stamp l.stamps ≡ true → m.stamps ≡ l.stamps → m.messages ≡ l.messages → m.most ≡ l.most → CameFrom (ms ++ n ∷ []) m
 came_again ms n l m came there same_stamps same_messages same_most =
     let has : list_any (has_stamp n.stamp) ms ≡ true = sym (came.stamps n.stamp) ∙ there in
     let joined : join [] ms ≡ join [] (ms ++ n ∷ []) = join-there (join [] ms) n (known ms n.stamp ∙ has) ∙ one_more ms n in
     record {
       stamps = λ s.
-          ap (has_time s) same_stamps ∙ came.stamps s
+          ap (is_among s) same_stamps ∙ came.stamps s
           ∙ sym (there_too (has_stamp s n) (list_any (has_stamp s) ms) (λ same. ap (λ (t : Stamp). list_any (has_stamp t) ms) (stamps_exact s n.stamp (equal _ same)) ∙ has))
           ∙ sym (any-last (has_stamp s) ms n);
       some = λ x c. subst (λ (js : List Message). Contains js x) joined (came.some x (subst (λ (xs : List Message). Contains xs x) same_messages c));
@@ -120,10 +120,10 @@ came_again ms n l m came there same_stamps same_messages same_most =
 
 -- the set of timestamps, whose test for equal ones is that of the order
 module _ (eq : Stamp → Stamp → Bool) (alike : (s t : Stamp) → eq s t ≡ is_eq (stamp_cmp s t)) where
-  pub has_in_set : (s : Stamp) (ts : List Stamp) → list_any (eq s) ts ≡ has_time s ts
+  pub has_in_set : (s : Stamp) (ts : List Stamp) → list_any (eq s) ts ≡ is_among s ts
   has_in_set s ts = ap (λ test. list_any test ts) (λ i t. alike s t i)
 
-  pub has_more : (n : Message) (old new : List Stamp) → ((s : Stamp) → list_any (eq s) new ≡ cond (eq n.stamp s) true (list_any (eq s) old)) → (s : Stamp) → has_time s new ≡ (has_stamp s n || has_time s old)
+  pub has_more : (n : Message) (old new : List Stamp) → ((s : Stamp) → list_any (eq s) new ≡ cond (eq n.stamp s) true (list_any (eq s) old)) → (s : Stamp) → is_among s new ≡ (has_stamp s n || is_among s old)
   has_more n old new update s =
       sym (has_in_set s new) ∙ update s ∙ marked-more (eq n.stamp s) (list_any (eq s) old)
       ∙ (λ i. (alike n.stamp s ∙ ap is_eq (stamps_total.antisymm n.stamp s) ∙ flips (stamp_cmp s n.stamp)) i || has_in_set s old i)
@@ -176,7 +176,7 @@ listed_tidied ms new l came keeps =
 
 pub came_tidied : (ms : List Message) (l m : LatestState) → CameFrom ms l → KeepsLatest l.messages m.messages → m.stamps ≡ l.stamps → m.most ≡ next_most m.messages → CameFrom ms m
 came_tidied ms l m came keeps same_stamps few = record {
-  stamps = λ s. ap (has_time s) same_stamps ∙ came.stamps s;
+  stamps = λ s. ap (is_among s) same_stamps ∙ came.stamps s;
   some = λ x c. came.some x (keeps.some x c);
   latest = kept_latest ms l.messages m.messages came.some came.latest keeps;
   least = omega (arith, few);

@@ -36,12 +36,12 @@ abbrev pub IsFew : List Message → LatestState → Type 0
 IsFew ms l = length l.messages ≤ most_kept ms
 
 -- whether a list of timestamps has one
-abbrev pub has_time : Stamp → List Stamp → Bool
-has_time s stamps = list_any (λ t. is_eq (stamp_cmp s t)) stamps
+abbrev pub is_among : Stamp → List Stamp → Bool
+is_among s stamps = list_any (λ t. is_eq (stamp_cmp s t)) stamps
 
 -- nothing but the messages ms came: these are their timestamps, the messages are some of their join, the latest one of each field among them, and older ones go neither before there are a few nor once there are too many
 pub record CameFrom (ms : List Message) (l : LatestState) : Type 0 where
-  pub stamps : (s : Stamp) → has_time s l.stamps ≡ list_any (has_stamp s) ms
+  pub stamps : (s : Stamp) → is_among s l.stamps ≡ list_any (has_stamp s) ms
   pub some : (m : Message) → Contains l.messages m → Contains (join [] ms) m
   pub latest : (m : Message) → latest (join [] ms) m.field ≡ Some m → Contains l.messages m
   pub least : few_messages ≤ l.most
