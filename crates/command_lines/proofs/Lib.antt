@@ -6,3 +6,4 @@ pub mod ReplyLemmas
 pub mod WrittenLemmas
 pub mod RawLemmas
 pub mod ReceivedLines
+pub mod FirstBad

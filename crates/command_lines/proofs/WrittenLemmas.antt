@@ -36,7 +36,7 @@ good : (text : List ℕ) → bad_escape (escaped text) ≡ None
 good text = ap bad_escape (sym (append-nil (escaped text))) ∙ bad_escape-escaped text [] refl
 
 -- a word that was written gives its text
-read_word : (next : List ℕ → Wanted) (last : ℕ) (text : List ℕ) (ws : List (List ℕ)) → command_of (word next) last (escaped text ∷ ws) ≡ command_of (next text) (last + 1) ws
+pub read_word : (next : List ℕ → Wanted) (last : ℕ) (text : List ℕ) (ws : List (List ℕ)) → command_of (word next) last (escaped text ∷ ws) ≡ command_of (next text) (last + 1) ws
 read_word next last text ws =
     ap (λ bad. command_of (unescaped_for next (escaped text) bad) (last + 1) ws) (good text)
     ∙ ap (λ t. command_of (next t) (last + 1) ws) (unescaped-escaped text)

@@ -4,3 +4,4 @@ pub mod Replies
 pub mod Readings
 pub mod ReplyLines
 pub mod Written
+pub mod FirstBad

@@ -1,4 +1,5 @@
 //! Facts about lines and replies, which a proof can call for.
+ghost use Rattle.command_lines.specs.FirstBad.{FirstBadIsTold};
 ghost use Rattle.command_lines.specs.ReplyLines.{RepliesAreLines};
 ghost use Rattle.command_lines.specs.Written.{CommandsReadBack, LinesWriteBack, ReceivesMessageLines};
 
@@ -38,3 +39,12 @@ pub fn lines_write_back()
 pub fn receives_message_lines()
     ensures { ReceivesMessageLines }
 {}
+
+/// A law: the index that is told of words that are no command is that of the first that is not of its form. With some words
+/// behind them the words before it are a command, and with the word at it they are none, whatever stands behind it. Where no
+/// word stands at it, one is missing there.
+pub fn first_bad_is_told()
+    ensures { FirstBadIsTold }
+{
+    text_reads_back();
+}
