@@ -64,10 +64,11 @@ impl Copied for Record {
 
 /// Where records are kept, in groups and under keys, and texts, under names.
 ///
-/// A key stands once in a group, and has at least one byte. A keeper that tells has known contents.
-/// Whether it tells or not, what a stop may leave is known as far as the keeper says so, its faults
-/// are counted, and no call changes the contents but an `append` or a `put` that answers `Ok`. What a
-/// stop may leave is always among others what a keeper that tells holds.
+/// A key stands once in a group, and a record is added under a key of at least one byte alone. A
+/// keeper that tells has known contents and goes on to tell; no call changes them but an `append` or a
+/// `put` that answers `Ok`, and after each call they are among what a stop may leave. Whether a keeper
+/// tells or not, its failures are counted, and a stop after a call leaves nothing but what could be
+/// left before it, or the contents with all that the call has committed.
 pub trait Keeper {
     /// Whether the keeper tells: its contents are then what the clauses say.
     ghost tells: { Self → Type 0 };
@@ -88,6 +89,7 @@ pub trait Keeper {
     fn append(&mut self, group: &Txt, batch: &[Record]) -> Result<(), PortFault>
         requires { HaveKeys batch.now }
         ensures told { tells self.new → tells self.old }
+        ensures still { tells self.old → tells self.new }
         ensures ok { tells self.new → OnOk result (contents self.new ≡ appended (contents self.old) group.now batch.now) }
         ensures err { tells self.new → OnErr result (contents self.new ≡ contents self.old) }
         ensures left { Commits (left self.old) (left self.new) (appended (contents self.old) group.now batch.now) }
@@ -97,10 +99,11 @@ pub trait Keeper {
 
     /// The records of a group whose key is above `after`, by key.
     ///
-    /// Their keys rise and none is empty, whether the keeper tells or not. So after an empty text
-    /// all records of the group are given.
+    /// Their keys rise and none is empty, whether the keeper tells or not. So after an empty text all
+    /// records of the group are given, where each has a key of at least one byte.
     fn since(&mut self, group: &Txt, after: &Txt) -> Result<Items<Record>, PortFault>
         ensures told { tells self.new → tells self.old }
+        ensures still { tells self.old → tells self.new }
         ensures records { tells self.new → IfOk result (λ rs. rs ≡ records_after (contents self.old) group.now after.now) }
         ensures rise { IfOk result Rise }
         ensures same { tells self.new → contents self.new ≡ contents self.old }
@@ -113,6 +116,7 @@ pub trait Keeper {
     /// It is one commit, as `append` is.
     fn put(&mut self, name: &Txt, text: &Txt) -> Result<(), PortFault>
         ensures told { tells self.new → tells self.old }
+        ensures still { tells self.old → tells self.new }
         ensures ok { tells self.new → OnOk result (contents self.new ≡ with_text (contents self.old) name.now text.now) }
         ensures err { tells self.new → OnErr result (contents self.new ≡ contents self.old) }
         ensures left { Commits (left self.old) (left self.new) (with_text (contents self.old) name.now text.now) }
@@ -123,6 +127,7 @@ pub trait Keeper {
     /// The text under a name, if there is one.
     fn get(&mut self, name: &Txt) -> Result<Option<Txt>, PortFault>
         ensures told { tells self.new → tells self.old }
+        ensures still { tells self.old → tells self.new }
         ensures text { tells self.new → IfOk result (λ text. text ≡ map.get (contents self.old).texts name.now) }
         ensures same { tells self.new → contents self.new ≡ contents self.old }
         ensures left { LeavesNoMore (left self.old) (left self.new) }
@@ -132,6 +137,7 @@ pub trait Keeper {
     /// The names that have a text, byte by byte in order.
     fn names(&mut self) -> Result<Items<Txt>, PortFault>
         ensures told { tells self.new → tells self.old }
+        ensures still { tells self.old → tells self.new }
         ensures names { tells self.new → IfOk result (λ names. names ≡ map.keys (contents self.old).texts) }
         ensures same { tells self.new → contents self.new ≡ contents self.old }
         ensures left { LeavesNoMore (left self.old) (left self.new) }

@@ -1,6 +1,6 @@
-//! The outside as the program sees it: where bytes come from and where they go, where readings of
-//! the time come from, and where records and texts are kept, each with a count of its failures; and
-//! such objects in memory for tests.
+//! The outside as the program sees it: where bytes come from and where they go, and where records and
+//! texts are kept, each with a count of its failures, and where readings of the time come from; and such
+//! objects in memory for tests.
 #![tactic(auto)]
 
 mod calls;

@@ -88,7 +88,8 @@ pub record Opened (node : List ℕ) (status : ℕ) (left new_left : Option (List
   pub has : now.tells → kept_set (device_records old.contents) ≡ Ok first
   pub answered : HasAnswered status left new_left (entry old (begun node first)) (Only old.contents old.left) now
 
--- a run of the device of this node, where the sink had failed so often before it, and has so often after it
+-- a run of the device of this node, where the sink had failed so often before it, and has so often after it. The keeper tells after it where it told before
 pub record DeviceRun (node : List ℕ) (status : ℕ) (left new_left : Option (List ℕ)) (faults new_faults : ℕ) (old now : Seen) : Type 0 where
   pub told : now.tells → old.tells
+  pub still : old.tells → now.tells
   pub opening : Unopened status left new_left faults new_faults old now ⊎ Opened node status left new_left old now

@@ -145,6 +145,7 @@ fn keep<K: Keeper>(device: &mut Device, keeper: &mut K, group: &Txt) -> Result<(
     ensures new { IsErrOf result HasFailed → device.old.batch ≢ [] }
     ensures stops { OnErr result (Only (K.contents keeper.old) (K.left keeper.old) → (c : Contents) → K.left keeper.new c → (old : List Message) → Brings old device.old → CarriesEither old device.old.state.messages (K.contents keeper.old) c) }
     ensures told { K.tells keeper.new → K.tells keeper.old }
+    ensures still { K.tells keeper.old → K.tells keeper.new }
     ensures count { K.faults keeper.new ≡ count_after (has_failed result) (K.faults keeper.old) }
 {
     // A device's messages are valid, so the records of the new ones keep them.
@@ -190,6 +191,7 @@ pub fn handle_line<K: Keeper, G: Ledger>(
     ensures new { IsErrOf result HasFailed → (obeyed device.old.state reading (asked_kept_line line.now)).0.messages ≢ device.old.state.messages }
     ensures stops { K.tells keeper.new → OnErr result (Only (K.contents keeper.old) (K.left keeper.old) → (c : Contents) → K.left keeper.new c → CarriesEither device.old.state.messages (obeyed device.old.state reading (asked_kept_line line.now)).0.messages (K.contents keeper.old) c) }
     ensures told { K.tells keeper.new → K.tells keeper.old }
+    ensures still { K.tells keeper.old → K.tells keeper.new }
     ensures count { K.faults keeper.new ≡ count_after (has_failed result) (K.faults keeper.old) }
 {
     // A device that has new messages has more of them than before.

@@ -47,6 +47,7 @@ fn read_all<S: Source, W: Sink, K: Keeper, C: WallClock, G: Ledger>(
     ensures ready { result ≡ End.AtEnd → IsReady session.new }
     ensures alone { IsWhole result → K.tells keeper.new → Only (K.contents keeper.old) (K.left keeper.old) → Only (K.contents keeper.new) (K.left keeper.new) }
     ensures told { K.tells keeper.new → K.tells keeper.old }
+    ensures still { K.tells keeper.old → K.tells keeper.new }
     ensures source { S.faults source.new ≡ count_after (end_status device_stop_status result == 4) (S.faults source.old) }
     ensures sink { W.faults sink.new ≡ count_after (end_status device_stop_status result == 5) (W.faults sink.old) }
     ensures keeper { K.faults keeper.new ≡ count_after (end_status device_stop_status result == 6) (K.faults keeper.old) }
@@ -82,6 +83,7 @@ fn answer_lines<S: Source, W: Sink, K: Keeper, C: WallClock, G: Ledger>(
     requires { IsReady session.old }
     ensures answers { (e : Entry) → Stands e [] session.old (seen (W.taken sink.old) (C.readings clock.old) (K.tells keeper.old) (K.contents keeper.old) (K.left keeper.old)) → HasAnswered result (S.left source.old) (S.left source.new) e (Only (K.contents keeper.old) (K.left keeper.old)) (seen (W.taken sink.new) (C.readings clock.new) (K.tells keeper.new) (K.contents keeper.new) (K.left keeper.new)) }
     ensures told { K.tells keeper.new → K.tells keeper.old }
+    ensures still { K.tells keeper.old → K.tells keeper.new }
     ensures source { S.faults source.new ≡ count_after (result == 4) (S.faults source.old) }
     ensures sink { W.faults sink.new ≡ count_after (result == 5) (W.faults sink.old) }
     ensures keeper { K.faults keeper.new ≡ count_after (result == 6) (K.faults keeper.old) }

@@ -39,6 +39,7 @@ pub fn open<K: Keeper>(
     ensures same { K.tells keeper.new → K.contents keeper.new ≡ K.contents keeper.old }
     ensures left { LeavesNoMore (K.left keeper.old) (K.left keeper.new) }
     ensures told { K.tells keeper.new → K.tells keeper.old }
+    ensures still { K.tells keeper.old → K.tells keeper.new }
     ensures count { K.faults keeper.new ≡ count_after (opening_status result == 6) (K.faults keeper.old) }
 {
     let records = match keeper.since(group, &Txt::new(String::new(alloc))) {

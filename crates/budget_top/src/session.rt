@@ -45,6 +45,7 @@ impl Session {
         ensures ready { OnOk result (IsReady self.new) }
         ensures alone { K.tells keeper.new → OnOk result (Only (K.contents keeper.old) (K.left keeper.old) → Only (K.contents keeper.new) (K.left keeper.new)) }
         ensures told { K.tells keeper.new → K.tells keeper.old }
+        ensures still { K.tells keeper.old → K.tells keeper.new }
         ensures sink { W.faults sink.new ≡ count_after (step_status device_stop_status result == 5) (W.faults sink.old) }
         ensures keeper { K.faults keeper.new ≡ count_after (step_status device_stop_status result == 6) (K.faults keeper.old) }
     {
@@ -85,6 +86,7 @@ impl Session {
         ensures ready { OnOk result (IsReady self.new) }
         ensures alone { K.tells keeper.new → OnOk result (Only (K.contents keeper.old) (K.left keeper.old) → Only (K.contents keeper.new) (K.left keeper.new)) }
         ensures told { K.tells keeper.new → K.tells keeper.old }
+        ensures still { K.tells keeper.old → K.tells keeper.new }
         ensures sink { W.faults sink.new ≡ count_after (step_status device_stop_status result == 5) (W.faults sink.old) }
         ensures keeper { K.faults keeper.new ≡ count_after (step_status device_stop_status result == 6) (K.faults keeper.old) }
     {
@@ -116,6 +118,7 @@ impl Session {
         ensures err { IfErr result (λ stop. (e : Entry) (read : List ℕ) → Stands e read self.old (seen (W.taken sink.old) (C.readings clock.old) (K.tells keeper.old) (K.contents keeper.old) (K.left keeper.old)) → BreaksAs stop e (Only (K.contents keeper.old) (K.left keeper.old)) (all_lines read) (seen (W.taken sink.new) (C.readings clock.new) (K.tells keeper.new) (K.contents keeper.new) (K.left keeper.new))) }
         ensures alone { K.tells keeper.new → OnOk result (Only (K.contents keeper.old) (K.left keeper.old) → Only (K.contents keeper.new) (K.left keeper.new)) }
         ensures told { K.tells keeper.new → K.tells keeper.old }
+        ensures still { K.tells keeper.old → K.tells keeper.new }
         ensures sink { W.faults sink.new ≡ count_after (step_status device_stop_status result == 5) (W.faults sink.old) }
         ensures keeper { K.faults keeper.new ≡ count_after (step_status device_stop_status result == 6) (K.faults keeper.old) }
     {

@@ -47,6 +47,7 @@ reads-preserved g c =
       within = omega (arith, c.reads.invariant.read.many, (r.on c.if-past.false).2);
       ready = c.in_default.ensures.ready;
       told = λ t. c.reads.invariant.told (c.feed.ensures.told t);
+      still = λ t. c.feed.ensures.still (c.reads.invariant.still t);
       alone = λ t a. c.in_default.ensures.alone t (c.reads.invariant.alone (c.feed.ensures.told t) a);
       source = c.in-Bytes.ensures.count ∙ c.reads.invariant.source;
       sink = c.in_default.ensures.sink ∙ c.reads.invariant.sink;

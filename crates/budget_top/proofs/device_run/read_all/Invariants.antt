@@ -13,6 +13,7 @@ invariant-reads g l = record {
   within : l.taken ≤ 1_073_741_824;
   ready : IsReady l.session;
   told : g.K.Keeper.tells l.keeper → g.K.Keeper.tells l.initial.keeper;
+  still : g.K.Keeper.tells l.initial.keeper → g.K.Keeper.tells l.keeper;
   alone : g.K.Keeper.tells l.keeper → Only (g.K.Keeper.contents l.initial.keeper) (g.K.Keeper.left l.initial.keeper) → Only (g.K.Keeper.contents l.keeper) (g.K.Keeper.left l.keeper);
   source : g.S.Source.faults l.source ≡ g.S.Source.faults l.initial.source;
   sink : g.W.Sink.faults l.sink ≡ g.W.Sink.faults l.initial.sink;

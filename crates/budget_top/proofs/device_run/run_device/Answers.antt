@@ -10,6 +10,7 @@ returns-clause-run g c =
     let old : Seen = seen (g.W.Sink.taken c.args.sink.now) (g.C.WallClock.readings c.args.clock.now) (g.K.Keeper.tells c.args.keeper.now) (g.K.Keeper.contents c.args.keeper.now) (g.K.Keeper.left c.args.keeper.now) in
     record {
       told = λ t. c.open.ensures.told (c.answer_lines-status.ensures.told t);
+      still = λ t. c.answer_lines-status.ensures.still (c.open.ensures.still t);
       opening = inr (record {
         first = c.in-Ok-open.device.state.messages;
         has = λ t. c.in-Ok-open.ensures.ok.has (c.answer_lines-status.ensures.told t);

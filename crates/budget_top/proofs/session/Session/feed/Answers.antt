@@ -34,6 +34,7 @@ lines-preserved g c =
           (c.in_ok-end_line.ensures.ok e _ (stands_within e _ _ c.lines.self _ _ (line_within c.args.bytes.now c.lines.at c.in-Some.length ends) refl refl c.in_ok-push.ensures (c.lines.invariant.stands e read s)));
       ready = c.in_ok-end_line.ensures.ready;
       told = λ t. c.lines.invariant.told (c.end_line.ensures.told t);
+      still = λ t. c.end_line.ensures.still (c.lines.invariant.still t);
       alone = λ t a. c.in_ok-end_line.ensures.alone t (c.lines.invariant.alone (c.end_line.ensures.told t) a);
       sink = ◌∙◌ {b = g.W.Sink.faults c.lines.sink} c.in_ok-end_line.ensures.sink c.lines.invariant.sink;
       keeper = ◌∙◌ {b = g.K.Keeper.faults c.lines.keeper} c.in_ok-end_line.ensures.keeper c.lines.invariant.keeper;

@@ -13,6 +13,7 @@ invariant-lines g l = record {
       → Stands e (read ++ take l.at l.bytes) l.self (seen (g.W.Sink.taken l.sink) (g.C.WallClock.readings l.clock) (g.K.Keeper.tells l.keeper) (g.K.Keeper.contents l.keeper) (g.K.Keeper.left l.keeper));
   ready : IsReady l.self;
   told : g.K.Keeper.tells l.keeper → g.K.Keeper.tells l.initial.keeper;
+  still : g.K.Keeper.tells l.initial.keeper → g.K.Keeper.tells l.keeper;
   alone : g.K.Keeper.tells l.keeper → Only (g.K.Keeper.contents l.initial.keeper) (g.K.Keeper.left l.initial.keeper) → Only (g.K.Keeper.contents l.keeper) (g.K.Keeper.left l.keeper);
   sink : g.W.Sink.faults l.sink ≡ g.W.Sink.faults l.initial.sink;
   keeper : g.K.Keeper.faults l.keeper ≡ g.K.Keeper.faults l.initial.keeper;
