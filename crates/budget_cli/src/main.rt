@@ -1,12 +1,17 @@
 //! The program: its words, the standard streams, the clock of the system and a keeper in memory.
 #![tactic(auto)]
 
-ghost use Rattle.std.specs.Prelude.{◌≡◌, ◌≢◌, ◌==◌, ◌⊎◌, ◌≤◌, IsErr, Some};
+ghost use Rattle.std.specs.Prelude.{◌≡◌, ◌≢◌, ◌==◌, ◌⊎◌, ◌≤◌, ℕ, List, IsErr, None, Some, Ok};
 ghost use Rattle.std.specs.Process.{exit_status};
+ghost use Rattle.budget_ports.specs.Contents.{nothing};
 ghost use Rattle.budget_ports.specs.Faults.{count_after};
+ghost use Rattle.budget_ports.specs.KeeperState.{KeeperState, holds};
 ghost use Rattle.budget_top.specs.Words.{planned, planned_mode, refusal_status};
 ghost use Rattle.budget_top.specs.MergeRun.{MergeRun};
-ghost use Rattle.budget_top.specs.declared.words.Mode.TheVariants.{Merge};
+ghost use Rattle.budget_top.specs.DeviceRun.{DeviceRun};
+ghost use Rattle.budget_top.specs.Seen.{seen};
+ghost use Rattle.budget_top.specs.declared.words.Mode.TheVariants.{Merge, Device};
+ghost use Rattle.budget_top.specs.declared.words.Plan.{Plan};
 
 mod stdin_source;
 mod stdout_sink;
@@ -75,7 +80,11 @@ fn status_over<G: Ledger, S: Source, W: Sink>(
     requires some { 1 ≤ G.parts }
     ensures words { result ≡ 2 → IsErr (planned words.now) }
     ensures refused { IsErr (planned words.now) → (result ≡ 2) ⊎ (result ≡ 7) }
+    ensures untouched { IsErr (planned words.now) → (source.new ≡ source.old) × (sink.new ≡ sink.old) }
     ensures merge { planned_mode words.now ≡ Some Merge → MergeRun result (S.left source.old) (S.left source.new) (W.taken sink.old) (W.taken sink.new) }
+
+    // The keeper holds nothing at first, and holds from one line to the next what the device keeps.
+    ensures device { (plan : Plan) (node : List ℕ) → planned words.now ≡ Ok plan → plan.mode ≡ Device → plan.node ≡ Some node → (keeper : KeeperState) × DeviceRun node result (S.left source.old) (S.left source.new) (W.faults sink.old) (W.faults sink.new) (seen (W.taken sink.old) None (Unit {0}) nothing (λ k. k ≡ nothing)) (seen (W.taken sink.new) None (Unit {0}) keeper.contents (holds keeper)) }
     ensures source { S.faults source.new ≡ count_after (result == 4) (S.faults source.old) }
     ensures sink { result ≢ 3 → W.faults sink.new ≡ count_after (result == 5) (W.faults sink.old) }
 {

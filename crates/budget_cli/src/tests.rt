@@ -50,35 +50,57 @@ fn clock_gives_the_last_reading_again(rt: HostRuntime) {
     }
 }
 
-/// A reader and a writer that always fails.
+/// A reader and a writer whose calls fail in turn with calls that work, the first of them.
 #[derive(Drop)]
-struct Broken;
+struct Flickering {
+    works: bool,
+}
 
-impl Read for Broken {
-    fn read(&mut self, _buffer: &mut [u8]) -> io::Result<usize> {
-        Err(ErrorKind::Other.into())
+impl Flickering {
+    /// One call.
+    fn call(&mut self) -> io::Result<()> {
+        let works = self.works;
+        self.works = !works;
+        if works {
+            Ok(())
+        } else {
+            Err(ErrorKind::Other.into())
+        }
     }
 }
 
-impl Write for Broken {
-    fn write(&mut self, _bytes: &[u8]) -> io::Result<usize> {
-        Err(ErrorKind::Other.into())
+impl Read for Flickering {
+    fn read(&mut self, _buffer: &mut [u8]) -> io::Result<usize> {
+        self.call()?;
+        Ok(0)
+    }
+}
+
+impl Write for Flickering {
+    fn write(&mut self, bytes: &[u8]) -> io::Result<usize> {
+        self.call()?;
+        Ok(bytes.len())
     }
 
     fn flush(&mut self) -> io::Result<()> {
-        Err(ErrorKind::Other.into())
+        self.call()
     }
 }
 
+/// Each call asks the stream once: a failure is told, and isn't tried again.
 #[test]
 fn failures_are_told(rt: HostRuntime) {
     let mut buffer = *b"...";
-    let mut source = StdinSource::new(Broken);
+    let mut source = StdinSource::new(Flickering { works: false });
     assert_eq!(rt; source.read(&mut buffer), Err(Failed));
     assert_eq!(rt; buffer, *b"...");
-    let mut sink = StdoutSink::new(Broken);
+    assert_eq!(rt; source.read(&mut buffer), Ok(0));
+    assert_eq!(rt; source.read(&mut buffer), Err(Failed));
+    let mut sink = StdoutSink::new(Flickering { works: false });
     assert_eq!(rt; sink.write(b"a"), Err(Failed));
+    assert_eq!(rt; sink.write(b"a"), Ok(1));
     assert_eq!(rt; sink.flush(), Err(Failed));
+    assert_eq!(rt; sink.flush(), Ok(()));
 }
 
 #[test]

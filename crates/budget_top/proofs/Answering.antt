@@ -1,6 +1,6 @@
 -- A device's run as a whole.
 use Rattle.std.proofs.Common.{◌≡◌, ℕ, ◌≤◌, inl, inr, List, [], refl, ap, sym, ◌∙◌, subst, Bool, true, false, cond, Option, Some, Result, Ok, Err, OnOk, OnErr, length, take, arith}
-use Rattle.std.proofs.KnownBytes.{Consumes-nil, Appends-nil}
+use Rattle.std.proofs.KnownBytes.{Appends-nil}
 use Rattle.std.specs.Io.KnownBytes.{Appends, Consumes, IsAtEnd}
 use Rattle.std.specs.Result.{is_err}
 use Rattle.budget_ports.specs.Faults.{count_after}
@@ -14,11 +14,11 @@ use Rattle.budget_top.specs.declared.stop.DeviceStop.TheVariants.{Run, Keeper}
 use Rattle.budget_top.specs.declared.stop.Stop.TheVariants.{Memory, Sink}
 use Rattle.budget_top.specs.Lines.{whole_lines}
 use Rattle.budget_top.specs.Limits.{most_input, HasRead, AreDue}
-use Rattle.budget_top.specs.Seen.{device_group, Seen, Holds}
+use Rattle.budget_top.specs.Seen.{Seen, Holds}
 use Rattle.budget_top.specs.Handling.{IsOpened}
 use Rattle.budget_top.specs.Stops.{device_stop_status}
 use Rattle.budget_top.specs.Standing.{Entry, Handles}
-use Rattle.budget_top.specs.DeviceSteps.{IsReady, Stands, Ended, BreaksAs}
+use Rattle.budget_top.specs.DeviceSteps.{Stands, Ended, BreaksAs}
 use Rattle.budget_top.specs.DeviceRun.{HandlesAll, HandlesTaken, HandlesLimit, HasAnswered, TellsBadRecord, bad_record_text, entry}
 use Rattle.budget_ports.specs.declared.stream.Failed.{Failed}
 use Rattle.budget_top.specs.Fronts.{AppendsFront}
@@ -34,9 +34,6 @@ pub record ReadSoFar (left new_left : Option (List ℕ)) (count : ℕ) (old : Se
   pub reads : Consumes left new_left read
   pub many : length read ≡ count
   pub stands : (e : Entry) → Stands e [] old before → Stands e read new now
-
-pub nothing_read : (left : Option (List ℕ)) (old : Session) (before : Seen) → ReadSoFar left left 0 old before old before
-nothing_read left old before = record { read = []; reads = Consumes-nil left; many = refl; stands = λ e s. s }
 
 pub stands_along : (e : Entry) (xs ys : List ℕ) (session : Session) (now : Seen) → xs ≡ ys → Stands e xs session now → Stands e ys session now
 stands_along e xs ys session now same s = let P : List ℕ → Type 0 = λ bs. Stands e bs session now in subst P same s
@@ -187,9 +184,6 @@ answered_from status left new_left e alone before now f h =
     }
 
 -- the opening
-
-pub ready_open : (node : List ℕ) (contents : Contents) (tells : Type 0) (session : Session) → IsOpened node contents tells session.device → session.group ≡ device_group → IsReady session
-ready_open node contents tells session h group = record { live = ap (λ (d : DeviceState). d.spent) h.state; idle = ap (λ (d : DeviceState). d.batch) h.state; group = group }
 
 pub stands_open : (node : List ℕ) (session : Session) (old now : Seen) → IsOpened node old.contents now.tells session.device → session.line ≡ Some [] → session.bad ≡ false → now.taken ≡ old.taken → now.readings ≡ old.readings
     → (now.tells → now.contents ≡ old.contents) → Stands (entry old (begun node session.device.state.messages)) [] session now

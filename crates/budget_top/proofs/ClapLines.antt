@@ -176,9 +176,6 @@ long_fault_is ps q n v b none is e =
     ∙ ap (λ (h : Held). or_else (or_else (repeat_fault false n h.rows) []) []) is
     ∙ ap once_fault (has_row_is n (ps ++ pairs q) ∙ e)
 
-rows_only : List Row → Held
-rows_only rs = record { rows = rs; pending = None; skip = 0 }
-
 value_given : (ps : List Pair) (q : Pending) → Settles ps q → (position : ℕ) (word n v : Text) (words : List Text) (o : Option (List Pair)) (b : Bool) → has n (ps ++ pairs q) ≡ b
     → (each_once (ps ++ pairs q) ≡ true → b ≡ false → Follows ((ps ++ pairs q) ++ (n, v) ∷ []) o (at (held ((ps ++ pairs q) ++ (n, v) ∷ []) nothing) idle position false) words)
     → LongStep (ps ++ pairs q) (held ps q) position word n (Some v) (pair_then (n, v) o) words (Some (filled_option n))

@@ -1,10 +1,10 @@
 -- What clap's definitions come to at the command of a plan.
-use Rattle.std.proofs.Common.{◌≡◌, ℕ, ◌||◌, List, [], ◌∷◌, map, Bool, true, false, cond, not, Some, None, refl, sym, ap, ◌∙◌, ◌⊎◌, inl, inr, fold, true≢false, subst}
+use Rattle.std.proofs.Common.{◌≡◌, ◌||◌, List, [], ◌∷◌, map, Bool, true, false, cond, not, Some, None, refl, sym, ap, ◌∙◌, ◌⊎◌, inl, inr, fold, true≢false, subst}
 use Rattle.std.specs.Str.{bytes_eq}
 use Rattle.std.specs.List.{list_any}
 use Rattle.std.proofs.lemmas.Slice.Eq.{bytes_eq-Decides}
 use Rattle.clap.specs.Kinds.{or_else}
-use Rattle.clap.specs.Walk.{Rule, Row, arg_by_long, arg_by_id, arg_by_short, arg_by_index, with_default, has_row, used, with_values, without, most_values}
+use Rattle.clap.specs.Walk.{Rule, Row, arg_by_long, arg_by_id, arg_by_index, with_default, has_row, used, with_values, without, most_values}
 use Rattle.clap.specs.Simple.{Shape, built}
 use Rattle.clap.specs.Takes.{is_given}
 use Rattle.clap.specs.Faults.{use_fault, repeat_fault, defaults_fault, check_fault}
@@ -34,12 +34,6 @@ filled_mode = record mode_rule {
 
 abbrev pub rules : List Rule
 rules = filled_mode ∷ map filled_option option_names
-
-pub rules_are : shape.rules ≡ rules
-rules_are = refl
-
-pub again_is : shape.args_override_self ≡ false
-again_is = refl
 
 among : (m n : Text) (ns : List Text) (b : Bool) → bytes_eq m n ≡ b → arg_by_long (map filled_option ns) n ≡ cond (list_any (λ s. bytes_eq s n) ns) (Some (filled_option n)) None
     → cond (b || false) (Some (filled_option m)) (arg_by_long (map filled_option ns) n) ≡ cond (b || list_any (λ s. bytes_eq s n) ns) (Some (filled_option n)) None
@@ -90,14 +84,8 @@ pub by_id : (n : Text) → Known n → Found n
 by_id n (inl e) = (filled_mode, ap (arg_by_id rules) e, subst (λ m. IsEntry m filled_mode) (sym e) mode_entry)
 by_id n (inr h) = (filled_option n, rw (not_mode n (bytes_eq mode n) refl h) (id_among option_names n ∙ ap (λ b. cond b (Some (filled_option n)) None) h), option_entry n)
 
-pub by_short : (c : ℕ) → arg_by_short rules c ≡ None
-by_short c = refl
-
 pub first_place : arg_by_index rules 1 ≡ Some filled_mode
 first_place = refl
-
-pub second_place : arg_by_index rules 2 ≡ None
-second_place = refl
 
 same_either : {A : Type 0} (b : Bool) (x : A) → cond b x x ≡ x
 same_either true x = refl

@@ -13,9 +13,9 @@ use Rattle.device_core.specs.declared.edit.Write.{Write}
 use Rattle.device_core.specs.declared.edit.EditFault.{EditFault}
 use Rattle.device_core.specs.declared.edit.EditFault.TheVariants.{TooManyWrites}
 use Rattle.device_core.specs.declared.edit.LineRefusal.{LineRefusal}
-use Rattle.device_core.specs.declared.edit.LineRefusal.TheVariants.{Edit as OfEdit, Clock as OfClock, NoMemory}
+use Rattle.device_core.specs.declared.edit.LineRefusal.TheVariants.{Edit as OfEdit}
 use Rattle.device_core.specs.Edits.{writes_of}
-use Rattle.device_core.specs.Device.{State, DeviceState, Accepted, at_rest, written, writing, edited, taken_in, receiving, received, greatest_of, IsAccepted, IsRefused}
+use Rattle.device_core.specs.Device.{State, DeviceState, Accepted, at_rest, written, writing, edited, taken_in, receiving, received, greatest_of, IsAccepted}
 use Rattle.command_lines.specs.declared.command.Command.{Command}
 use Rattle.command_lines.specs.declared.command.CommandFault.{CommandFault}
 use Rattle.command_lines.specs.declared.reply.Reply.{Reply}
@@ -44,24 +44,7 @@ refused_by : (reply : Accepted → Reply) (meant : Result Accepted LineRefusal) 
 refused_by reply meant old new refusal r is same by =
     ap (settled old.state reply) is ∙ ap (λ o. (old.state, reply_to_refusal o)) by ∙ ap (λ (d : DeviceState). (d.state, r)) (sym same)
 
--- a refusal that has a reply leaves the device as it was
-pub refused_kept : (meant : Result Accepted LineRefusal) (old new : DeviceState) (refusal : LineRefusal) (r : Reply)
-    → IsRefused meant old new refusal → refused refusal ≡ Some r → new ≡ old
-refused_kept meant old new (OfEdit fault) r h by = h.1
-refused_kept meant old new (OfClock fault) r h by = h.1
-refused_kept meant old new NoMemory r h by = absurd (cc)
-
-pub refused_settles : (reply : Accepted → Reply) (meant : Result Accepted LineRefusal) (old new : DeviceState) (refusal : LineRefusal) (r : Reply)
-    → IsRefused meant old new refusal → refused refusal ≡ Some r → settled old.state reply meant ≡ (new.state, r)
-refused_settles reply meant old new (OfEdit fault) r h by = refused_by reply meant old new (OfEdit fault) r h.0 h.1 by
-refused_settles reply meant old new (OfClock fault) r h by = refused_by reply meant old new (OfClock fault) r h.0 h.1 by
-refused_settles reply meant old new NoMemory r h by = absurd (cc)
-
 -- ---- what is accepted
-
-pub accepted_settles : (s : State) (reply : Accepted → Reply) (meant : Result Accepted LineRefusal) (new : DeviceState) (count : ℕ)
-    → IsAccepted meant new count → settled s reply meant ≡ (new.state, reply (record { device = new; count = count }))
-accepted_settles s reply meant new count is = ap (settled s reply) is
 
 -- nothing is new
 pub brings_none : (ms : List Message) (device : DeviceState) → device.batch ≡ [] → device.state.messages ≡ ms → Brings ms device

@@ -1,13 +1,13 @@
 -- Lines that are written piece by piece.
-use Rattle.std.proofs.Common.{◌≡◌, ℕ, ◌<◌, List, [], ◌++◌, length, ap, sym, subst, ◌∙◌, Option, Some, append_assoc, append-nil}
+use Rattle.std.proofs.Common.{◌≡◌, ℕ, ◌<◌, List, [], ◌++◌, length, ap, sym, subst, ◌∙◌, Option, Some, append_assoc}
 use Rattle.std.specs.Prelude.{MatchOption}
-use Rattle.std.proofs.KnownBytes.{Appends-trans, Appends-nil}
+use Rattle.std.proofs.KnownBytes.{Appends-trans}
 use Rattle.std.specs.Io.KnownBytes.{Appends}
 use Rattle.std.specs.List.{flat_map}
 use Rattle.field_merge.specs.declared.message.Message.{Message}
 use Rattle.field_merge.specs.Log.{ended_line}
 use Rattle.budget_top.specs.Fronts.{AppendsFront}
-use Rattle.budget_top.proofs.Standing.{front_all, front_then, front_as, front_more, appends_as}
+use Rattle.budget_top.proofs.Standing.{front_then, front_as, front_more, appends_as}
 
 -- what was written and the lines that are left are together all lines
 pub record IsGiven (old now : Option (List ℕ)) (left ms : List Message) : Type 0 where
@@ -15,23 +15,12 @@ pub record IsGiven (old now : Option (List ℕ)) (left ms : List Message) : Type
   pub written : Appends old now given
   pub whole : given ++ flat_map ended_line left ≡ flat_map ended_line ms
 
-pub given_none : (a : Option (List ℕ)) (left ms : List Message) → left ≡ ms → IsGiven a a left ms
-given_none a left ms e = record { given = []; written = Appends-nil a; whole = ap (flat_map ended_line) e }
-
 pub given_next : (a b c : Option (List ℕ)) (left rest ms : List Message) (piece text : List ℕ) → IsGiven a b left ms → flat_map ended_line left ≡ text ++ flat_map ended_line rest → piece ≡ text → Appends b c piece → IsGiven a c rest ms
 given_next a b c left rest ms piece text g e p w = record {
   given = g.given ++ text;
   written = Appends-trans a b c g.given text g.written (appends_as b c piece text p w);
   whole = append_assoc g.given text (flat_map ended_line rest) ∙ ap (λ t. g.given ++ t) (sym e) ∙ g.whole;
 }
-
-pub given_all : (a b : Option (List ℕ)) (left ms : List Message) → IsGiven a b left ms → left ≡ [] → Appends a b (flat_map ended_line ms)
-given_all a b left ms g e =
-    appends_as a b g.given (flat_map ended_line ms) (sym (append-nil g.given) ∙ ap (λ (ns : List Message). g.given ++ flat_map ended_line ns) (sym e) ∙ g.whole) g.written
-
-pub given_so_far : (a b : Option (List ℕ)) (left ms : List Message) → IsGiven a b left ms → AppendsFront a b (flat_map ended_line ms)
-given_so_far a b left ms g =
-    front_as a b (g.given ++ flat_map ended_line left) (flat_map ended_line ms) g.whole (front_all a b g.given (flat_map ended_line left) g.written)
 
 pub given_in_part : (a b c : Option (List ℕ)) (left rest ms : List Message) (piece text : List ℕ) → IsGiven a b left ms → flat_map ended_line left ≡ text ++ flat_map ended_line rest → piece ≡ text → AppendsFront b c piece → AppendsFront a c (flat_map ended_line ms)
 given_in_part a b c left rest ms piece text g e p f =

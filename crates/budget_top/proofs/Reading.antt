@@ -1,11 +1,11 @@
 -- The bytes that a read gives.
-use Rattle.std.proofs.Common.{◌≡◌, ℕ, ◌+◌, ◌-◌, ◌<◌, ◌≤◌, ◌⊎◌, inl, inr, min, nat_lt, Bool, false, List, [], ◌++◌, length, take, ap, sym, ◌∙◌, subst, arith, Option, append-nil, length-append, length-take, take-take}
+use Rattle.std.proofs.Common.{◌≡◌, ℕ, ◌+◌, ◌-◌, ◌<◌, ◌≤◌, ◌⊎◌, inl, inr, min, nat_lt, Bool, false, List, ◌++◌, length, take, ap, sym, ◌∙◌, subst, arith, Option, length-append, length-take, take-take}
 use Rattle.std.proofs.Math.Seq.{take-append-add}
 use Rattle.std.proofs.lemmas.Bool.{cases_lt, ltb-true, ltb-false}
 use Rattle.std.proofs.lemmas.Grind.{common_steps}
-use Rattle.std.proofs.KnownBytes.{Consumes-trans, Consumes-kept}
-use Rattle.std.specs.Io.KnownBytes.{Consumes, Keeps}
-use Rattle.budget_top.specs.Limits.{most_input, HasRead, ReadsMore}
+use Rattle.std.proofs.KnownBytes.{Consumes-trans}
+use Rattle.std.specs.Io.KnownBytes.{Consumes}
+use Rattle.budget_top.specs.Limits.{most_input, ReadsMore}
 
 pub length_more : (read buffer : List ℕ) (taken count : ℕ) → length read ≡ taken → count ≤ length buffer → length (read ++ take count buffer) ≡ taken + count
 length_more read buffer taken count h within = simp (length-append, length-take) (omega arith)
@@ -36,15 +36,6 @@ limit_taken most read buffer rest taken count m long within inside least =
     of_both (inr more) =
         let is : most - taken ≡ m = omega arith in
         take-take (most - taken) count buffer more ∙ ap (λ k. take k buffer) is
-
--- no more bytes came
-pub read_kept : (left mid new : Option (List ℕ)) (read : List ℕ) (taken : ℕ) → length read ≡ taken → taken ≤ most_input → Consumes left mid read → Keeps mid new → HasRead left new read
-read_kept left mid new read taken many within reads kept = record { reads = Consumes-kept left mid new read reads kept; asked = omega arith }
-
-pub read_none : (left mid new : Option (List ℕ)) (read buffer : List ℕ) (taken : ℕ) → length read ≡ taken → taken ≤ most_input → Consumes left mid read → Consumes mid new (take 0 buffer) → HasRead left new read
-read_none left mid new read buffer taken many within reads more =
-    let P : List ℕ → Type 0 = λ xs. Consumes left new xs in
-    record { reads = subst P (append-nil read) (Consumes-trans left mid new read [] reads more); asked = omega arith }
 
 -- more bytes came, of which m are within the limit
 pub read_more : (left mid new : Option (List ℕ)) (read buffer rest : List ℕ) (taken count m most : ℕ) (past : Bool) → length read ≡ taken → taken ≤ most_input → Consumes left mid read → Consumes mid new (take count buffer)

@@ -17,31 +17,31 @@ use std::alloc::Global;
 use std::sync::ledger::Ledger;
 
 /// All was done, and no line was refused.
-pub const DONE: u8 = 0;
+pub(crate) const DONE: u8 = 0;
 
 /// All was done, and a line was refused.
-pub const SOME_BAD: u8 = 1;
+pub(crate) const SOME_BAD: u8 = 1;
 
 /// The words are refused. Nothing was touched.
-pub const BAD_WORDS: u8 = 2;
+pub(crate) const BAD_WORDS: u8 = 2;
 
 /// A record that is kept is no message. No line was taken.
-pub const BAD_RECORD: u8 = 3;
+pub(crate) const BAD_RECORD: u8 = 3;
 
 /// The source failed.
-pub const SOURCE_FAILED: u8 = 4;
+pub(crate) const SOURCE_FAILED: u8 = 4;
 
 /// The sink failed.
-pub const SINK_FAILED: u8 = 5;
+pub(crate) const SINK_FAILED: u8 = 5;
 
 /// The keeper failed.
-pub const KEEPER_FAILED: u8 = 6;
+pub(crate) const KEEPER_FAILED: u8 = 6;
 
 /// Memory ran out.
-pub const NO_MEMORY: u8 = 7;
+pub(crate) const NO_MEMORY: u8 = 7;
 
 /// The source gave more than 1,073,741,824 bytes.
-pub const TOO_MUCH: u8 = 9;
+pub(crate) const TOO_MUCH: u8 = 9;
 
 /// The status of a run whose words are refused.
 pub fn refusal_status(fault: WordFault) -> u8
@@ -53,7 +53,10 @@ pub fn refusal_status(fault: WordFault) -> u8
     }
 }
 
-/// Does what the words ask for, and answers the status.
+/// Does what the words ask for, and answers the status: 0, all was done; 1, all was done, and a line was
+/// refused; 2, the words are refused, and nothing was touched; 3, a record that is kept is no message, and
+/// no line was taken; 4, 5, 6, the source, the sink or the keeper failed; 7, memory ran out; 9, the source
+/// gave more than 1,073,741,824 bytes.
 ///
 /// The words leave out the program's name. The first event that ends the run decides the status.
 pub fn run<S: Source, W: Sink, K: Keeper, C: WallClock, G: Ledger>(

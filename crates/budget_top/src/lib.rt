@@ -26,10 +26,7 @@ mod word_tests;
 mod words;
 mod write;
 
-pub use dispatch::{
-    BAD_RECORD, BAD_WORDS, DONE, KEEPER_FAILED, NO_MEMORY, SINK_FAILED, SOME_BAD, SOURCE_FAILED,
-    TOO_MUCH, refusal_status, run,
-};
+pub use dispatch::{refusal_status, run};
 pub use in_memory::run_in_memory;
 pub use laws::{lines_are_written, replies_are_cut};
 pub use planning::plan;
