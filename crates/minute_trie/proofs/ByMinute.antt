@@ -6,11 +6,11 @@ use Rattle.std.proofs.lemmas.List.{map-append, length-append}
 use Rattle.std.proofs.lemmas.List.Sorted.{IsPermutation-map, list_any-IsPermutation}
 use Rattle.minute_trie.specs.declared.key.Digit.{Digit}
 use Rattle.minute_trie.specs.Pruned.{Entry, lies_below, xor}
-use Rattle.minute_trie.specs.Diff.{walk, end_of_walk, minute_of, going_down, way_down, difference}
+use Rattle.minute_trie.specs.Diff.{walk, end_of_walk, minute_of, going_down, way_down, same_hash, difference}
 use Rattle.minute_trie.specs.Held.{Held, after}
 use Rattle.hybrid_clock.specs.Stamp.{window}
 use Rattle.minute_trie.specs.Trie.{entry_of, entries_of, trie_of, ArePairs}
-use Rattle.minute_trie.specs.Rounds.{IsRound, IsProperPrefix, is_before, is_from, Sides, end_of_sides, difference_of_sides, AreRounds}
+use Rattle.minute_trie.specs.Rounds.{IsRound, IsProperPrefix, is_before, is_from, Sides, end_of_sides, difference_of_sides, IsRoundOfSides, AreRounds}
 use Rattle.minute_trie.proofs.Agree.{Agree, Grows, before, not_before}
 use Rattle.minute_trie.proofs.Order.{xor_same}
 use Rattle.minute_trie.proofs.Exchange.{exchanged}
@@ -51,7 +51,7 @@ nearer mine got mine_now theirs taken theirs_now s a b c d w r ne =
     (agree_from s _ _ (agree_filtered (is_from (minute_of s)) (not_before s) mine_now theirs_now c d (λ p k. ap not (earlier p.0 s k)) r.level))
     ne
 
-pub by_minute : (mine got mine_now theirs taken theirs_now : List (ℕ × ℤ)) → ArePairs mine → ArePairs theirs → ArePairs mine_now → ArePairs theirs_now →
+by_minute : (mine got mine_now theirs taken theirs_now : List (ℕ × ℤ)) → ArePairs mine → ArePairs theirs → ArePairs mine_now → ArePairs theirs_now →
     IsRound (minute_of (end_of_walk (trie_of mine) (trie_of theirs))) mine got mine_now theirs taken theirs_now →
     (difference (trie_of mine_now) (trie_of theirs_now) ≡ None) ⊎ IsProperPrefix (end_of_walk (trie_of mine_now) (trie_of theirs_now)) (end_of_walk (trie_of mine) (trie_of theirs))
 unfolding end_of_walk
@@ -67,6 +67,19 @@ by_minute mine got mine_now theirs taken theirs_now a b c d r = by_hash (eqb x y
       ⊎ IsProperPrefix (walk 16 (trie_of mine_now) (trie_of theirs_now)) (walk 16 (trie_of mine) (trie_of theirs))
   by_hash true e = inl refl
   by_hash false e = inr (nearer mine got mine_now theirs taken theirs_now _ a b c d refl r (λ same. let f : true ≡ false = sym (eq-eqb x y same) ∙ e in cc))
+
+-- the minute whose moment is told is that of the walk
+minute_told : (f g : Held) (minute : ℕ) → difference f g ≡ Some (minute * 60_000) → minute_of (end_of_walk f g) ≡ minute
+minute_told f g minute = by_hash (same_hash (f []) (g [])) where
+  by_hash : (b : Bool) → cond b None (Some (minute_of (end_of_walk f g) * 60_000)) ≡ Some (minute * 60_000) → minute_of (end_of_walk f g) ≡ minute
+  by_hash true h = absurd (cc)
+  by_hash false h = let k : minute_of (end_of_walk f g) * 60_000 ≡ minute * 60_000 = cc in omega arith
+
+pub by_round : (s t : Sides) → ArePairs s.0 → ArePairs s.1 → ArePairs t.0 → ArePairs t.1 → IsRoundOfSides s t →
+    (difference_of_sides t ≡ None) ⊎ IsProperPrefix (end_of_sides t) (end_of_sides s)
+by_round s t a b c d r =
+    by_minute s.0 r.2 t.0 s.1 r.3 t.1 a b c d
+    (subst (λ m. IsRound m s.0 r.2 t.0 s.1 r.3 t.1) (sym (minute_told (trie_of s.0) (trie_of s.1) r.0 r.1)) r.4)
 
 -- a walk takes no more steps than it may
 led_short : (n : ℕ) (below : Digit → List Digit) (way : Option Digit) → ((d : Digit) → length (below d) ≤ n) → length (going_down below way) ≤ suc n
@@ -98,7 +111,7 @@ sides_of s (t ∷ rounds) r = r.0
 
 none_after : (s : Sides) (rounds : List Sides) → difference_of_sides s ≡ None → AreRounds s rounds → length rounds ≤ 0
 none_after s [] e r = omega arith
-none_after s (t ∷ rounds) e r = absurd (r.1 e)
+none_after s (t ∷ rounds) e r = let k : None ≡ Some (r.1.0 * 60_000) = sym e ∙ r.1.1 in absurd (cc)
 
 -- after a round there are few more, where a place with one digit less leaves few
 few_more : (n : ℕ) (s t : Sides) (rounds : List Sides) → AreRounds t rounds → length (end_of_sides s) ≤ n →
@@ -114,8 +127,8 @@ few_more (suc n) s t rounds r l next (inr p) =
 few_from : (n : ℕ) (s : Sides) (rounds : List Sides) → length (end_of_sides s) ≤ n → AreRounds s rounds → length rounds ≤ suc n
 few_from n s [] l r = omega arith
 few_from n s (t ∷ rounds) l r =
-    let later = sides_of t rounds r.3 in
-    few_more n s t rounds r.3 l (λ m k. few_from m t rounds k r.3) (by_minute s.0 r.2.0 t.0 s.1 r.2.1.0 t.1 r.0.0 r.0.1 later.0 later.1 r.2.1.1)
+    let later = sides_of t rounds r.2 in
+    few_more n s t rounds r.2 l (λ m k. few_from m t rounds k r.2) (by_round s t r.0.0 r.0.1 later.0 later.1 r.1)
 
 pub few : (s : Sides) (rounds : List Sides) → AreRounds s rounds → length rounds ≤ 17
 few s rounds r = few_from 16 s rounds (within (trie_of s.0) (trie_of s.1)) r

@@ -83,7 +83,7 @@ pub record AreApart (a b : Option ℕ) : Type 0 where
   pub right_is : b ≡ Some right
   pub apart : eqb left right ≡ false
 
-down_is : (a b : Option ℕ) → turn_of a b ≡ Down → AreApart a b
+pub down_is : (a b : Option ℕ) → turn_of a b ≡ Down → AreApart a b
 down_is None None h = absurd (cc)
 down_is None (Some y) h = absurd (cc)
 down_is (Some x) None h = absurd (cc)

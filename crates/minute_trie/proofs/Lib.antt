@@ -18,3 +18,5 @@ pub mod RoundTrip
 pub mod ReadBack
 pub mod Shapes
 pub mod RoundsMade
+pub mod WayDown
+pub mod FirstMinute

@@ -88,7 +88,7 @@ agree_from (Two ∷ s) es fs a = agree_from s _ _ (agree_part Two (not_before (T
 
 -- ---- minutes
 
-abbrev digits : ℕ → ℕ → List Digit
+abbrev pub digits : ℕ → ℕ → List Digit
 digits zero m = []
 digits (suc n) m = digit_of (m / 3 ^ n % 3) ∷ digits n m
 
@@ -109,7 +109,7 @@ mod_split m t h =
     let a : m ≡ (q / 3 * 3 + q % 3) * t + m % t = sym (div-add-mod' m t) ∙ ap (λ x. x * t + m % t) (sym (div-add-mod' q 3)) in
     ap (λ x. x % (t * 3)) (a ∙ regrouped (q / 3) (q % 3) t (m % t)) ∙ mod-mul-add (q / 3) (t * 3) (q % 3 * t + m % t) (below_three (q % 3) t (m % t) small rest)
 
-key_is : (m : ℕ) → key m ≡ digits 16 m
+pub key_is : (m : ℕ) → key m ≡ digits 16 m
 unfolding key
 key_is m = refl
 

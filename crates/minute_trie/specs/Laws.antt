@@ -1,15 +1,16 @@
 -- What the laws say of the definitions that the contracts cite.
-use Rattle.std.specs.Prelude.{◌≡◌, ◌≤◌, ◌++◌, ◌⊎◌, ℕ, List, filter, length, None, true, false}
+use Rattle.std.specs.Prelude.{◌≡◌, ◌≢◌, ◌↔◌, ◌<◌, ◌≤◌, ◌*◌, ◌++◌, ◌⊎◌, ℕ, List, [], ◌∷◌, filter, length, Option, Some, None, true, false}
 use Rattle.std.specs.List.Sorted.{IsPermutation}
 use Rattle.hybrid_clock.specs.declared.stamp.Stamp.{Stamp}
 use Rattle.hybrid_clock.specs.Stamp.{IsStamp}
 use Rattle.minute_trie.specs.declared.key.Digit.{Digit}
 use Rattle.minute_trie.specs.declared.trie.Trie.{Trie}
-use Rattle.minute_trie.specs.Pruned.{present, kept}
+use Rattle.minute_trie.specs.Key.{key}
+use Rattle.minute_trie.specs.Pruned.{begins, present, kept}
 use Rattle.minute_trie.specs.Held.{Held, IsMap}
 use Rattle.minute_trie.specs.Trie.{Pair, stamp_pair, entries_of, trie_of, IsTrieOf, IsPair, ArePairs}
 use Rattle.minute_trie.specs.Adding.{with_pair}
-use Rattle.minute_trie.specs.Diff.{end_of_walk}
+use Rattle.minute_trie.specs.Diff.{digit_value, end_of_walk, difference}
 use Rattle.minute_trie.specs.Json.{trie_text}
 use Rattle.minute_trie.specs.Faults.{fault_of_text, map_of_text, IsReadingOf}
 use Rattle.minute_trie.specs.Rounds.{is_from, IsRound, IsProperPrefix, Sides, end_of_sides, difference_of_sides, IsRoundOfSides, AreRounds}
@@ -46,7 +47,47 @@ pub record TextsReadBack : Type 0 where
   -- so a trie that is read from the text of a list's trie is that list's
   pub pairs : (pairs : List Pair) (trie : Trie) → ArePairs pairs → IsReadingOf (trie_text (trie_of pairs)) trie → IsTrieOf pairs trie
 
--- rounds from the moment on where two tries differ come to an end
+-- both have a hash at p, and it is not the same
+abbrev pub DifferAt : Held → Held → List Digit → Type 0
+DifferAt f g p = (a : ℕ) × (b : ℕ) × (f p ≡ Some a) × (g p ≡ Some b) × (a ≢ b)
+
+-- below p both have the same at each digit before d
+abbrev pub AreSameBefore : Held → Held → List Digit → Digit → Type 0
+AreSameBefore f g p d = (e : Digit) → digit_value e < digit_value d → f (p ++ e ∷ []) ≡ g (p ++ e ∷ [])
+
+-- below p both have the same at each digit
+abbrev pub AreSameBelow : Held → Held → List Digit → Type 0
+AreSameBelow f g p = (e : Digit) → f (p ++ e ∷ []) ≡ g (p ++ e ∷ [])
+
+-- at the first digit below p at which they haven't the same, one has none
+abbrev pub IsOneSidedBelow : Held → Held → List Digit → Type 0
+IsOneSidedBelow f g p =
+    (d : Digit) × AreSameBefore f g p d × (f (p ++ d ∷ []) ≢ g (p ++ d ∷ [])) × ((f (p ++ d ∷ []) ≡ None) ⊎ (g (p ++ d ∷ []) ≡ None))
+
+-- the string leads down to the first difference, by so many digits at most
+pub record LeadsDown (digits : ℕ) (f g : Held) (s : List Digit) : Type 0 where
+  -- the two differ at each prefix of the string
+  pub differs : (p q : List Digit) → s ≡ p ++ q → DifferAt f g p
+  -- they have the same at each digit that was passed on the way
+  pub passed : (p r : List Digit) (d : Digit) → s ≡ p ++ d ∷ r → AreSameBefore f g p d
+  -- the string has all its digits, or no child differs, or one side alone has the first child that does
+  pub ends : (length s ≡ digits) ⊎ (AreSameBelow f g s ⊎ IsOneSidedBelow f g s)
+
+-- the moment of the first minute whose key begins with the string
+abbrev pub IsMomentOf : List Digit → Option ℕ → Type 0
+IsMomentOf s moment =
+    (minute : ℕ) × (moment ≡ Some (minute * 60_000)) × (begins (key minute) s ≡ true) × ((other : ℕ) → begins (key other) s ≡ true → minute ≤ other)
+
+-- the difference of two tries is found
+pub record DifferencesAreFound : Type 0 where
+  -- no moment is told exactly where the roots have one hash
+  pub none : (f g : Held) → (difference f g ≡ None) ↔ (f [] ≡ g [])
+  -- where they have two, the walk goes down to the first difference
+  pub down : (f g : Held) → IsMap 16 f → IsMap 16 g → f [] ≢ g [] → LeadsDown 16 f g (end_of_walk f g)
+  -- and the moment of the place where it ends is told
+  pub moment : (f g : Held) → f [] ≢ g [] → IsMomentOf (end_of_walk f g) (difference f g)
+
+-- rounds from the moment on that is told of two tries come to an end
 pub record RoundsEnd : Type 0 where
   -- after such a round the tries have one hash at the root, or the walk ends at a proper prefix of where it ended before
   pub nearer : (s t : Sides) → ArePairs s.0 → ArePairs s.1 → ArePairs t.0 → ArePairs t.1 → IsRoundOfSides s t →

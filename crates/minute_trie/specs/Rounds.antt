@@ -1,9 +1,9 @@
 -- A round of a sync: two sides exchange all that they hold from a minute on.
-use Rattle.std.specs.Prelude.{◌≡◌, ℕ, List, [], ◌∷◌, ◌++◌, filter, Option, None, Bool, not, nat_lt}
+use Rattle.std.specs.Prelude.{◌≡◌, ℕ, ◌*◌, List, [], ◌∷◌, ◌++◌, filter, Option, Some, Bool, not, nat_lt}
 use Rattle.std.specs.List.Sorted.{IsPermutation}
 use Rattle.minute_trie.specs.declared.key.Digit.{Digit}
 use Rattle.minute_trie.specs.Trie.{Pair, trie_of, ArePairs}
-use Rattle.minute_trie.specs.Diff.{end_of_walk, minute_of, difference}
+use Rattle.minute_trie.specs.Diff.{end_of_walk, difference}
 
 -- does the pair stand before the minute?
 abbrev pub is_before : ℕ → Pair → Bool
@@ -40,12 +40,12 @@ end_of_sides s = end_of_walk (trie_of s.0) (trie_of s.1)
 abbrev pub difference_of_sides : Sides → Option ℕ
 difference_of_sides s = difference (trie_of s.0) (trie_of s.1)
 
--- a round from the minute on at which the sides before it differ
+-- a round from the minute on whose moment is told of the sides before it
 abbrev pub IsRoundOfSides : Sides → Sides → Type 0
-IsRoundOfSides s t = (got : List Pair) × ((taken : List Pair) × IsRound (minute_of (end_of_sides s)) s.0 got t.0 s.1 taken t.1)
+IsRoundOfSides s t =
+    (minute : ℕ) × (difference_of_sides s ≡ Some (minute * 60_000)) × (got : List Pair) × (taken : List Pair) × IsRound minute s.0 got t.0 s.1 taken t.1
 
--- sides that hold pairs, and such rounds one after the other: what the sides hold after each, while they differ before it
+-- sides that hold pairs, and such rounds one after the other: what the sides hold after each
 abbrev pub AreRounds : Sides → List Sides → Type 0
 AreRounds s [] = ArePairs s.0 × ArePairs s.1
-AreRounds s (t ∷ rounds) =
-    (ArePairs s.0 × ArePairs s.1) × (difference_of_sides s ≡ None → ⊥) × IsRoundOfSides s t × AreRounds t rounds
+AreRounds s (t ∷ rounds) = (ArePairs s.0 × ArePairs s.1) × IsRoundOfSides s t × AreRounds t rounds

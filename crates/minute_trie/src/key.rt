@@ -6,8 +6,11 @@ ghost use Rattle.minute_trie.specs.Names.{child_name};
 /// A digit to the base 3.
 #[derive(Clone, Copy, Debug, PartialEq, Eq)]
 pub enum Digit {
+    /// The digit 0, behind which the earliest minutes stand.
     Zero,
+    /// The digit 1.
     One,
+    /// The digit 2, behind which the latest minutes stand.
     Two,
 }
 

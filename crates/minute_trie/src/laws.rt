@@ -1,5 +1,5 @@
 //! Laws of the definitions that the contracts cite.
-ghost use Rattle.minute_trie.specs.Laws.{OrderIsFree, PrunedForGood, TriesAreMaps, TextsReadBack, RoundsEnd, RoundsAreMade};
+ghost use Rattle.minute_trie.specs.Laws.{OrderIsFree, PrunedForGood, TriesAreMaps, TextsReadBack, DifferencesAreFound, RoundsEnd, RoundsAreMade};
 
 /// The trie of a list does not depend on the order of the list.
 pub fn order_free()
@@ -22,8 +22,15 @@ pub fn reads_back()
     ensures { TextsReadBack }
 {}
 
-/// After a round from the moment where two tries differ, in which both sides exchange all that
-/// they hold from there on, the tries have one hash at the root, or they differ next at a proper
+/// A moment is told of two tries exactly where their roots have two hashes. The walk then goes
+/// down through nodes that differ, each time by the first digit at which the two haven't the same,
+/// and the moment is that of the first minute below the place where it ends.
+pub fn differences_are_found()
+    ensures { DifferencesAreFound }
+{}
+
+/// After a round from the moment that is told of two tries, in which both sides exchange all that
+/// they hold from there on, the tries have one hash at the root, or the walk ends next at a proper
 /// prefix of that place. A place has at most 16 digits, so there are at most 17 such rounds.
 pub fn rounds_by_minute()
     ensures { RoundsEnd }

@@ -11,12 +11,16 @@ use std::alloc::Global;
 /// The name in JSON of a node's hash.
 pub const HASH: &str = "hash";
 
-/// The XOR of the hashes below, as a pattern of 32 bits, and the children that are there.
+/// A hash, as a pattern of 32 bits, and the children that are there.
 #[derive(Drop)]
 pub struct Node {
+    /// The XOR of the hashes below, or what the text of a trie gave.
     pub hash: u32,
+    /// The child behind the digit 0, if it is there.
     pub zero: Option<Box<Node>>,
+    /// The child behind the digit 1, if it is there.
     pub one: Option<Box<Node>>,
+    /// The child behind the digit 2, if it is there.
     pub two: Option<Box<Node>>,
 }
 
@@ -33,12 +37,14 @@ impl Node {
         }
     }
 
+    /// The hash as a pattern of 32 bits, which is 0 where the text of a trie gave none.
     pub fn hash(&self) -> u32
         ensures { at_node self.now [] ≡ Some result }
     {
         self.hash
     }
 
+    /// The child behind the digit, or `None` where it isn't there.
     pub fn child(&self, digit: Digit) -> &Option<Box<Node>>
         ensures { (p : List Digit) → at_below result.now p ≡ at_node self.now (digit ∷ p) }
     {
