@@ -1,5 +1,5 @@
 -- What the laws on timestamps and their texts say.
-use Rattle.std.specs.Prelude.{◌≡◌, ℕ, ◌<◌, List, Ok, pos}
+use Rattle.std.specs.Prelude.{◌≡◌, ℕ, ◌/◌, List, Ok, pos}
 use Rattle.std.specs.Ordering.{nat_cmp}
 use Rattle.std.specs.Cmp.Lexicographic.{slice_cmp}
 use Rattle.jiff_core.specs.Calendar.{IsCivilDate, days_from_civil}
@@ -14,9 +14,9 @@ pub record IsDateOf (n : ℕ) : Type 0 where
   pub calendar : IsCivilDate (pos (day_of n).year) (day_of n).month (day_of n).day
   pub number : days_from_civil (pos (day_of n).year) (day_of n).month (day_of n).day ≡ pos n
 
--- the date of each day on which there are timestamps is that of the civil calendar
+-- the day of each timestamp is a date of the civil calendar, with as many days since 1970 as the milliseconds make
 abbrev pub DatesAreCivil : Type 0
-DatesAreCivil = (n : ℕ) → n < 29_894 → IsDateOf n
+DatesAreCivil = (s : Stamp) → IsStamp s → IsDateOf (s.millis / 86_400_000)
 
 -- each timestamp is read back from its text
 abbrev pub StampsReadBack : Type 0

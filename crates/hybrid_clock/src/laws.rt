@@ -1,7 +1,7 @@
 //! Facts about all timestamps and texts, which a proof can call for.
 ghost use Rattle.hybrid_clock.specs.Laws.{DatesAreCivil, StampsReadBack, StampsWriteBack, StampsAreInOrder};
 
-/// A law: the date that a text shows is the civil date with the day's number.
+/// A law: the date that a timestamp's text shows is the civil date with as many days since 1970 as its milliseconds make.
 pub fn date_of_number()
     ensures { DatesAreCivil }
 {}
