@@ -8,8 +8,6 @@ use Rattle.jiff_core.specs.declared.civil.date.Date.{Date}
 use Rattle.jiff_core.proofs.SignedLemmas.{signed_arith}
 use Rattle.jiff_core.proofs.CalendarLemmas.{day_count-day, day_count-next_month, day_count-next_year, day_count-last_of_year, day_count-day_of_year, day_count-later_year, day_count-lt_year, day_count-lt_month, day_count-epoch, days_from_civil-day_count, days_in_year_bounds}
 use Rattle.hybrid_clock.specs.Calendar.{Day, day_from_month, day_from_year, day_of}
-use Rattle.hybrid_clock.specs.declared.stamp.Stamp.{Stamp}
-use Rattle.hybrid_clock.specs.Stamp.{IsStamp}
 use Rattle.hybrid_clock.specs.Laws.{DatesAreCivil}
 use Rattle.hybrid_clock.specs.Reading.{is_date}
 

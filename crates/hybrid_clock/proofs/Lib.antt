@@ -8,3 +8,4 @@ pub mod Texts
 pub mod Writing
 pub mod TextOrder
 pub mod Moving
+pub mod Naming

@@ -1,11 +1,14 @@
 -- What the laws on timestamps and their texts say.
-use Rattle.std.specs.Prelude.{◌≡◌, ℕ, ◌+◌, ◌-◌, ◌/◌, ◌<◌, ◌≤◌, max, List, Ok, pos}
+use Rattle.std.specs.Prelude.{◌≡◌, ℕ, ◌+◌, ◌-◌, ◌/◌, ◌<◌, ◌≤◌, max, false, List, ◌++◌, length, replicate, Ok, IsTrue, pos}
+use Rattle.std.specs.List.{list_all}
+use Rattle.std.specs.Char.{is_ascii_alphanumeric}
 use Rattle.std.specs.Ordering.{nat_cmp}
 use Rattle.std.specs.Cmp.Lexicographic.{slice_cmp}
 use Rattle.jiff_core.specs.Calendar.{IsCivilDate, days_from_civil}
 use Rattle.hybrid_clock.specs.declared.stamp.Stamp.{Stamp}
 use Rattle.hybrid_clock.specs.Calendar.{day_of}
 use Rattle.hybrid_clock.specs.Stamp.{IsStamp, stamp_text, window}
+use Rattle.hybrid_clock.specs.Node.{IsNode, is_zeros, node_of}
 use Rattle.hybrid_clock.specs.Clock.{stands_at, draw, receive}
 use Rattle.hybrid_clock.specs.Reading.{read_stamp}
 use Rattle.hybrid_clock.specs.Order.{stamp_cmp}
@@ -18,6 +21,17 @@ pub record IsDateOf (n : ℕ) : Type 0 where
 -- the day of each timestamp is a date of the civil calendar, with as many days since 1970 as the milliseconds make
 abbrev pub DatesAreCivil : Type 0
 DatesAreCivil = (s : Stamp) → IsStamp s → IsDateOf (s.millis / 86_400_000)
+
+-- which texts name a node, and which node
+pub record NodesAreNamed : Type 0 where
+  -- a text names a node: it is one, and it is that text with `0` on its left
+  pub names : (text node : List ℕ) → node_of text ≡ Ok node → IsNode node × ((zeros : ℕ) × (node ≡ replicate zeros 48 ++ text))
+  -- each text of one to sixteen letters and digits, not all of them `0`, names one
+  pub all : (text : List ℕ) → 0 < length text → length text ≤ 16 → IsTrue (list_all is_ascii_alphanumeric text) → is_zeros text ≡ false → (node : List ℕ) × (node_of text ≡ Ok node)
+  -- nothing but `0` names none
+  pub no_zeros : (zeros : ℕ) (node : List ℕ) → node_of (replicate zeros 48) ≡ Ok node → ⊥
+  -- each node is named by its own characters
+  pub reads_back : (node : List ℕ) → IsNode node → node_of node ≡ Ok node
 
 -- where a clock goes that draws timestamps at a reading in the window, or receives a message at one
 pub record ClocksMove : Type 0 where
