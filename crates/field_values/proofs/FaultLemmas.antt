@@ -1,5 +1,5 @@
 -- The fault that is told is the first.
-use Rattle.std.proofs.Common.{◌≡◌, ◌≢◌, ◌∙◌, ℕ, ◌<◌, ◌≤◌, List, length, get_or, arith, refl, sym, ap, subst, Bool, true, false, Option, Some, None, cond}
+use Rattle.std.proofs.Common.{◌≡◌, ◌∙◌, ℕ, ◌<◌, ◌≤◌, List, length, arith, refl, sym, subst, true, Option, Some, None}
 use Rattle.std.specs.Prelude.{◌==◌, nat_lt, position, option_map, slice_index}
 use Rattle.std.specs.Option.{option_or}
 use Rattle.std.specs.List.{position_or_len}
@@ -8,9 +8,9 @@ use Rattle.std.proofs.lemmas.Bool.{cond_both, ltb-true, ltb-false, eqb-true, bot
 use Rattle.field_values.specs.declared.name.NamePart.{NamePart}
 use Rattle.field_values.specs.declared.name.NamePart.TheVariants.{Dataset, Row, Column}
 use Rattle.field_values.specs.declared.name.NameFault.{NameFault}
-use Rattle.field_values.specs.declared.name.NameFault.TheVariants.{Empty, TooLong, BadByte, NoMemory}
-use Rattle.field_values.specs.Names.{FieldNames, IsName, IsNameByte, is_bad_byte, name_fault, names_fault}
-use Rattle.field_values.specs.Laws.{name_of, AreNamesBefore, IsFirstBad, IsFaultOf, IsFirstFault, FaultsAreTold}
+use Rattle.field_values.specs.declared.name.NameFault.TheVariants.{Empty, TooLong, BadByte}
+use Rattle.field_values.specs.Names.{FieldNames, is_bad_byte, name_fault}
+use Rattle.field_values.specs.Laws.{name_of, IsFirstBad, IsFaultOf, IsFirstFault, FaultsAreTold}
 use Rattle.field_values.proofs.NameLemmas.{good_byte, not_bad, name_without_fault, names_without_fault, names_fault-none}
 
 -- the place that is found is that of the first bad byte

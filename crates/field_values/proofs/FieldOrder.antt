@@ -1,11 +1,11 @@
 -- Fields are equal where their names are, and ordered by them.
-use Rattle.std.proofs.Common.{◌≡◌, ◌∙◌, ℕ, true, List, refl, sym, ap, subst, rules}
+use Rattle.std.proofs.Common.{◌≡◌, ◌∙◌, ℕ, true, List, refl, sym, subst, rules}
 use Rattle.std.specs.Cmp.{IsTotalOrder, Equal-is}
 use Rattle.std.specs.Cmp.Rules.{comparing}
 use Rattle.std.specs.Cmp.Lexicographic.{slice_cmp, pointwise, bytes_decides}
-use Rattle.std.specs.Ordering.{nat_cmp, is_eq, ordering_then}
-use Rattle.std.specs.declared.cmp.Ordering.TheVariants.{Less, Equal}
-use Rattle.std.specs.Prelude.{◌==◌, ◌&&◌}
+use Rattle.std.specs.Ordering.{nat_cmp, is_eq}
+use Rattle.std.specs.declared.cmp.Ordering.TheVariants.{Equal}
+use Rattle.std.specs.Prelude.{◌==◌}
 use Rattle.std.proofs.lemmas.Bool.{and_from, and_parts}
 use Rattle.std.proofs.lemmas.Cmp.{nat_list_cmp_total, on_total, then_total}
 use Rattle.field_values.specs.Names.{FieldNames, names_eq, names_cmp}
@@ -59,7 +59,7 @@ fields_are_ordered_lem = record {
   by_dataset = λ a b less. rw less refl;
   by_row = λ a b d less. let same = level_text a.dataset b.dataset d in rw (same, less) refl;
   by_column = λ a b d r less.
-  let first = level_text a.dataset b.dataset d in
-  let second = level_text a.row b.row r in
-  rw (first, second, less) refl;
+      let first = level_text a.dataset b.dataset d in
+      let second = level_text a.row b.row r in
+      rw (first, second, less) refl;
 }

@@ -1,5 +1,5 @@
 -- The three names of a field.
-use Rattle.std.specs.Prelude.{◌≡◌, ◌≢◌, ℕ, ◌<◌, ◌≤◌, ◌||◌, ◌&&◌, ◌==◌, List, length, Bool, nat_lt, if◌then◌else◌, position, Option, None, Some, All, take, drop, slice_range, IsCharBoundary}
+use Rattle.std.specs.Prelude.{◌≢◌, ℕ, ◌<◌, ◌≤◌, ◌||◌, ◌&&◌, ◌==◌, List, length, Bool, nat_lt, if◌then◌else◌, position, Option, Some, All, take, drop, slice_range, IsCharBoundary}
 use Rattle.std.specs.Option.{option_or, option_map}
 use Rattle.std.specs.Cmp.Lexicographic.{pointwise, slice_cmp}
 use Rattle.std.specs.Ordering.{nat_cmp, on, then_cmp}

@@ -13,7 +13,7 @@ pub fn texts_write_back()
 {}
 
 /// A law: three names without a fault are names that a field may have, and the other way round. A fault that is told is the
-/// first thing that is wrong with them: those before its name may be names, and what is wrong with its name is so.
+/// first thing that is wrong with them: its name has that fault, and the names before it have none.
 pub fn faults_are_told()
     ensures { FaultsAreTold }
 {}

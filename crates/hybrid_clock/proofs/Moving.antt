@@ -69,19 +69,19 @@ module _ (clock message : Stamp) (time : ℕ) where
 pub clocks_move_lem : ClocksMove
 clocks_move_lem = record {
   draws = λ clock reading n within later some most.
-  let counter : 0 + (n - 1) ≡ n - 1 = omega arith in
-  drawn clock reading n reading 0 within (omega arith) (begins clock reading later) (omega arith) (omega arith)
-  ∙ ap (λ k. Ok (stands_at clock.node reading k)) counter;
+      let counter : 0 + (n - 1) ≡ n - 1 = omega arith in
+      drawn clock reading n reading 0 within (omega arith) (begins clock reading later) (omega arith) (omega arith)
+      ∙ ap (λ k. Ok (stands_at clock.node reading k)) counter;
   goes_on = λ clock reading n within behind near some room.
-  let counter : clock.counter + 1 + (n - 1) ≡ clock.counter + n = omega arith in
-  drawn clock reading n clock.millis (clock.counter + 1) within (omega arith) (follows_own clock) near (omega arith)
-  ∙ ap (λ k. Ok (stands_at clock.node clock.millis k)) counter;
+      let counter : clock.counter + 1 + (n - 1) ≡ clock.counter + n = omega arith in
+      drawn clock reading n clock.millis (clock.counter + 1) within (omega arith) (follows_own clock) near (omega arith)
+      ∙ ap (λ k. Ok (stands_at clock.node clock.millis k)) counter;
   receives = λ clock message reading within own told.
-  received clock message reading reading 0 within (omega arith) (omega arith) (of_none clock message reading own told) (omega arith) (omega arith);
+      received clock message reading reading 0 within (omega arith) (omega arith) (of_none clock message reading own told) (omega arith) (omega arith);
   goes_behind = λ clock message reading within own behind near room.
-  received clock message reading message.millis (message.counter + 1) within near (omega arith) (of_message clock message message.millis own refl) near (omega arith);
+      received clock message reading message.millis (message.counter + 1) within near (omega arith) (of_message clock message message.millis own refl) near (omega arith);
   keeps_time = λ clock message reading within told behind near room.
-  received clock message reading clock.millis (clock.counter + 1) within (omega arith) (omega arith) (of_clock clock message clock.millis refl told) near (omega arith);
+      received clock message reading clock.millis (clock.counter + 1) within (omega arith) (omega arith) (of_clock clock message clock.millis refl told) near (omega arith);
   keeps_both = λ clock message reading within told behind near room.
-  received clock message reading clock.millis (max clock.counter message.counter + 1) within (omega arith) (omega arith) (of_both clock message clock.millis refl told) near (omega arith);
+      received clock message reading clock.millis (max clock.counter message.counter + 1) within (omega arith) (omega arith) (of_both clock message clock.millis refl told) near (omega arith);
 }

@@ -69,14 +69,14 @@ padded_whole node long = let none : 16 - length node ≡ 0 = omega arith in ap (
 pub nodes_are_named_lem : NodesAreNamed
 nodes_are_named_lem = record {
   names = λ text node e.
-  let is = named text node e in
-  (subst IsNode (sym is.is) (padded_node text is.short is.characters is.nonzero), (16 - length text, is.is));
+      let is = named text node e in
+      (subst IsNode (sym is.is) (padded_node text is.short is.characters is.nonzero), (16 - length text, is.is));
   all = λ text some short pass nonzero. (padded text, names_it text some short pass nonzero);
   no_zeros = λ zeros node e.
-  let is = named (replicate zeros 48) node e in
-  let yes : is_zeros (replicate zeros 48) ≡ true = all_replicate (λ b. b == 48) zeros 48 refl in
-  let no : ⊥ = cc in no;
+      let is = named (replicate zeros 48) node e in
+      let yes : is_zeros (replicate zeros 48) ≡ true = all_replicate (λ b. b == 48) zeros 48 refl in
+      let no : ⊥ = cc in no;
   reads_back = λ node is.
-  names_it node (omega (arith, is.sixteen)) (omega (arith, is.sixteen)) is.characters is.nonzero
-  ∙ ap (λ (n : List ℕ). Ok n) (padded_whole node is.sixteen);
+      names_it node (omega (arith, is.sixteen)) (omega (arith, is.sixteen)) is.characters is.nonzero
+      ∙ ap (λ (n : List ℕ). Ok n) (padded_whole node is.sixteen);
 }
