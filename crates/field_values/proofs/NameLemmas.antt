@@ -11,12 +11,12 @@ use Rattle.field_values.specs.declared.name.NamePart.{NamePart}
 use Rattle.field_values.specs.declared.name.NamePart.TheVariants.{Dataset, Row, Column}
 use Rattle.field_values.specs.declared.name.NameFault.{NameFault}
 use Rattle.field_values.specs.declared.name.NameFault.TheVariants.{Empty, TooLong, BadByte}
-use Rattle.field_values.specs.Names.{IsName, IsNameByte, AreNames, FieldNames, is_bad_byte, name_fault, names_fault, FaultsAreTold, IsCut}
+use Rattle.field_values.specs.Names.{IsName, IsNameByte, AreNames, FieldNames, is_bad_byte, name_fault, names_fault, IsCut}
 
-good_byte : (b : ℕ) → is_bad_byte b ≡ false → IsNameByte b
+pub good_byte : (b : ℕ) → is_bad_byte b ≡ false → IsNameByte b
 good_byte b e = let both = or_parts _ _ e in (ltb-false b 32 both.0, eqb-false b 127 both.1)
 
-not_bad : (b : ℕ) → IsNameByte b → is_bad_byte b ≡ false
+pub not_bad : (b : ℕ) → IsNameByte b → is_bad_byte b ≡ false
 not_bad b p = or_from _ _ (le-ltb b 32 p.0) (ne_eqb b 127 p.1)
 
 -- no place of a bad byte, so each byte is good
@@ -84,9 +84,6 @@ names_without_fault names e =
 pub names_fault-none : (names : FieldNames) → AreNames names → names_fault names ≡ None
 names_fault-none names are =
     rw (name_fault-none Dataset names.dataset are.dataset, name_fault-none Row names.row are.row, name_fault-none Column names.column are.column)
-
-pub faults_are_told_lem : FaultsAreTold
-faults_are_told_lem names = (names_without_fault names, names_fault-none names)
 
 -- the joints of names that are put one behind the other
 pub cut_is : (t₀ t₁ t₂ t₃ d r c : List ℕ) → t₀ ≡ [] → t₁ ≡ t₀ ++ d → t₂ ≡ t₁ ++ r → t₃ ≡ t₂ ++ c → IsUtf8 r → IsUtf8 c → IsCut t₃ (length d) (length d + length r)

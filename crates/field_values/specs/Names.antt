@@ -1,5 +1,5 @@
 -- The three names of a field.
-use Rattle.std.specs.Prelude.{◌≡◌, ◌≢◌, ℕ, ◌<◌, ◌≤◌, ◌||◌, ◌&&◌, ◌==◌, List, length, Bool, nat_lt, if◌then◌else◌, position, Option, None, Some, All, ◌↔◌, take, drop, slice_range, IsCharBoundary}
+use Rattle.std.specs.Prelude.{◌≢◌, ℕ, ◌<◌, ◌≤◌, ◌||◌, ◌&&◌, ◌==◌, List, length, Bool, nat_lt, if◌then◌else◌, position, Option, Some, All, take, drop, slice_range, IsCharBoundary}
 use Rattle.std.specs.Option.{option_or, option_map}
 use Rattle.std.specs.Cmp.Lexicographic.{pointwise, slice_cmp}
 use Rattle.std.specs.Ordering.{nat_cmp, on, then_cmp}
@@ -60,10 +60,6 @@ name_fault part name =
 abbrev pub names_fault : FieldNames → Option NameFault
 names_fault names = option_or (name_fault Dataset names.dataset)
     (option_or (name_fault Row names.row) (name_fault Column names.column))
-
--- names are names exactly where they have no fault
-abbrev pub FaultsAreTold : Type 0
-FaultsAreTold = (names : FieldNames) → ((names_fault names ≡ None) ↔ AreNames names)
 
 -- whether two fields have the same three names
 abbrev pub names_eq : FieldNames → FieldNames → Bool

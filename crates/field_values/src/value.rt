@@ -19,6 +19,7 @@ pub const SMALLEST: i64 = -LARGEST;
 /// crdt package writes them, or any text that is none of these.
 #[derive(Debug, PartialEq, Eq, Drop)]
 pub enum Value {
+    /// No value, as of a field that has been cleared.
     Null,
     /// A whole number from [`SMALLEST`] to [`LARGEST`].
     Number(i64),

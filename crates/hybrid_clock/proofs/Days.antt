@@ -1,5 +1,5 @@
 -- The day of a number is the date with that many days before it, and no other date is.
-use Rattle.std.proofs.Common.{◌≡◌, ℕ, zero, suc, ◌+◌, ◌-◌, ◌*◌, ◌<◌, ◌≤◌, ℤ, pos, ◌≤ℤ◌, ◌+ℤ◌, arith, refl, true, nat_lt, subst, sym, ◌∙◌, ap, inl, inr, None, Some, if◌then◌else◌, unsigned_abs}
+use Rattle.std.proofs.Common.{◌≡◌, ℕ, zero, suc, ◌+◌, ◌-◌, ◌*◌, ◌/◌, ◌<◌, ◌≤◌, ℤ, pos, ◌≤ℤ◌, ◌+ℤ◌, arith, refl, true, nat_lt, subst, sym, ◌∙◌, ap, inl, inr, None, Some, if◌then◌else◌, unsigned_abs}
 use Rattle.std.proofs.lemmas.Bool.{cases_lt, cond_both, ltb-true, ltb-false, and_from, le-leb, cond-true}
 use Rattle.std.proofs.lemmas.Int.{ints, by_lt_z}
 use Rattle.jiff_core.specs.Calendar.{days_in_year, days_in_month, day_count, days_from_civil, IsCivilDate}
@@ -8,6 +8,7 @@ use Rattle.jiff_core.specs.declared.civil.date.Date.{Date}
 use Rattle.jiff_core.proofs.SignedLemmas.{signed_arith}
 use Rattle.jiff_core.proofs.CalendarLemmas.{day_count-day, day_count-next_month, day_count-next_year, day_count-last_of_year, day_count-day_of_year, day_count-later_year, day_count-lt_year, day_count-lt_month, day_count-epoch, days_from_civil-day_count, days_in_year_bounds}
 use Rattle.hybrid_clock.specs.Calendar.{Day, day_from_month, day_from_year, day_of}
+use Rattle.hybrid_clock.specs.Laws.{DatesAreCivil}
 use Rattle.hybrid_clock.specs.Reading.{is_date}
 
 -- a date of its year, with k days before it
@@ -96,6 +97,12 @@ pub number : (n : ℕ) → n < 73_000 → days_from_civil (pos (day_of n).year) 
 number n h =
     let count = (day_is n h).at.count in
     omega (arith, signed_arith, count, days_from_civil-day_count (pos (day_of n).year) (day_of n).month (day_of n).day)
+
+-- the day of a timestamp is a date of the civil calendar
+pub dates_are_civil : DatesAreCivil
+dates_are_civil s is =
+    let early : s.millis / 86_400_000 < 73_000 = omega (arith, is.within) in
+    record { calendar = civil_date (s.millis / 86_400_000) early; number = number (s.millis / 86_400_000) early }
 
 by_lt : {P : Type 0} (a b : ℕ) → (a < b → P) → (b ≤ a → P) → P
 by_lt a b f g = elim (cases_lt a b) [ inl h ↦ f h | inr h ↦ g h ]

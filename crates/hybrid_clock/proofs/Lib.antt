@@ -7,3 +7,5 @@ pub mod Passing
 pub mod Texts
 pub mod Writing
 pub mod TextOrder
+pub mod Moving
+pub mod Naming

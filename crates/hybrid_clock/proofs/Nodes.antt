@@ -8,7 +8,7 @@ use Rattle.std.proofs.lemmas.List.Folds.{list_all-append}
 use Rattle.std.proofs.lemmas.Iterator.Adapters.{position_from-zero}
 use Rattle.hybrid_clock.specs.Node.{is_zeros, IsNode, padded}
 
-all_replicate : (p : ℕ → Bool) (n x : ℕ) → p x ≡ true → list_all p (replicate n x) ≡ true
+pub all_replicate : (p : ℕ → Bool) (n x : ℕ) → p x ≡ true → list_all p (replicate n x) ≡ true
 all_replicate p zero x h = refl
 all_replicate p (suc n) x h = and_from _ _ h (all_replicate p n x h)
 

@@ -1,9 +1,21 @@
 //! Facts about all timestamps and texts, which a proof can call for.
-ghost use Rattle.hybrid_clock.specs.Laws.{DatesAreCivil, StampsReadBack, StampsWriteBack, StampsAreInOrder};
+ghost use Rattle.hybrid_clock.specs.Laws.{ClocksMove, DatesAreCivil, NodesAreNamed, StampsReadBack, StampsWriteBack, StampsAreInOrder};
 
-/// A law: the date that a text shows is the civil date with the day's number.
+/// A law: the date that a timestamp's text shows is the civil date with as many days since 1970 as its milliseconds make.
 pub fn date_of_number()
     ensures { DatesAreCivil }
+{}
+
+/// A law: the texts that name a node are those of one to sixteen letters and digits that are not all `0`, and the node is
+/// that text with `0` on its left up to sixteen characters. So each node is named by its own characters.
+pub fn nodes_are_named()
+    ensures { NodesAreNamed }
+{}
+
+/// A law: a clock moves, at each reading in the window that isn't too far behind the clock and the message, while there are
+/// counters, and where it goes.
+pub fn clocks_move()
+    ensures { ClocksMove }
 {}
 
 /// A law: what is written is read back, so no two timestamps have one text.

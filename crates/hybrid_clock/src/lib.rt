@@ -14,7 +14,9 @@ mod stamp;
 mod write;
 
 pub use clock::{ClockFault, HybridClock};
-pub use laws::{date_of_number, order_of_texts, read_writes_back, text_reads_back};
+pub use laws::{
+    clocks_move, date_of_number, nodes_are_named, order_of_texts, read_writes_back, text_reads_back,
+};
 pub use node::{Node, NodeFault};
 pub use stamp::{Stamp, StampFault};
 

@@ -1,4 +1,4 @@
-use Rattle.field_values.proofs.NameLemmas.{faults_are_told_lem}
+use Rattle.field_values.proofs.FaultLemmas.{faults_are_told_lem}
 use Rattle.field_values.proofs.laws.faults_are_told.Goals as goal
 
 pub returns : goal.returns
