@@ -31,11 +31,6 @@ equal_is Less h = absurd (true≢false (sym h))
 equal_is Equal h = refl
 equal_is Greater h = absurd (true≢false (sym h))
 
-reversed : (o : Ordering) → is_eq o ≡ false → is_eq (ordering_reverse o) ≡ false
-reversed Less h = refl
-reversed Equal h = absurd (true≢false h)
-reversed Greater h = refl
-
 -- which entries a range from a place on has: those above the place
 abbrev pub is_above : Place → Place × Text → Bool
 is_above p e = is_lt (place_cmp p e.0) && not false

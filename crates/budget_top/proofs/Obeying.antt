@@ -39,11 +39,6 @@ asked_none kept line is h =
 
 -- ---- what is refused
 
-refused_by : (reply : Accepted → Reply) (meant : Result Accepted LineRefusal) (old new : DeviceState) (refusal : LineRefusal) (r : Reply)
-    → meant ≡ Err refusal → new ≡ old → refused refusal ≡ Some r → settled old.state reply meant ≡ (new.state, r)
-refused_by reply meant old new refusal r is same by =
-    ap (settled old.state reply) is ∙ ap (λ o. (old.state, reply_to_refusal o)) by ∙ ap (λ (d : DeviceState). (d.state, r)) (sym same)
-
 -- ---- what is accepted
 
 -- nothing is new

@@ -37,9 +37,6 @@ tee_in t p = sym (eqb-true (get_or t 10 0) 84 (allowed_at t 10 83 p.long p.forme
 zed_in : (t : List ℕ) → Passes t → 90 ≡ get_or t 23 0
 zed_in t p = sym (eqb-true (get_or t 23 0) 90 (allowed_at t 23 89 p.long p.formed refl))
 
-two_below : (t : List ℕ) (i : ℕ) → IsDigit (get_or t i 0) → IsDigit (get_or t (i + 1) 0) → two_at t i < 100
-two_below t i p q = omega arith
-
 -- the date and the time of a text
 record IsMoment (t : List ℕ) : Type 0 where
   year : 1970 ≤ four_at t 0

@@ -5,8 +5,8 @@ use Rattle.minute_trie.specs.declared.key.Digit.{Digit}
 use Rattle.minute_trie.specs.declared.key.Digit.TheVariants.{Zero, One, Two}
 use Rattle.minute_trie.specs.declared.walk.Turn.{Turn}
 use Rattle.minute_trie.specs.declared.walk.Turn.TheVariants.{On, Down, Stop}
-use Rattle.minute_trie.specs.Held.{Held, after, at_below}
-use Rattle.minute_trie.specs.Diff.{turn_of, digit_by_turn, way_down, going_down, walk, digit_value, padded}
+use Rattle.minute_trie.specs.Held.{Held, after}
+use Rattle.minute_trie.specs.Diff.{digit_by_turn, way_down, going_down, walk, digit_value, padded}
 
 pub three_pos : (n : ℕ) → 0 < 3 ^ n
 three_pos zero = lit< tt
@@ -45,29 +45,10 @@ nowhere On On Down h k l = absurd (l refl)
 nowhere On On Stop h k l = refl
 nowhere On On On h k l = refl
 
-no_left : (b : Option ℕ) → turn_of None b ≡ Down → ⊥
-no_left None h = cc
-no_left (Some b) h = cc
-
-no_right : (a : Option ℕ) → turn_of a None ≡ Down → ⊥
-no_right None h = cc
-no_right (Some b) h = cc
-
-pub walk_no_left : (n : ℕ) (g : Held) → walk n (at_below None) g ≡ []
-walk_no_left zero g = refl
-walk_no_left (suc n) g = rw (nowhere _ _ _ (no_left (g (Zero ∷ []))) (no_left (g (One ∷ []))) (no_left (g (Two ∷ [])))) refl
-
-pub walk_no_right : (n : ℕ) (f : Held) → walk n f (at_below None) ≡ []
-walk_no_right zero f = refl
-walk_no_right (suc n) f = rw (nowhere _ _ _ (no_right (f (Zero ∷ []))) (no_right (f (One ∷ []))) (no_right (f (Two ∷ [])))) refl
-
 -- one step down
 pub padded_step : (n : ℕ) (d : Digit) (f f' g g' : Held) → ((p : List Digit) → f' p ≡ f (d ∷ p)) → ((p : List Digit) → g' p ≡ g (d ∷ p)) → way_down f g ≡ Some d →
     padded (suc n) (walk (suc n) f g) ≡ digit_value d * 3 ^ n + padded n (walk n f' g')
 padded_step n d f f' g g' s t way = rw (way, sym (walk_same n f' (after d f) g' (after d g) s t)) refl
-
-pub padded_end : (n : ℕ) (f g : Held) → way_down f g ≡ None → padded (suc n) (walk (suc n) f g) ≡ 0
-padded_end n f g way = rw way refl
 
 pub number_of_step : (levels : ℕ) (d : Digit) (f f' g g' : Held) (number rest : ℕ) → (levels ≡ 0 → ⊥) → ((p : List Digit) → f' p ≡ f (d ∷ p)) → ((p : List Digit) → g' p ≡ g (d ∷ p)) → Some d ≡ way_down f g →
     rest ≡ padded (levels - 1) (walk (levels - 1) f' g') → number ≡ digit_value d * 3 ^ (levels - 1) + rest → number ≡ padded levels (walk levels f g)
