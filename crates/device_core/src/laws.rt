@@ -1,7 +1,7 @@
 //! Facts about what a device holds, and what a keeper holds of it, which a proof can call for.
 ghost use Rattle.device_core.specs.Holding.{BatchesAreKept};
 ghost use Rattle.device_core.specs.News.{NewOnesAreAdded, GreatestIsTold};
-ghost use Rattle.device_core.specs.ReadBack.{EditsReadBack};
+ghost use Rattle.device_core.specs.ReadBack.{EditsReadBack, ReceivedAreJoined};
 ghost use Rattle.device_core.specs.Records.{RecordsReadBack};
 
 /// A law: the record of a message keeps that message. A record that keeps a message is the record of
@@ -25,6 +25,14 @@ pub fn batches_are_kept()
 /// to a message that came before it, whatever clock that message had.
 pub fn edits_read_back()
     ensures { EditsReadBack }
+{}
+
+/// A law: messages that are accepted have all joined, the device has grown by as many as were counted,
+/// and the records of the new ones, and no others, are pending. The clock has received their greatest
+/// timestamp, keeps its node, and is not behind one of them; where it was not behind a message before,
+/// it is behind none now.
+pub fn received_are_joined()
+    ensures { ReceivedAreJoined }
 {}
 
 /// A law: of messages that come, those that are new stand in the order in which they came; joining them
