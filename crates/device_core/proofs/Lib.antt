@@ -11,3 +11,4 @@ pub mod ReadBack
 pub mod News
 pub mod WritingBack
 pub mod Received
+pub mod Answering

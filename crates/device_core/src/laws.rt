@@ -1,4 +1,5 @@
 //! Facts about what a device holds, and what a keeper holds of it, which a proof can call for.
+ghost use Rattle.device_core.specs.Answering.{WritesAreAnswered, MessagesAreAnswered};
 ghost use Rattle.device_core.specs.Holding.{BatchesAreKept};
 ghost use Rattle.device_core.specs.News.{NewOnesAreAdded, GreatestIsTold};
 ghost use Rattle.device_core.specs.ReadBack.{EditsReadBack, ReceivedAreJoined};
@@ -25,6 +26,19 @@ pub fn batches_are_kept()
 /// to a message that came before it, whatever clock that message had.
 pub fn edits_read_back()
     ensures { EditsReadBack }
+{}
+
+/// A law: a write is accepted where its three names are names and the clock draws a timestamp. Where
+/// they are not all names, it is refused for the first of dataset, row and column that is none; else,
+/// where the clock draws no timestamp, for the fault of the clock.
+pub fn writes_are_answered()
+    ensures { WritesAreAnswered }
+{}
+
+/// A law: messages are accepted where the clock receives their greatest timestamp, and always where
+/// there are none. Else they are refused for the fault of the clock.
+pub fn messages_are_answered()
+    ensures { MessagesAreAnswered }
 {}
 
 /// A law: messages that are accepted have all joined, the device has grown by as many as were counted,
