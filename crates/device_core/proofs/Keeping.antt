@@ -30,11 +30,3 @@ have_keys [] valid = tt
 have_keys (m ∷ ms) valid =
     let long = (text_passes m.stamp valid.0.stamp).long in
     ((let some : 0 < length (stamp_text m.stamp) = omega (arith, long) in some), have_keys ms valid.1)
-
--- a line with a fault is no message's
-pub no_message : (line : List ℕ) (fault : LineFault) → (fault ≡ NoMemory → ⊥) → IsLineFault (reading line) fault → None ≡ result_ok (reading line)
-no_message line (Columns found) other is = rw is refl
-no_message line (Escape at) other is = rw is refl
-no_message line (BadStamp found) other is = rw is refl
-no_message line (BadName found) other is = rw is refl
-no_message line NoMemory other is = absurd (other refl)

@@ -38,12 +38,6 @@ first_is clock first n row =
     let back : (first.counter + (n - 1)) - (n - 1) ≡ first.counter = omega arith in
     ap (λ (c : Stamp). record c { counter = c.counter - (n - 1) }) row ∙ ap (λ (k : ℕ). record first { counter = k }) back
 
--- an edit is refused for its own fault
-pub edit_refused : (s : State) (edit : Edit) (reading : ℕ) (fault : EditFault) → (fault ≡ OutOfMemory → ⊥) → IsEditFault (writes_of edit) fault → edited s edit reading ≡ Err (OfEdit fault)
-edit_refused s edit reading (BadId id) other is = ap (writing s reading) is
-edit_refused s edit reading (TooManyWrites n) other is = ap (writing s reading) is
-edit_refused s edit reading OutOfMemory other is = absurd (other refl)
-
 -- a fault of the names is the fault of the edit, of which the name is told
 pub bad_id_told : (field : FieldNames) (value : Value) (fault : NameFault) (told : EditFault) → (fault ≢ NoNameMemory → names_fault field ≡ Some fault)
     → IsEditFault (Err (bad_id field fault)) told → IsEditFault (set_writes field value) told

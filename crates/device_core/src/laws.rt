@@ -3,12 +3,18 @@ ghost use Rattle.device_core.specs.Answering.{WritesAreAnswered, MessagesAreAnsw
 ghost use Rattle.device_core.specs.Holding.{BatchesAreKept};
 ghost use Rattle.device_core.specs.News.{NewOnesAreAdded, GreatestIsTold};
 ghost use Rattle.device_core.specs.ReadBack.{EditsReadBack, ReceivedAreJoined};
-ghost use Rattle.device_core.specs.Records.{RecordsReadBack};
+ghost use Rattle.device_core.specs.Records.{RecordsReadBack, RecordsAreRead};
 
 /// A law: the record of a message keeps that message. A record that keeps a message is the record of
 /// that message, but for the bytes 0 and LF that stand in its body without their escape.
 pub fn records_read_back()
     ensures { RecordsReadBack }
+{}
+
+/// A law: records of which each keeps a message have a message set, which is their messages joined in
+/// order. Else the place of the first record that keeps none is told, whatever stands behind it.
+pub fn records_are_read()
+    ensures { RecordsAreRead }
 {}
 
 /// A law: a group that keeps a message set keeps, with the records of the new ones of other messages

@@ -12,7 +12,7 @@ pub use device::{Device, StartFault};
 pub use edit::{BookEdit, Edit, EditFault, LineRefusal, Write};
 pub use laws::{
     batches_are_kept, edits_read_back, greatest_is_told, messages_are_answered, new_ones_are_added,
-    received_are_joined, records_read_back, writes_are_answered,
+    received_are_joined, records_are_read, records_read_back, writes_are_answered,
 };
 
 #[cfg(test)]
