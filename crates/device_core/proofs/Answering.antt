@@ -15,10 +15,9 @@ use Rattle.hybrid_clock.specs.Clock.{draw, receive}
 use Rattle.field_merge.specs.declared.message.Message.{Message}
 use Rattle.device_core.specs.declared.edit.Write.{Write}
 use Rattle.device_core.specs.declared.edit.EditFault.TheVariants.{BadId}
-use Rattle.device_core.specs.declared.edit.LineRefusal.{LineRefusal}
-use Rattle.device_core.specs.declared.edit.LineRefusal.TheVariants.{Edit as OfEdit, Clock as OfClock}
+use Rattle.device_core.specs.declared.edit.LineRefusal.TheVariants.{Edit as OfEdit}
 use Rattle.device_core.specs.Edits.{name_of, bad_id, write_unless}
-use Rattle.device_core.specs.Device.{State, Accepted, written, writing, taken_in, receiving, greatest_of, received}
+use Rattle.device_core.specs.Device.{State, written, writing, taken_in, receiving, greatest_of, received}
 use Rattle.device_core.specs.Answering.{AnyAccepted, IsFirstBad, WritesAreAnswered, MessagesAreAnswered}
 
 -- ---- the name that is told is the first that is none

@@ -1,12 +1,10 @@
 -- Records of messages: how they are written and read.
-use Rattle.std.proofs.Common.{◌≡◌, ℕ, ◌<◌, List, [], ◌∷◌, ◌++◌, None, Some, Result, map, length, refl, sym, ap, ap₂, ◌∙◌, arith}
+use Rattle.std.proofs.Common.{◌≡◌, ◌<◌, List, [], ◌∷◌, ◌++◌, None, Some, Result, map, length, sym, ap, ap₂, ◌∙◌, arith}
 use Rattle.hybrid_clock.specs.declared.stamp.Stamp.{Stamp}
 use Rattle.std.specs.Prelude.{is_ok, if◌then◌else◌}
 use Rattle.std.specs.Result.{result_ok}
 use Rattle.hybrid_clock.specs.declared.stamp.StampFault.{StampFault}
 use Rattle.field_merge.specs.declared.line.LineFault.{LineFault}
-use Rattle.field_merge.specs.declared.line.LineFault.TheVariants.{Columns, Escape, Stamp as BadStamp, Name as BadName, NoMemory}
-use Rattle.field_merge.specs.Lines.{IsLineFault}
 use Rattle.hybrid_clock.specs.Stamp.{stamp_text}
 use Rattle.hybrid_clock.proofs.Writing.{text_passes, text_reads}
 use Rattle.budget_ports.specs.Keeper.{HaveKeys}

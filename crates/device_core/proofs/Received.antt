@@ -1,5 +1,5 @@
 -- Messages that are accepted are joined, and the clock is not behind them.
-use Rattle.std.proofs.Common.{◌≡◌, inl, inr, ℕ, ◌+◌, ◌-◌, ◌<◌, ◌≤◌, Bool, true, false, cond, List, [], ◌∷◌, Option, None, Some, Result, Ok, Err, map, length, refl, sym, ap, ◌∙◌, subst, arith}
+use Rattle.std.proofs.Common.{◌≡◌, inl, inr, ℕ, ◌+◌, ◌-◌, ◌≤◌, Bool, true, false, cond, List, [], ◌∷◌, Option, None, Some, Result, Ok, Err, length, refl, sym, ap, subst, arith}
 use Rattle.std.specs.Prelude.{max, nat_lt, ◌==◌, ◌/◌}
 use Rattle.std.proofs.lemmas.Bool.Decides.{nat_tests}
 use Rattle.hybrid_clock.specs.declared.stamp.Stamp.{Stamp}
@@ -7,8 +7,7 @@ use Rattle.hybrid_clock.specs.declared.clock.ClockFault.{ClockFault}
 use Rattle.hybrid_clock.specs.Stamp.{window}
 use Rattle.hybrid_clock.specs.Clock.{IsLater, receive, moved, next_counter, new_time, stands_at}
 use Rattle.field_merge.specs.declared.message.Message.{Message}
-use Rattle.field_merge.specs.Log.{join}
-use Rattle.device_core.specs.Device.{State, Accepted, IsUpTo, IsAhead, new_in, with_messages, greatest_of, taken_in, receiving}
+use Rattle.device_core.specs.Device.{State, IsUpTo, IsAhead, new_in, with_messages, greatest_of, taken_in, receiving}
 use Rattle.device_core.specs.ReadBack.{AreTakenIn, ReceivedAreJoined}
 use Rattle.device_core.proofs.Greatest.{of_ahead, ahead_later}
 use Rattle.device_core.proofs.Members.{all_join}

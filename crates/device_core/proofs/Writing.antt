@@ -8,13 +8,12 @@ use Rattle.field_values.specs.declared.value.Value.{Value}
 use Rattle.field_values.specs.Names.{FieldNames, names_fault}
 use Rattle.hybrid_clock.specs.declared.stamp.Stamp.{Stamp}
 use Rattle.hybrid_clock.specs.Clock.{draw}
-use Rattle.device_core.specs.declared.edit.Edit.{Edit}
 use Rattle.device_core.specs.declared.edit.Write.{Write}
 use Rattle.device_core.specs.declared.edit.EditFault.{EditFault}
 use Rattle.device_core.specs.declared.edit.EditFault.TheVariants.{BadId, TooManyWrites, NoMemory as OutOfMemory}
 use Rattle.device_core.specs.declared.edit.LineRefusal.TheVariants.{Edit as OfEdit}
-use Rattle.device_core.specs.Edits.{bad_id, write_unless, set_writes, writes_of, IsEditFault}
-use Rattle.device_core.specs.Device.{State, at_rest, written, writing, edited, first_in_row}
+use Rattle.device_core.specs.Edits.{bad_id, write_unless, set_writes, IsEditFault}
+use Rattle.device_core.specs.Device.{State, at_rest, written, writing, first_in_row}
 
 pub writing_none : (s : State) (reading : ℕ) (ws : List Write) → length ws ≡ 0 → writing s reading (Ok ws) ≡ Ok (record { device = at_rest s; count = 0 })
 writing_none s reading [] none = refl
