@@ -18,7 +18,7 @@ use Rattle.device_core.specs.declared.edit.EditFault.TheVariants.{BadId}
 use Rattle.device_core.specs.declared.edit.LineRefusal.TheVariants.{Edit as OfEdit}
 use Rattle.device_core.specs.Edits.{name_of, bad_id, write_unless}
 use Rattle.device_core.specs.Device.{State, written, writing, taken_in, receiving, greatest_of, received}
-use Rattle.device_core.specs.Answering.{AnyAccepted, IsFirstBad, WritesAreAnswered, MessagesAreAnswered}
+use Rattle.device_core.specs.Answering.{IsAcceptedAt, IsFirstBad, WritesAreAnswered, MessagesAreAnswered}
 
 -- ---- the name that is told is the first that is none
 
@@ -83,7 +83,7 @@ pub writes_answered : WritesAreAnswered
 writes_answered s dataset row column value reading =
     let names : FieldNames = field_of dataset row column in
     let ws : List Write = record { field = names; value = value } ∷ [] in record {
-      accepted = λ clock are drawn. (_, named s reading names value are ∙ ap (written s ws) drawn);
+      accepted = λ clock are drawn. (_, (named s reading names value are ∙ ap (written s ws) drawn, refl));
       no_stamp = λ fault are drawn. named s reading names value are ∙ ap (written s ws) drawn;
       bad_name = λ bad. refused bad (names_fault (field_of dataset row column)) refl;
       first_bad = λ id h. first id (names_fault (field_of dataset row column)) refl h;
@@ -110,12 +110,12 @@ writes_answered s dataset row column value reading =
 at_greatest : (s : State) (ns : List Message) (reading : ℕ) (t : Stamp) (r : Result Stamp ClockFault) → greatest_of ns ≡ Some t → receive s.clock reading t ≡ r → received s ns reading ≡ taken_in s ns r
 at_greatest s ns reading t r is drawn = ap (receiving s ns reading) is ∙ ap (taken_in s ns) drawn
 
-none_answered : (s : State) (reading : ℕ) → AnyAccepted (received s [] reading)
-none_answered s reading = (_, refl)
+none_answered : (s : State) (reading : ℕ) → IsAcceptedAt (received s [] reading) s.clock
+none_answered s reading = (_, (refl, refl))
 
 pub messages_answered : MessagesAreAnswered
 messages_answered s ns reading = record {
-  accepted = λ t clock is drawn. (_, at_greatest s ns reading t (Ok clock) is drawn);
+  accepted = λ t clock is drawn. (_, (at_greatest s ns reading t (Ok clock) is drawn, refl));
   no_stamp = λ t fault is drawn. at_greatest s ns reading t (Err fault) is drawn;
-  none = λ none. subst (λ l. AnyAccepted (received s l reading)) (sym none) (none_answered s reading);
+  none = λ none. subst (λ l. IsAcceptedAt (received s l reading) s.clock) (sym none) (none_answered s reading);
 }

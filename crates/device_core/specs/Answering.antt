@@ -13,9 +13,9 @@ use Rattle.device_core.specs.declared.edit.LineRefusal.{LineRefusal}
 use Rattle.device_core.specs.declared.edit.LineRefusal.TheVariants.{Edit as OfEdit, Clock as OfClock}
 use Rattle.device_core.specs.Device.{State, Accepted, edited, greatest_of, received}
 
--- some state and some count was accepted
-abbrev pub AnyAccepted : Result Accepted LineRefusal → Type 0
-AnyAccepted answer = (accepted : Accepted) × (answer ≡ Ok accepted)
+-- it was accepted, and the clock then stands at this timestamp
+abbrev pub IsAcceptedAt : Result Accepted LineRefusal → Stamp → Type 0
+IsAcceptedAt answer clock = (accepted : Accepted) × ((answer ≡ Ok accepted) × (accepted.device.state.clock ≡ clock))
 
 -- the id is the first of dataset, row and column that is no name
 abbrev pub IsFirstBad : List ℕ → List ℕ → List ℕ → List ℕ → Type 0
@@ -26,8 +26,8 @@ IsFirstBad dataset row column id =
 
 -- what a write of a value at a reading of the wall clock is answered
 pub record IsAnsweredWrite (s : State) (dataset row column : List ℕ) (value : Value) (reading : ℕ) : Type 0 where
-  -- it is accepted where the three are names and the clock draws a timestamp
-  pub accepted : (clock : Stamp) → AreNames (field_of dataset row column) → draw s.clock reading 1 ≡ Ok clock → AnyAccepted (edited s (Book (Set dataset row column value)) reading)
+  -- it is accepted where the three are names and the clock draws a timestamp, at which it then stands
+  pub accepted : (clock : Stamp) → AreNames (field_of dataset row column) → draw s.clock reading 1 ≡ Ok clock → IsAcceptedAt (edited s (Book (Set dataset row column value)) reading) clock
   -- where they are names and the clock draws none, it is refused for the fault of the clock
   pub no_stamp : (fault : ClockFault) → AreNames (field_of dataset row column) → draw s.clock reading 1 ≡ Err fault → edited s (Book (Set dataset row column value)) reading ≡ Err (OfClock fault)
   -- where they are not all names, it is refused for one of them
@@ -41,12 +41,12 @@ WritesAreAnswered = (s : State) (dataset row column : List ℕ) (value : Value) 
 
 -- what messages that come at a reading of the wall clock are answered
 pub record AreAnswered (s : State) (ns : List Message) (reading : ℕ) : Type 0 where
-  -- they are accepted where the clock receives their greatest timestamp
-  pub accepted : (greatest clock : Stamp) → greatest_of ns ≡ Some greatest → receive s.clock reading greatest ≡ Ok clock → AnyAccepted (received s ns reading)
+  -- they are accepted where the clock receives their greatest timestamp, and it then stands where that leaves it
+  pub accepted : (greatest clock : Stamp) → greatest_of ns ≡ Some greatest → receive s.clock reading greatest ≡ Ok clock → IsAcceptedAt (received s ns reading) clock
   -- where it does not, they are refused for its fault
   pub no_stamp : (greatest : Stamp) (fault : ClockFault) → greatest_of ns ≡ Some greatest → receive s.clock reading greatest ≡ Err fault → received s ns reading ≡ Err (OfClock fault)
-  -- no messages are always accepted
-  pub none : ns ≡ [] → AnyAccepted (received s ns reading)
+  -- no messages are always accepted, and the clock stays
+  pub none : ns ≡ [] → IsAcceptedAt (received s ns reading) s.clock
 
 -- messages are accepted or refused for the clock alone
 abbrev pub MessagesAreAnswered : Type 0

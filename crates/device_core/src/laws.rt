@@ -34,9 +34,9 @@ pub fn edits_read_back()
     ensures { EditsReadBack }
 {}
 
-/// A law: a write is accepted where its three names are names and the clock draws a timestamp. Where
-/// they are not all names, it is refused for the first of dataset, row and column that is none; else,
-/// where the clock draws no timestamp, for the fault of the clock.
+/// A law: a write is accepted where its three names are names and the clock draws a timestamp, at
+/// which it then stands. Where they are not all names, it is refused for the first of dataset, row and
+/// column that is none; else, where the clock draws no timestamp, for the fault of the clock.
 pub fn writes_are_answered()
     ensures { WritesAreAnswered }
 {}
