@@ -1,5 +1,5 @@
 -- The greatest timestamp of messages, and a clock that is not behind messages.
-use Rattle.std.proofs.Common.{◌≡◌, inl, inr, ℕ, suc, ◌+◌, ◌-◌, Bool, true, false, cond, List, [], ◌∷◌, Option, Some, length, refl, sym, ap, ◌∙◌, subst, arith, true≢false, Ordering, Less, Equal, Greater}
+use Rattle.std.proofs.Common.{◌≡◌, inl, inr, ℕ, suc, ◌-◌, Bool, true, false, cond, List, [], ◌∷◌, Option, Some, length, refl, sym, ap, ◌∙◌, subst, arith, true≢false, Ordering, Less, Equal, Greater}
 use Rattle.std.specs.Prelude.{slice_get, option_map}
 use Rattle.std.specs.Option.{ForSome}
 use Rattle.std.specs.Ordering.{is_lt, nat_cmp, ordering_then}
@@ -118,9 +118,3 @@ after_ahead node (m ∷ n ∷ ms) up =
     let low : stamp_cmp m.stamp n.stamp ≡ Less = (all_keys stamp_of (λ (t : Stamp). stamp_cmp m.stamp t ≡ Less) (n ∷ ms) (head stamp_of stamp_cmp m (n ∷ ms) up)).0 in
     let first : IsUpTo (clock_after node (last_stamp (n ∷ ms))) m.stamp = up_to_trans (clock_after node (last_stamp (n ∷ ms))) n.stamp m.stamp rest.0 (less_up_to m.stamp n.stamp low) in
     subst (λ (o : Option Stamp). IsAhead (clock_after node o) (m ∷ n ∷ ms)) (sym (last_on m n ms)) (first, rest)
-
--- a clock that drew some timestamps stands at the last of them
-pub ahead_drawn : (old new first : Stamp) (more : ℕ) (ms : List Message) → IsLater old first → new ≡ record first { counter = first.counter + more } → IsAhead old ms → IsAhead new ms
-ahead_drawn old new first more ms later row ahead =
-    let up : IsUpTo (record first { counter = first.counter + more }) first = inr (refl, omega arith) in
-    subst (λ (s : Stamp). IsAhead s ms) (sym row) (ahead_up_to first (record first { counter = first.counter + more }) ms up (ahead_later old first ms later ahead))

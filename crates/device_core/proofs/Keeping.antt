@@ -1,12 +1,10 @@
 -- Records of messages: how they are written and read.
-use Rattle.std.proofs.Common.{◌≡◌, ℕ, ◌<◌, List, [], ◌∷◌, ◌++◌, None, Some, Result, map, length, refl, sym, ap, ap₂, ◌∙◌, arith}
+use Rattle.std.proofs.Common.{◌≡◌, ◌<◌, List, [], ◌∷◌, ◌++◌, None, Some, Result, map, length, sym, ap, ap₂, ◌∙◌, arith}
 use Rattle.hybrid_clock.specs.declared.stamp.Stamp.{Stamp}
 use Rattle.std.specs.Prelude.{is_ok, if◌then◌else◌}
 use Rattle.std.specs.Result.{result_ok}
 use Rattle.hybrid_clock.specs.declared.stamp.StampFault.{StampFault}
 use Rattle.field_merge.specs.declared.line.LineFault.{LineFault}
-use Rattle.field_merge.specs.declared.line.LineFault.TheVariants.{Columns, Escape, Stamp as BadStamp, Name as BadName, NoMemory}
-use Rattle.field_merge.specs.Lines.{IsLineFault}
 use Rattle.hybrid_clock.specs.Stamp.{stamp_text}
 use Rattle.hybrid_clock.proofs.Writing.{text_passes, text_reads}
 use Rattle.budget_ports.specs.Keeper.{HaveKeys}
@@ -30,11 +28,3 @@ have_keys [] valid = tt
 have_keys (m ∷ ms) valid =
     let long = (text_passes m.stamp valid.0.stamp).long in
     ((let some : 0 < length (stamp_text m.stamp) = omega (arith, long) in some), have_keys ms valid.1)
-
--- a line with a fault is no message's
-pub no_message : (line : List ℕ) (fault : LineFault) → (fault ≡ NoMemory → ⊥) → IsLineFault (reading line) fault → None ≡ result_ok (reading line)
-no_message line (Columns found) other is = rw is refl
-no_message line (Escape at) other is = rw is refl
-no_message line (BadStamp found) other is = rw is refl
-no_message line (BadName found) other is = rw is refl
-no_message line NoMemory other is = absurd (other refl)

@@ -10,3 +10,5 @@ pub mod Tracking
 pub mod ReadBack
 pub mod News
 pub mod WritingBack
+pub mod Received
+pub mod Answering

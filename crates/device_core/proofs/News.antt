@@ -33,7 +33,7 @@ join_all ms (n ∷ ns) =
       | false ↦ λ new. ap (λ b. join (cond b ms (placed by_stamp ms n)) (new_in (placed by_stamp ms n) ns)) new ∙ join_all (placed by_stamp ms n) ns
     ] refl
 
-one_each : (ms ns : List Message) → length (join ms ns) ≡ length ms + length (new_in ms ns)
+pub one_each : (ms ns : List Message) → length (join ms ns) ≡ length ms + length (new_in ms ns)
 one_each ms [] = omega arith
 one_each ms (n ∷ ns) =
     elim (list_any (has_stamp n.stamp) ms) as (λ b.

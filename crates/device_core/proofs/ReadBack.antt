@@ -77,7 +77,7 @@ latest_last (m ∷ ms) n = latest-cons m (ms ++ n ∷ []) n.field ∙ ap (λ o. 
 
 -- ---- a clock that draws moves on
 
-moved_to : (clock new : Stamp) (reading time counter : ℕ) → moved clock reading time counter ≡ Ok new → stands_at clock.node time counter ≡ new
+pub moved_to : (clock new : Stamp) (reading time counter : ℕ) → moved clock reading time counter ≡ Ok new → stands_at clock.node time counter ≡ new
 moved_to clock new reading time counter h = go (nat_lt 300_000 (time - reading)) (nat_lt 65_535 counter) h
   where
     go : (far full : Bool) → cond far (Err (ClockFault.Drift time reading)) (cond full (Err (ClockFault.Overflow counter)) (Ok (stands_at clock.node time counter))) ≡ Ok new → stands_at clock.node time counter ≡ new
@@ -143,6 +143,7 @@ read_write s dataset row column value clock ahead later own =
       is_latest = ap (λ all. latest all (field_of dataset row column)) last ∙ latest_last ms n;
       has_value = refl;
       pending = ap (map record_of) added;
+      none_made = refl;
       one = refl;
     }
 

@@ -1,5 +1,5 @@
 -- The messages of records, read one after the other.
-use Rattle.std.proofs.Common.{◌≡◌, Bool, cond, ℕ, ◌+◌, List, [], ◌∷◌, Option, None, Some, Result, Ok, Err, is_none, refl, subst, ◌∙◌}
+use Rattle.std.proofs.Common.{◌≡◌, Bool, true, false, cond, ℕ, ◌+◌, List, [], ◌∷◌, ◌++◌, length, Option, None, Some, Result, Ok, Err, is_none, is_some, refl, subst, ap, ◌∙◌, arith}
 use Rattle.std.specs.List.{filter_map, position_from, cons_option}
 use Rattle.budget_ports.specs.declared.keeper.Record.{Record}
 use Rattle.field_merge.specs.declared.message.Message.{Message}
@@ -7,7 +7,7 @@ use Rattle.hybrid_clock.specs.Order.{stamp_cmp}
 use Rattle.field_merge.specs.Log.{IsRising, join_one, join}
 use Rattle.field_merge.proofs.Ordered.{in_order_nil}
 use Rattle.field_merge.proofs.Joining.{stamp_of, rising}
-use Rattle.device_core.specs.Records.{message_in, unless_bad, kept_set}
+use Rattle.device_core.specs.Records.{message_in, unless_bad, kept_set, KeepMessages, RecordsAreRead}
 
 -- the message set after the records from one with this index on were read into messages
 abbrev pub kept_after : List Message → ℕ → List Record → Result (List Message) ℕ
@@ -49,3 +49,34 @@ rising_of (Some index) read ms is = absurd (cc)
 -- a message set rises
 pub rising_set : (rs : List Record) (ms : List Message) → kept_set rs ≡ Ok ms → IsRising ms
 rising_set rs ms is = rising_of (position_from keeps_none 0 rs) (filter_map message_in rs) ms is
+
+-- ---- the first record that keeps no message
+
+some_not_none : (o : Option Message) → is_some o ≡ true → is_none o ≡ false
+some_not_none None h = absurd (cc)
+some_not_none (Some m) h = refl
+
+all_keep : (index : ℕ) (rs : List Record) → KeepMessages rs → position_from keeps_none index rs ≡ None
+all_keep index [] all = refl
+all_keep index (r ∷ rs) all =
+    ap (λ b. cond b (Some index) (position_from keeps_none (index + 1) rs)) (some_not_none (message_in r) all.0) ∙ all_keep (index + 1) rs all.1
+
+first_at : (index : ℕ) (front rest : List Record) (r : Record) → KeepMessages front → message_in r ≡ None → position_from keeps_none index (front ++ r ∷ rest) ≡ Some (index + length front)
+first_at index [] rest r all none =
+    let here : index ≡ index + 0 = omega arith in
+    ap (λ o. cond (is_none o) (Some index) (position_from keeps_none (index + 1) rest)) none ∙ ap Some here
+first_at index (q ∷ front) rest r all none =
+    let there : (index + 1) + length front ≡ index + length (q ∷ front) = omega arith in
+    ap (λ b. cond b (Some index) (position_from keeps_none (index + 1) (front ++ r ∷ rest))) (some_not_none (message_in q) all.0)
+    ∙ first_at (index + 1) front rest r all.1 none ∙ ap Some there
+
+bad_set : (front rest : List Record) (r : Record) → KeepMessages front → message_in r ≡ None → kept_set (front ++ r ∷ rest) ≡ Err (length front)
+bad_set front rest r all none =
+    let place : 0 + length front ≡ length front = omega arith in
+    ap (λ o. unless_bad o (join [] (filter_map message_in (front ++ r ∷ rest)))) (first_at 0 front rest r all none ∙ ap Some place)
+
+pub records_read : RecordsAreRead
+records_read = record {
+  good = λ rs all. ap (λ o. unless_bad o (join [] (filter_map message_in rs))) (all_keep 0 rs all);
+  first_bad = bad_set;
+}

@@ -8,13 +8,12 @@ use Rattle.field_values.specs.declared.value.Value.{Value}
 use Rattle.field_values.specs.Names.{FieldNames, names_fault}
 use Rattle.hybrid_clock.specs.declared.stamp.Stamp.{Stamp}
 use Rattle.hybrid_clock.specs.Clock.{draw}
-use Rattle.device_core.specs.declared.edit.Edit.{Edit}
 use Rattle.device_core.specs.declared.edit.Write.{Write}
 use Rattle.device_core.specs.declared.edit.EditFault.{EditFault}
 use Rattle.device_core.specs.declared.edit.EditFault.TheVariants.{BadId, TooManyWrites, NoMemory as OutOfMemory}
 use Rattle.device_core.specs.declared.edit.LineRefusal.TheVariants.{Edit as OfEdit}
-use Rattle.device_core.specs.Edits.{bad_id, write_unless, set_writes, writes_of, IsEditFault}
-use Rattle.device_core.specs.Device.{State, at_rest, written, writing, edited, first_in_row}
+use Rattle.device_core.specs.Edits.{bad_id, write_unless, set_writes, IsEditFault}
+use Rattle.device_core.specs.Device.{State, at_rest, written, writing, first_in_row}
 
 pub writing_none : (s : State) (reading : ℕ) (ws : List Write) → length ws ≡ 0 → writing s reading (Ok ws) ≡ Ok (record { device = at_rest s; count = 0 })
 writing_none s reading [] none = refl
@@ -37,12 +36,6 @@ pub first_is : (clock first : Stamp) (n : ℕ) → clock ≡ record first { coun
 first_is clock first n row =
     let back : (first.counter + (n - 1)) - (n - 1) ≡ first.counter = omega arith in
     ap (λ (c : Stamp). record c { counter = c.counter - (n - 1) }) row ∙ ap (λ (k : ℕ). record first { counter = k }) back
-
--- an edit is refused for its own fault
-pub edit_refused : (s : State) (edit : Edit) (reading : ℕ) (fault : EditFault) → (fault ≡ OutOfMemory → ⊥) → IsEditFault (writes_of edit) fault → edited s edit reading ≡ Err (OfEdit fault)
-edit_refused s edit reading (BadId id) other is = ap (writing s reading) is
-edit_refused s edit reading (TooManyWrites n) other is = ap (writing s reading) is
-edit_refused s edit reading OutOfMemory other is = absurd (other refl)
 
 -- a fault of the names is the fault of the edit, of which the name is told
 pub bad_id_told : (field : FieldNames) (value : Value) (fault : NameFault) (told : EditFault) → (fault ≢ NoNameMemory → names_fault field ≡ Some fault)

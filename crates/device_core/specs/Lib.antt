@@ -4,3 +4,4 @@ pub mod Device
 pub mod Holding
 pub mod ReadBack
 pub mod News
+pub mod Answering

@@ -1,16 +1,18 @@
--- What an accepted write leaves.
-use Rattle.std.specs.Prelude.{◌≡◌, ℕ, List, [], ◌∷◌, None, Some, Ok}
+-- What an accepted write leaves, and what messages leave that are received.
+use Rattle.std.specs.Prelude.{◌≡◌, ℕ, ◌+◌, List, [], ◌∷◌, length, map, None, Some, Ok}
 use Rattle.field_values.specs.declared.value.Value.{Value}
 use Rattle.field_values.specs.Names.{field_of}
+use Rattle.hybrid_clock.specs.declared.stamp.Stamp.{Stamp}
+use Rattle.hybrid_clock.specs.Clock.{receive}
 use Rattle.field_merge.specs.declared.message.Message.{Message}
 use Rattle.field_merge.specs.Log.{at_stamp, join, latest}
 use Rattle.device_core.specs.declared.edit.Edit.TheVariants.{Book}
 use Rattle.device_core.specs.declared.edit.BookEdit.TheVariants.{Set}
 use Rattle.device_core.specs.Records.{record_of}
-use Rattle.device_core.specs.Device.{State, Accepted, IsAhead, edited}
+use Rattle.device_core.specs.Device.{State, Accepted, IsAhead, new_in, edited, greatest_of, received}
 
 -- one message under a new timestamp, which is the device's own and that at which its clock now stands, has joined those of before: it has the value that was written,
--- it is the latest of its field, its record alone is pending, and one write was counted
+-- it is the latest of its field, its record alone is pending, no id was made, and one write was counted
 pub record IsReadBack (before : State) (dataset row column : List ℕ) (value : Value) (accepted : Accepted) : Type 0 where
   pub message : Message
   pub new : at_stamp before.messages message.stamp ≡ None
@@ -20,9 +22,35 @@ pub record IsReadBack (before : State) (dataset row column : List ℕ) (value : 
   pub is_latest : latest accepted.device.state.messages (field_of dataset row column) ≡ Some message
   pub has_value : message.value ≡ value
   pub pending : accepted.device.batch ≡ record_of message ∷ []
+  pub none_made : accepted.device.made ≡ []
   pub one : accepted.count ≡ 1
 
 -- a write that is accepted is read back, where the clock is not behind a message: its timestamp is new, and no message of its field is later
 abbrev pub EditsReadBack : Type 0
 EditsReadBack = (s : State) (dataset row column : List ℕ) (value : Value) (reading : ℕ) (accepted : Accepted) → IsAhead s.clock s.messages →
     edited s (Book (Set dataset row column value)) reading ≡ Ok accepted → IsReadBack s dataset row column value accepted
+
+-- messages were received at a reading of the wall clock
+pub record AreTakenIn (before : State) (ns : List Message) (reading : ℕ) (accepted : Accepted) : Type 0 where
+  -- all of them joined those of before
+  pub joined : accepted.device.state.messages ≡ join before.messages ns
+  -- by as many as were counted there are more
+  pub grown : length accepted.device.state.messages ≡ length before.messages + accepted.count
+  -- the records of the new ones are pending, and no others
+  pub pending : accepted.device.batch ≡ map record_of (new_in before.messages ns)
+  -- no id was made
+  pub none_made : accepted.device.made ≡ []
+  -- the clock received their greatest timestamp, once
+  pub at_clock : (s : Stamp) → greatest_of ns ≡ Some s → receive before.clock reading s ≡ Ok accepted.device.state.clock
+  -- of no messages it stays
+  pub at_rest : ns ≡ [] → accepted.device.state.clock ≡ before.clock
+  -- its node is the device's own as before
+  pub own : accepted.device.state.clock.node ≡ before.clock.node
+  -- it is not behind one that came
+  pub up_to : IsAhead accepted.device.state.clock ns
+  -- and not behind any message, where it was not before
+  pub ahead : IsAhead before.clock before.messages → IsAhead accepted.device.state.clock accepted.device.state.messages
+
+-- messages that are accepted are joined
+abbrev pub ReceivedAreJoined : Type 0
+ReceivedAreJoined = (s : State) (ns : List Message) (reading : ℕ) (accepted : Accepted) → received s ns reading ≡ Ok accepted → AreTakenIn s ns reading accepted

@@ -1,7 +1,7 @@
 -- The records that a keeper keeps of messages.
-use Rattle.std.specs.Prelude.{◌≡◌, ℕ, List, [], ◌∷◌, ◌++◌, is_none, is_ok, if◌then◌else◌, Option, None, Some, Result, Ok, Err}
+use Rattle.std.specs.Prelude.{◌≡◌, ℕ, List, [], ◌∷◌, ◌++◌, length, is_none, is_ok, IsSome, if◌then◌else◌, Option, None, Some, Result, Ok, Err}
 use Rattle.std.specs.Result.{result_ok}
-use Rattle.std.specs.List.{filter_map, flat_map, position_from}
+use Rattle.std.specs.List.{AllByRecursion, filter_map, flat_map, position_from}
 use Rattle.hybrid_clock.specs.Stamp.{stamp_text}
 use Rattle.hybrid_clock.specs.Reading.{read_stamp}
 use Rattle.budget_ports.specs.declared.keeper.Record.{Record}
@@ -32,3 +32,14 @@ kept_set rs = unless_bad (position_from (λ r. is_none (message_in r)) 0 rs) (jo
 pub record RecordsReadBack : Type 0 where
   pub reads_back : (m : Message) → IsMessage m → message_in (record_of m) ≡ Some m
   pub writes_back : (r : Record) (m : Message) → message_in r ≡ Some m → record_of m ≡ record r { body = flat_map raw_escaped r.body }
+
+-- each of the records keeps a message
+abbrev pub KeepMessages : List Record → Type 0
+KeepMessages = AllByRecursion (λ r. IsSome (message_in r))
+
+-- how records are read
+pub record RecordsAreRead : Type 0 where
+  -- records of which each keeps a message have a message set: their messages, joined in their order
+  pub good : (rs : List Record) → KeepMessages rs → kept_set rs ≡ Ok (join [] (filter_map message_in rs))
+  -- else the place of the first that keeps none is told, which is the number of those before it, whatever stands behind it
+  pub first_bad : (front rest : List Record) (r : Record) → KeepMessages front → message_in r ≡ None → kept_set (front ++ r ∷ rest) ≡ Err (length front)

@@ -11,7 +11,8 @@ mod record;
 pub use device::{Device, StartFault};
 pub use edit::{BookEdit, Edit, EditFault, LineRefusal, Write};
 pub use laws::{
-    batches_are_kept, edits_read_back, greatest_is_told, new_ones_are_added, records_read_back,
+    batches_are_kept, edits_read_back, greatest_is_told, messages_are_answered, new_ones_are_added,
+    received_are_joined, records_are_read, records_read_back, writes_are_answered,
 };
 
 #[cfg(test)]
