@@ -11,7 +11,7 @@ use Rattle.field_merge.specs.Escapes.{escaped, unescaped, bad_escape}
 use Rattle.command_lines.specs.declared.command.Command.{Command}
 use Rattle.command_lines.specs.declared.command.Command.TheVariants.{Fields}
 use Rattle.command_lines.specs.Commands.{Wanted, word, no_more, misfit, is_name, of_stamp, stamp_word, name_word, set_words, receive_words, fields_words, messages_words, value_words, trie_words, line_words, unescaped_for, command_of, of_words}
-use Rattle.command_lines.specs.FirstBad.{IsFirstBad, FirstBadIsTold}
+use Rattle.command_lines.specs.FirstBad.{IsFirstBadWord, FirstBadIsTold}
 use Rattle.command_lines.proofs.WrittenLemmas.{read_word}
 
 -- ---- what is wanted can be given
@@ -172,9 +172,9 @@ told_of (w ∷ ws) (word next) last index on e =
 
 -- ---- all words
 
-first_of : (name : List ℕ) (ws : List (List ℕ)) (index place : ℕ) → index ≡ suc place → StopsAt (line_words name) ws place → IsFirstBad (name ∷ ws) index
+first_of : (name : List ℕ) (ws : List (List ℕ)) (index place : ℕ) → index ≡ suc place → StopsAt (line_words name) ws place → IsFirstBadWord (name ∷ ws) index
 first_of name ws index place is stops =
-    subst (λ i. IsFirstBad (name ∷ ws) i) (sym is) (record {
+    subst (λ i. IsFirstBadWord (name ∷ ws) i) (sym is) (record {
       within = omega (arith, stops.within);
       before = (stops.before.0, stops.before.1, stops.before.2 0);
       at = λ more c below read. let count : suc place + 1 ≡ suc (suc place) = omega arith in
@@ -182,15 +182,15 @@ first_of name ws index place is stops =
     })
 
 -- a line may be `fields`
-first_at_name : (name : List ℕ) (ws : List (List ℕ)) (index : ℕ) → line_words name ≡ misfit → index ≡ 0 → IsFirstBad (name ∷ ws) index
+first_at_name : (name : List ℕ) (ws : List (List ℕ)) (index : ℕ) → line_words name ≡ misfit → index ≡ 0 → IsFirstBadWord (name ∷ ws) index
 first_at_name name ws index none is =
-    subst (λ i. IsFirstBad (name ∷ ws) i) (sym is) (record {
+    subst (λ i. IsFirstBadWord (name ∷ ws) i) (sym is) (record {
       within = omega arith;
       before = (codes "fields" ∷ [], Fields, refl);
       at = λ more c below read. let same : command_of (line_words name) 0 more ≡ Err 0 = ap (λ r. command_of r 0 more) none in absurd (cc);
     })
 
-first_by : (wanted : Wanted) (name : List ℕ) (ws : List (List ℕ)) (index : ℕ) → line_words name ≡ wanted → Told wanted ws 0 index → IsFirstBad (name ∷ ws) index
+first_by : (wanted : Wanted) (name : List ℕ) (ws : List (List ℕ)) (index : ℕ) → line_words name ≡ wanted → Told wanted ws 0 index → IsFirstBadWord (name ∷ ws) index
 first_by misfit name ws index e told = first_at_name name ws index e told
 first_by (no_more made) name ws index e (place, is, stops) = first_of name ws index place (omega (arith, is)) (subst (λ r. StopsAt r ws place) (sym e) stops)
 first_by (word next) name ws index e (place, is, stops) = first_of name ws index place (omega (arith, is)) (subst (λ r. StopsAt r ws place) (sym e) stops)
@@ -198,7 +198,7 @@ first_by (word next) name ws index e (place, is, stops) = first_of name ws index
 pub first_is_told : StampsReadBack → FirstBadIsTold
 first_is_told stamps [] index e =
     let same : 0 ≡ index = cc in
-    subst (λ i. IsFirstBad [] i) same (record {
+    subst (λ i. IsFirstBadWord [] i) same (record {
       within = omega arith;
       before = (codes "fields" ∷ [], Fields, refl);
       at = λ more c below read. absurd (omega (arith, below));

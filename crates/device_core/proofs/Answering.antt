@@ -7,7 +7,7 @@ use Rattle.field_values.specs.declared.name.NamePart.{NamePart}
 use Rattle.field_values.specs.declared.name.NamePart.TheVariants.{Dataset, Row, Column}
 use Rattle.field_values.specs.declared.name.NameFault.{NameFault}
 use Rattle.field_values.specs.declared.name.NameFault.TheVariants.{Empty, TooLong, BadByte}
-use Rattle.field_values.specs.Names.{FieldNames, field_of, AreNames, IsName, is_bad_byte, name_fault, names_fault}
+use Rattle.field_values.specs.Names.{FieldNames, field_of, name_of, AreNames, IsName, is_bad_byte, name_fault, names_fault}
 use Rattle.field_values.proofs.NameLemmas.{name_without_fault, name_fault-none, names_without_fault}
 use Rattle.hybrid_clock.specs.declared.stamp.Stamp.{Stamp}
 use Rattle.hybrid_clock.specs.declared.clock.ClockFault.{ClockFault}
@@ -16,17 +16,17 @@ use Rattle.field_merge.specs.declared.message.Message.{Message}
 use Rattle.device_core.specs.declared.edit.Write.{Write}
 use Rattle.device_core.specs.declared.edit.EditFault.TheVariants.{BadId}
 use Rattle.device_core.specs.declared.edit.LineRefusal.TheVariants.{Edit as OfEdit}
-use Rattle.device_core.specs.Edits.{name_of, bad_id, write_unless}
+use Rattle.device_core.specs.Edits.{bad_id, write_unless}
 use Rattle.device_core.specs.Device.{State, written, writing, taken_in, receiving, greatest_of, received}
-use Rattle.device_core.specs.Answering.{IsAcceptedAt, IsFirstBad, WritesAreAnswered, MessagesAreAnswered}
+use Rattle.device_core.specs.Answering.{IsAcceptedAt, IsFirstBadName, WritesAreAnswered, MessagesAreAnswered}
 
 -- ---- the name that is told is the first that is none
 
-told_for : (field : FieldNames) (part : NamePart) (name : List ℕ) (fault : NameFault) → name_fault part name ≡ Some fault → bad_id field fault ≡ BadId (name_of field part)
+told_for : (field : FieldNames) (part : NamePart) (name : List ℕ) (fault : NameFault) → name_fault part name ≡ Some fault → bad_id field fault ≡ BadId (name_of part field)
 told_for field part name fault h = go (length name == 0) (nat_lt 255 (length name)) (position is_bad_byte name) h
   where
     go : (empty long : Bool) (at : Option ℕ) → cond empty (Some (Empty part)) (cond long (Some (TooLong part (length name))) (option_map (λ i. BadByte part i) at)) ≡ Some fault
-        → bad_id field fault ≡ BadId (name_of field part)
+        → bad_id field fault ≡ BadId (name_of part field)
     go true long at e = let same : Empty part ≡ fault = cc in ap (bad_id field) (sym same)
     go false true at e = let same : TooLong part (length name) ≡ fault = cc in ap (bad_id field) (sym same)
     go false false None e = absurd (cc)
@@ -38,7 +38,7 @@ no_name part name fault h is = let none = name_fault-none part name is in cc
 record IsTold (dataset row column : List ℕ) (fault : NameFault) : Type 0 where
   id : List ℕ
   told : bad_id (field_of dataset row column) fault ≡ BadId id
-  first : IsFirstBad dataset row column id
+  first : IsFirstBadName dataset row column id
 
 first_told : (dataset row column : List ℕ) (fault : NameFault) → names_fault (field_of dataset row column) ≡ Some fault → IsTold dataset row column fault
 first_told dataset row column fault h = go (name_fault Dataset dataset) (name_fault Row row) (name_fault Column column) refl refl refl h
@@ -97,13 +97,13 @@ writes_answered s dataset row column value reading =
         (t.id, refused_for s dataset row column value reading fault is ∙ ap (λ f. Err (OfEdit f)) t.told)
 
     first : (id : List ℕ) (o : Option NameFault) → names_fault (field_of dataset row column) ≡ o
-        → writing s reading (write_unless o (field_of dataset row column) value) ≡ Err (OfEdit (BadId id)) → IsFirstBad dataset row column id
+        → writing s reading (write_unless o (field_of dataset row column) value) ≡ Err (OfEdit (BadId id)) → IsFirstBadName dataset row column id
     first id None is h = absurd (no_bad_id s (record { field = field_of dataset row column; value = value } ∷ []) (draw s.clock reading 1) id h)
     first id (Some fault) is h =
         let t = first_told dataset row column fault is in
         let told = t.told in
         let same : t.id ≡ id = cc in
-        subst (IsFirstBad dataset row column) same t.first
+        subst (IsFirstBadName dataset row column) same t.first
 
 -- ---- messages
 

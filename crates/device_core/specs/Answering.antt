@@ -18,8 +18,8 @@ abbrev pub IsAcceptedAt : Result Accepted LineRefusal → Stamp → Type 0
 IsAcceptedAt answer clock = (accepted : Accepted) × ((answer ≡ Ok accepted) × (accepted.device.state.clock ≡ clock))
 
 -- the id is the first of dataset, row and column that is no name
-abbrev pub IsFirstBad : List ℕ → List ℕ → List ℕ → List ℕ → Type 0
-IsFirstBad dataset row column id =
+abbrev pub IsFirstBadName : List ℕ → List ℕ → List ℕ → List ℕ → Type 0
+IsFirstBadName dataset row column id =
     ((id ≡ dataset) × (IsName dataset → ⊥))
     ⊎ ((IsName dataset × ((id ≡ row) × (IsName row → ⊥)))
     ⊎ (IsName dataset × (IsName row × ((id ≡ column) × (IsName column → ⊥)))))
@@ -33,7 +33,7 @@ pub record IsAnsweredWrite (s : State) (dataset row column : List ℕ) (value : 
   -- where they are not all names, it is refused for one of them
   pub bad_name : (AreNames (field_of dataset row column) → ⊥) → (id : List ℕ) × (edited s (Book (Set dataset row column value)) reading ≡ Err (OfEdit (BadId id)))
   -- which is the first that is no name
-  pub first_bad : (id : List ℕ) → edited s (Book (Set dataset row column value)) reading ≡ Err (OfEdit (BadId id)) → IsFirstBad dataset row column id
+  pub first_bad : (id : List ℕ) → edited s (Book (Set dataset row column value)) reading ≡ Err (OfEdit (BadId id)) → IsFirstBadName dataset row column id
 
 -- a write is accepted or refused for the first bad name, else for the clock
 abbrev pub WritesAreAnswered : Type 0

@@ -2,11 +2,9 @@
 use Rattle.std.specs.Prelude.{◌≡◌, ℕ, List, [], ◌∷◌, Option, None, Some, Result, Ok, Err}
 use Rattle.std.specs.List.{AllByRecursion}
 use Rattle.field_values.specs.declared.value.Value.{Value}
-use Rattle.field_values.specs.declared.name.NamePart.{NamePart}
-use Rattle.field_values.specs.declared.name.NamePart.TheVariants.{Dataset, Row, Column}
 use Rattle.field_values.specs.declared.name.NameFault.{NameFault}
 use Rattle.field_values.specs.declared.name.NameFault.TheVariants.{Empty, TooLong, BadByte, NoMemory as OutOfMemory}
-use Rattle.field_values.specs.Names.{FieldNames, names_fault, AreNames}
+use Rattle.field_values.specs.Names.{FieldNames, name_of, names_fault, AreNames}
 use Rattle.field_values.specs.Value.{IsValue}
 use Rattle.device_core.specs.declared.edit.Edit.{Edit}
 use Rattle.device_core.specs.declared.edit.Edit.TheVariants.{Book}
@@ -15,17 +13,11 @@ use Rattle.device_core.specs.declared.edit.EditFault.{EditFault}
 use Rattle.device_core.specs.declared.edit.EditFault.TheVariants.{BadId, NoMemory}
 use Rattle.device_core.specs.declared.edit.Write.{Write}
 
--- the name of a field in this part
-abbrev pub name_of : FieldNames → NamePart → List ℕ
-name_of field Dataset = field.dataset
-name_of field Row = field.row
-name_of field Column = field.column
-
 -- names with a fault refuse the edit: the name that the fault is about is told
 abbrev pub bad_id : FieldNames → NameFault → EditFault
-bad_id field (Empty part) = BadId (name_of field part)
-bad_id field (TooLong part len) = BadId (name_of field part)
-bad_id field (BadByte part at) = BadId (name_of field part)
+bad_id field (Empty part) = BadId (name_of part field)
+bad_id field (TooLong part len) = BadId (name_of part field)
+bad_id field (BadByte part at) = BadId (name_of part field)
 bad_id field OutOfMemory = NoMemory
 
 -- the one write of a value, unless the names have a fault

@@ -1,9 +1,9 @@
 //! Edits, and the writes that they make.
 ghost use Rattle.std.specs.Prelude.{◌≡◌, IfOk, IfErr};
-ghost use Rattle.field_values.specs.Names.{field_of};
+ghost use Rattle.field_values.specs.Names.{field_of, name_of};
 ghost use Rattle.field_values.specs.Value.{IsValue};
 ghost use Rattle.device_core.specs.declared.edit.EditFault.TheVariants.{NoMemory as OutOfMemory};
-ghost use Rattle.device_core.specs.Edits.{name_of, bad_id, writes_of, set_writes, IsEdit, AreWrites, IsEditFault};
+ghost use Rattle.device_core.specs.Edits.{bad_id, writes_of, set_writes, IsEdit, AreWrites, IsEditFault};
 
 use field_values::{Field, NameFault, NamePart, NoMemory, Txt, Value};
 use hybrid_clock::ClockFault;
@@ -77,7 +77,7 @@ pub struct Write {
 
 /// That one of three names which has this part.
 fn name_of<'a>(part: NamePart, dataset: &'a Txt, row: &'a Txt, column: &'a Txt) -> &'a Txt
-    ensures { result.now ≡ name_of (field_of dataset.now row.now column.now) part }
+    ensures { result.now ≡ name_of part (field_of dataset.now row.now column.now) }
 {
     match part {
         NamePart::Dataset => dataset,

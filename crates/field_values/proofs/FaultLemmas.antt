@@ -9,15 +9,15 @@ use Rattle.field_values.specs.declared.name.NamePart.{NamePart}
 use Rattle.field_values.specs.declared.name.NamePart.TheVariants.{Dataset, Row, Column}
 use Rattle.field_values.specs.declared.name.NameFault.{NameFault}
 use Rattle.field_values.specs.declared.name.NameFault.TheVariants.{Empty, TooLong, BadByte}
-use Rattle.field_values.specs.Names.{FieldNames, is_bad_byte, name_fault}
-use Rattle.field_values.specs.Laws.{name_of, IsFirstBad, IsFaultOf, IsFirstFault, FaultsAreTold}
+use Rattle.field_values.specs.Names.{FieldNames, name_of, is_bad_byte, name_fault}
+use Rattle.field_values.specs.Laws.{IsFirstBadByte, IsFaultOf, IsFirstFault, FaultsAreTold}
 use Rattle.field_values.proofs.NameLemmas.{good_byte, not_bad, name_without_fault, names_without_fault, names_fault-none}
 
 -- the place that is found is that of the first bad byte
-first_bad : (name : List ℕ) (at : ℕ) → length name ≤ 255 → position is_bad_byte name ≡ Some at → IsFirstBad name at
+first_bad : (name : List ℕ) (at : ℕ) → length name ≤ 255 → position is_bad_byte name ≡ Some at → IsFirstBadByte name at
 first_bad name at short e =
     let place = position_or_len is_bad_byte name in
-    cond_both (nat_lt place (length name)) (Some place) None (λ o. o ≡ Some at → IsFirstBad name at)
+    cond_both (nat_lt place (length name)) (Some place) None (λ o. o ≡ Some at → IsFirstBadByte name at)
     (λ found same.
     let is : place ≡ at = cc in
     let within : place < length name = ltb-true _ _ found in
@@ -30,7 +30,7 @@ first_bad name at short e =
     (λ none same. let no : ⊥ = cc in absurd no)
     e
 
-placed : (part : NamePart) (names : FieldNames) (o : Option ℕ) (fault : NameFault) → option_map (λ at. BadByte part at) o ≡ Some fault → ((at : ℕ) → o ≡ Some at → IsFirstBad (name_of part names) at) → IsFaultOf part names fault
+placed : (part : NamePart) (names : FieldNames) (o : Option ℕ) (fault : NameFault) → option_map (λ at. BadByte part at) o ≡ Some fault → ((at : ℕ) → o ≡ Some at → IsFirstBadByte (name_of part names) at) → IsFaultOf part names fault
 placed part names None fault e bad = let no : ⊥ = cc in absurd no
 placed part names (Some at) fault e bad =
     let is : BadByte part at ≡ fault = cc in

@@ -8,13 +8,7 @@ use Rattle.field_values.specs.declared.name.NamePart.{NamePart}
 use Rattle.field_values.specs.declared.name.NamePart.TheVariants.{Dataset, Row, Column}
 use Rattle.field_values.specs.declared.name.NameFault.{NameFault}
 use Rattle.field_values.specs.declared.name.NameFault.TheVariants.{Empty, TooLong, BadByte, NoMemory}
-use Rattle.field_values.specs.Names.{FieldNames, IsNameByte, IsName, AreNames, names_fault, names_eq, names_cmp}
-
--- one of the three names
-abbrev pub name_of : NamePart → FieldNames → List ℕ
-name_of Dataset names = names.dataset
-name_of Row names = names.row
-name_of Column names = names.column
+use Rattle.field_values.specs.Names.{FieldNames, name_of, IsNameByte, IsName, AreNames, names_fault, names_eq, names_cmp}
 
 -- those before it are names
 abbrev pub AreNamesBefore : NamePart → FieldNames → Type 0
@@ -23,7 +17,7 @@ AreNamesBefore Row names = IsName names.dataset
 AreNamesBefore Column names = IsName names.dataset × IsName names.row
 
 -- a name of up to 255 bytes has a byte at this place that no name may have, and none before it
-pub record IsFirstBad (name : List ℕ) (at : ℕ) : Type 0 where
+pub record IsFirstBadByte (name : List ℕ) (at : ℕ) : Type 0 where
   pub short : length name ≤ 255
   pub within : at < length name
   pub bad : IsNameByte (slice_index name at) → ⊥
@@ -33,7 +27,7 @@ pub record IsFirstBad (name : List ℕ) (at : ℕ) : Type 0 where
 abbrev pub IsFaultOf : NamePart → FieldNames → NameFault → Type 0
 IsFaultOf part names (Empty p) = (p ≡ part) × (length (name_of part names) ≡ 0)
 IsFaultOf part names (TooLong p n) = (p ≡ part) × (n ≡ length (name_of part names)) × (255 < n)
-IsFaultOf part names (BadByte p at) = (p ≡ part) × IsFirstBad (name_of part names) at
+IsFaultOf part names (BadByte p at) = (p ≡ part) × IsFirstBadByte (name_of part names) at
 IsFaultOf part names NoMemory = ⊥
 
 -- the fault is that of one of the names, and those before it are names

@@ -15,6 +15,12 @@ pub record FieldNames : Type 0 where
   pub row : List ℕ
   pub column : List ℕ
 
+-- the name of a field in this part
+abbrev pub name_of : NamePart → FieldNames → List ℕ
+name_of Dataset names = names.dataset
+name_of Row names = names.row
+name_of Column names = names.column
+
 -- the field that has these names
 abbrev pub field_of : List ℕ → List ℕ → List ℕ → FieldNames
 field_of dataset row column = record { dataset = dataset; row = row; column = column }
