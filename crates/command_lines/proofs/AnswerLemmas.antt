@@ -1,5 +1,5 @@
 -- What the answers tell: the latest message of a field, the list of them, and the later messages.
-use Rattle.std.proofs.Common.{◌≡◌, ℕ, List, [], ◌∷◌, Bool, true, false, cond, Option, None, Some, map, refl, sym, ap, ◌∙◌, subst, codes}
+use Rattle.std.proofs.Common.{◌≡◌, ℕ, List, [], ◌∷◌, Bool, true, false, cond, None, Some, map, refl, sym, ap, ◌∙◌, subst}
 use Rattle.std.specs.Prelude.{filter}
 use Rattle.std.specs.Cmp.Lexicographic.{slice_cmp}
 use Rattle.std.specs.List.{find, AllByRecursion, Contains}
@@ -21,7 +21,7 @@ use Rattle.field_merge.specs.Messages.{message_line}
 use Rattle.field_merge.proofs.Fields.{fields_in_order, find-fields}
 use Rattle.field_merge.proofs.Joining.{same_found, stamp_of}
 use Rattle.field_merge.proofs.Latest.{has_its_own, latest_there}
-use Rattle.field_merge.proofs.Members.{all_from, all_of, all_weaker, found_in, here, some_passes, there}
+use Rattle.field_merge.proofs.Members.{all_of, all_weaker, found_in, here, some_passes, there}
 use Rattle.field_merge.proofs.Ordered.{equal, found_by_key, has, same}
 use Rattle.field_merge.proofs.Orders.{names_exact, names_total, stamps_exact, stamps_total}
 use Rattle.command_lines.specs.declared.reply.Reply.TheVariants.{Done}
@@ -49,8 +49,8 @@ only_latest law ms f m s is =
       | None ↦ λ none. absurd (none m is.there is.of_field)
       | Some n ↦ λ found.
           let tied : stamp_cmp n.stamp m.stamp ≡ Equal =
-            neither_greater (stamp_cmp n.stamp m.stamp) (stamp_cmp m.stamp n.stamp) (stamps_total.antisymm m.stamp n.stamp)
-            (is.greatest n found.there found.of_field) (found.greatest m is.there is.of_field) in
+          neither_greater (stamp_cmp n.stamp m.stamp) (stamp_cmp m.stamp n.stamp) (stamps_total.antisymm m.stamp n.stamp)
+          (is.greatest n found.there found.of_field) (found.greatest m is.there is.of_field) in
           one_of_stamp ms n m s found.there is.there (stamps_exact n.stamp m.stamp tied)
     ] (law ms f s)
 
@@ -62,9 +62,6 @@ no_latest ms f none =
     ] refl
 
 -- ---- the latest message of each field
-
-names_of : Message → FieldNames
-names_of m = m.field
 
 find_listed : (ms listed : List Message) → ListsLatest ms listed → (f : FieldNames) → find (has_field f) listed ≡ latest ms f
 find_listed ms listed h f =
@@ -105,10 +102,10 @@ module _ {A : Type 0} (p : A → Bool) where
   are_kept (y ∷ ys) =
       elim (p y) as (λ b. p y ≡ b → AllByRecursion (λ x. p x ≡ true → Contains (cond b (y ∷ filter p ys) (filter p ys)) x) (y ∷ ys)) [
         | true ↦ λ e. (
-            λ _. here y (filter p ys),
-            all_weaker (λ x. p x ≡ true → Contains (filter p ys) x) (λ x. p x ≡ true → Contains (y ∷ filter p ys) x)
-            (λ x h k. there y (filter p ys) x (h k)) ys (are_kept ys),
-          )
+          λ _. here y (filter p ys),
+          all_weaker (λ x. p x ≡ true → Contains (filter p ys) x) (λ x. p x ≡ true → Contains (y ∷ filter p ys) x)
+              (λ x h k. there y (filter p ys) x (h k)) ys (are_kept ys),
+        )
         | false ↦ λ e. (λ k. cc, are_kept ys)
       ] refl
 

@@ -1,5 +1,5 @@
 -- The place that is told of a bad escape.
-use Rattle.std.proofs.Common.{◌≡◌, ℕ, zero, suc, ◌+◌, Bool, true, false, cond, ◌&&◌, eqb, List, [], ◌∷◌, ◌++◌, length, Option, None, Some, refl, ap, sym, ◌∙◌, arith}
+use Rattle.std.proofs.Common.{◌≡◌, ℕ, ◌+◌, Bool, true, false, cond, ◌&&◌, eqb, List, [], ◌∷◌, Option, None, Some, refl, ap, sym, ◌∙◌, arith}
 use Rattle.std.proofs.lemmas.Bool.{eqb-true}
 use Rattle.field_merge.specs.Escapes.{is_letter, is_escape, place_after, bad_escape}
 use Rattle.field_merge.specs.Laws.{IsBadEscape}
@@ -26,8 +26,8 @@ behind_escape b c rest at is h found =
       cut = ap (λ t. b ∷ c ∷ t) one.cut;
       place = omega (arith, one.place, later.1.1);
       good =
-        ap (λ t. cond t (place_after 2 (bad_escape one.front)) (cond (eqb b 92) (Some 0) (place_after 1 (bad_escape (c ∷ one.front))))) is
-        ∙ ap (place_after 2) one.good;
+          ap (λ t. cond t (place_after 2 (bad_escape one.front)) (cond (eqb b 92) (Some 0) (place_after 1 (bad_escape (c ∷ one.front))))) is
+          ∙ ap (place_after 2) one.good;
       bad = one.bad;
     }
 
