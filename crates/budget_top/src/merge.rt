@@ -12,7 +12,7 @@ ghost use Rattle.budget_top.specs.Limits.{HasRead};
 ghost use Rattle.budget_top.specs.Steps.{Stands, EndsReading};
 
 use crate::begun::Begun;
-use crate::dispatch::{DONE, NO_MEMORY, SOME_BAD, SOURCE_FAILED, TOO_MUCH};
+use crate::dispatch::{DONE, SOME_BAD, SOURCE_FAILED, TOO_MUCH};
 use crate::input::{End, PIECE, Piece, line_length, read_piece};
 use crate::stop::Stop;
 use crate::verdict::{Word, bad_line_text};
@@ -46,15 +46,15 @@ impl Merge {
     ghost use Rattle.budget_top.specs.Steps.{Settles, Stands, Ended};
 
     /// Nothing was read yet.
-    pub fn new(alloc: Global) -> Result<Merge, NoMemory>
-        ensures { IfOk result (λ merge. (entry : Option (List ℕ)) → Stands entry entry [] merge) }
+    pub fn new(alloc: Global) -> Merge
+        ensures { (entry : Option (List ℕ)) → Stands entry entry [] result }
     {
-        Ok(Merge {
-            latest: LatestMessages::new(alloc)?,
+        Merge {
+            latest: LatestMessages::new(alloc),
             line: Begun::new(alloc),
             number: 0,
             has_bad: false,
-        })
+        }
     }
 
     /// Joins the message of a line, or writes that the line is bad.
@@ -241,10 +241,7 @@ pub fn run_merge<S: Source, W: Sink>(alloc: Global, source: &mut S, sink: &mut W
     ensures source { S.faults source.new ≡ count_after (result == 4) (S.faults source.old) }
     ensures sink { W.faults sink.new ≡ count_after (result == 5) (W.faults sink.old) }
 {
-    let mut merge = match Merge::new(alloc) {
-        Ok(merge) => merge,
-        Err(NoMemory) => return NO_MEMORY,
-    };
+    let mut merge = Merge::new(alloc);
     let status = merge_lines(alloc, &mut merge, source, sink);
     mem::forget(merge);
     status

@@ -2,6 +2,7 @@ pub mod Cutting
 pub mod WordLemmas
 pub mod LineLemmas
 pub mod ReadingLemmas
+pub mod AnswerLemmas
 pub mod ReplyLemmas
 pub mod WrittenLemmas
 pub mod RawLemmas

@@ -1,9 +1,10 @@
 //! Facts about lines and replies, which a proof can call for.
+ghost use Rattle.command_lines.specs.Answers.{AnswersTell};
 ghost use Rattle.command_lines.specs.FirstBad.{FirstBadIsTold};
 ghost use Rattle.command_lines.specs.ReplyLines.{RepliesAreLines};
 ghost use Rattle.command_lines.specs.Written.{CommandsReadBack, LinesWriteBack, ReceivesMessageLines};
 
-use field_merge::message_lines;
+use field_merge::{latest_message, message_lines};
 use field_values::{texts_write_back, values_read_back};
 use hybrid_clock::{read_writes_back, text_reads_back};
 
@@ -47,4 +48,14 @@ pub fn first_bad_is_told()
     ensures { FirstBadIsTold }
 {
     text_reads_back();
+}
+
+/// A law: what lines that only read are answered. `value` tells the value of the latest message of the field, escaped, and
+/// `none` exactly where no message is one of the field. `fields` tells the line of the latest message of each field, by
+/// dataset, row and column. `messages` tells the line of each message whose timestamp's text is greater than the text, by
+/// timestamp.
+pub fn answers_tell()
+    ensures { AnswersTell }
+{
+    latest_message();
 }

@@ -46,7 +46,7 @@ pub(crate) fn read_log(alloc: Global, records: &[Record]) -> Result<(Log, Trie),
     ensures right { IfOk result (λ l. IsTrieOf (pairs_of l.0.messages) l.1) }
     ensures err { IfErr result (IsStartFault (kept_set records.now)) }
 {
-    let mut log = Log::new(alloc)?;
+    let mut log = Log::new(alloc);
     let mut trie = Trie::new(alloc);
     for (index, kept) in records.iter().enumerate() {
         let Some(message) = read_record(alloc, kept)? else {

@@ -89,7 +89,7 @@ pub in_turn : (ms ns ps : List Message) → join (join ms ns) ps ≡ join ms (ns
 in_turn ms [] ps = refl
 in_turn ms (n ∷ ns) ps = in_turn (join_one ms n) ns ps
 
-same_found : (ns ps : List Message) → HasOneEach ns → HaveSame ns ps → (s : Stamp) → at_stamp ns s ≡ at_stamp ps s
+pub same_found : (ns ps : List Message) → HasOneEach ns → HaveSame ns ps → (s : Stamp) → at_stamp ns s ≡ at_stamp ps s
 same_found ns ps one have s =
     elim (at_stamp ns s) as (λ o. at_stamp ns s ≡ o → o ≡ at_stamp ps s) [
       | None ↦ λ e.

@@ -92,7 +92,7 @@ latest_greatest (x ∷ ms) f m s h =
           ] is
     ] refl (sym (latest-cons x ms f) ∙ h)
 
-has_its_own : (f : FieldNames) (m : Message) → m.field ≡ f → has_field f m ≡ true
+pub has_its_own : (f : FieldNames) (m : Message) → m.field ≡ f → has_field f m ≡ true
 has_its_own f m h = subst (λ (z : FieldNames). is_eq (names_cmp z m.field) ≡ true) h (ap is_eq (tied_itself names_total m.field))
 
 pub is_latest : (ms : List Message) (f : FieldNames) → IsRising ms → IsLatestOrNone ms f (latest ms f)

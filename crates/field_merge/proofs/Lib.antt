@@ -1,4 +1,5 @@
 pub mod EscapeLemmas
+mod BadEscapes
 pub mod LineLemmas
 pub mod RawLines
 pub mod StampLemmas

@@ -39,7 +39,7 @@ IsFew ms l = length l.messages ≤ most_kept ms
 abbrev pub is_among : Stamp → List Stamp → Bool
 is_among s stamps = list_any (λ t. is_eq (stamp_cmp s t)) stamps
 
--- nothing but the messages ms came: these are their timestamps, the messages are some of their join, the latest one of each field among them, and older ones go neither before there are a few nor once there are too many
+-- nothing but the messages ms came: these are their timestamps, the messages are some of their join, the latest one of each field among them, and the number at which older ones next go is at least a few and at most what may be kept
 pub record CameFrom (ms : List Message) (l : LatestState) : Type 0 where
   pub stamps : (s : Stamp) → is_among s l.stamps ≡ list_any (has_stamp s) ms
   pub some : (m : Message) → Contains l.messages m → Contains (join [] ms) m

@@ -1,11 +1,11 @@
 -- What the laws say of all lines, of all messages and of all lists of messages.
-use Rattle.std.specs.Prelude.{◌≡◌, ◌≢◌, ℕ, All, List, ◌++◌, Ok}
+use Rattle.std.specs.Prelude.{◌≡◌, ◌≢◌, ℕ, All, List, ◌∷◌, ◌++◌, length, false, None, Some, Ok}
 use Rattle.std.specs.List.{flat_map}
 use Rattle.field_values.specs.Names.{FieldNames}
 use Rattle.hybrid_clock.specs.declared.stamp.Stamp.{Stamp}
 use Rattle.hybrid_clock.specs.Stamp.{IsStamp, stamp_text}
 use Rattle.field_merge.specs.declared.message.Message.{Message}
-use Rattle.field_merge.specs.Escapes.{escaped, raw_escaped}
+use Rattle.field_merge.specs.Escapes.{bad_escape, escaped, is_letter, raw_escaped}
 use Rattle.field_merge.specs.Messages.{IsMessage, message_line}
 use Rattle.field_merge.specs.Lines.{reading}
 use Rattle.field_merge.specs.Log.{IsRising, fields, join, latest}
@@ -26,6 +26,25 @@ ReadLinesWriteBack = (line : List ℕ) (m : Message) → reading line ≡ Ok m �
 -- a message's line has no LF, so lines that LF ends can be told apart
 abbrev pub MessagesHaveOneLine : Type 0
 MessagesHaveOneLine = (m : Message) → All (λ b. b ≢ 10) (message_line m)
+
+-- the place is that of the first backslash that begins no escape
+pub record IsBadEscape (text : List ℕ) (at : ℕ) : Type 0 where
+  -- what stands before it
+  pub front : List ℕ
+  -- what stands behind it
+  pub rest : List ℕ
+  -- a backslash stands between them
+  pub cut : text ≡ front ++ 92 ∷ rest
+  -- as many bytes as the place says stand before it
+  pub place : length front ≡ at
+  -- the text before it has no bad escape
+  pub good : bad_escape front ≡ None
+  -- no letter of an escape stands behind it
+  pub bad : (c : ℕ) (more : List ℕ) → rest ≡ c ∷ more → is_letter c ≡ false
+
+-- the place that is told of a bad escape is that of the first one
+abbrev pub BadEscapesAreFound : Type 0
+BadEscapesAreFound = (text : List ℕ) (at : ℕ) → bad_escape text ≡ Some at → IsBadEscape text at
 
 -- a part writes the text of a timestamp as it is, so a message's line begins with it
 abbrev pub StampsHaveNoEscape : Type 0

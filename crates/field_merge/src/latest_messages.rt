@@ -1,5 +1,5 @@
 //! The latest message of each field, without the older ones.
-ghost use Rattle.std.specs.Prelude.{◌≡◌, ◌∷◌, ◌++◌, [], List, IfOk, OnOk, OnErr, false, true};
+ghost use Rattle.std.specs.Prelude.{◌≡◌, ◌∷◌, ◌++◌, [], List, OnOk, OnErr, false, true};
 ghost use Rattle.field_merge.specs.declared.message.Message.{Message};
 ghost use Rattle.field_merge.specs.Messages.{IsMessage};
 ghost use Rattle.field_merge.specs.Log.{IsByField, fields, join};
@@ -51,17 +51,17 @@ fn keep_latest(came: &mut Vec<Arrival>) -> Result<(), NoMemory>
 
 impl LatestMessages {
     /// No message came yet.
-    pub fn new(alloc: Global) -> Result<LatestMessages, NoMemory>
-        ensures live { IfOk result (λ l. l.spent ≡ false) }
-        ensures none { IfOk result (CameFrom []) }
+    pub fn new(alloc: Global) -> LatestMessages
+        ensures live { result.spent ≡ false }
+        ensures none { CameFrom [] result }
     {
-        Ok(LatestMessages {
+        LatestMessages {
             alloc,
             stamps: HashSet::new(alloc),
             came: Vec::new(alloc),
             most: FEW,
             spent: false,
-        })
+        }
     }
 
     /// Whether a want of memory has spoilt it.

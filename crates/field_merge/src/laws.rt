@@ -1,5 +1,6 @@
 //! Facts about messages, their lines and lists of them, which a proof can call for.
 ghost use Rattle.field_merge.specs.Laws.{
+  BadEscapesAreFound,
   FieldsListLatest,
   JoinsAgain,
   JoinsAreJoins,
@@ -14,13 +15,15 @@ ghost use Rattle.field_merge.specs.Laws.{
 };
 
 /// Laws of all lines and messages: what is written is read back, and what is read is valid and written
-/// back; a message has one line, which begins with the text of its timestamp.
+/// back; a message has one line, which begins with the text of its timestamp; the place that is told of a bad escape is
+/// that of the first backslash that begins no escape.
 pub fn message_lines()
     ensures reads_back { MessagesReadBack }
     ensures valid { ReadMessagesAreValid }
     ensures writes_back { ReadLinesWriteBack }
     ensures one_line { MessagesHaveOneLine }
     ensures stamp { StampsHaveNoEscape }
+    ensures escape_place { BadEscapesAreFound }
 {}
 
 /// A law: the join of two lists rises by timestamp where the first does; a timestamp finds in it the

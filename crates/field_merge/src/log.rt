@@ -66,15 +66,15 @@ fn fields_of(alloc: Global, marked: BTreeSet<Field>) -> Result<Items<Field>, NoM
 
 impl Log {
     /// A log without messages.
-    pub fn new(alloc: Global) -> Result<Log, NoMemory>
-        ensures { IfOk result (λ l. l ≡ record { messages = []; spent = false }) }
+    pub fn new(alloc: Global) -> Log
+        ensures { result ≡ record { messages = []; spent = false } }
     {
-        Ok(Log {
+        Log {
             alloc,
             messages: BTreeMap::new(alloc),
             index: BTreeMap::new(alloc),
             spent: false,
-        })
+        }
     }
 
     /// Whether a want of memory has spoilt the log.

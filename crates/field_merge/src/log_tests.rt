@@ -44,7 +44,7 @@ fn told(alloc: Global, of: Told) -> Result<Message, Fail>
 fn log_of(alloc: Global, one: Told) -> Result<Log, Fail>
     ensures { IfOk result (λ l. l.spent ≡ false) }
 {
-    let mut log = Log::new(alloc)?;
+    let mut log = Log::new(alloc);
     log.add(told(alloc, one)?)?;
     Ok(log)
 }
@@ -80,7 +80,7 @@ fn gives(latest: &mut LatestMessages, lines: &str) -> Result<bool, Fail>
 
 /// Whether three messages, one after the other, leave these lines.
 fn leaves(alloc: Global, messages: (Told, Told, Told), lines: &str) -> Result<bool, Fail> {
-    let mut latest = LatestMessages::new(alloc)?;
+    let mut latest = LatestMessages::new(alloc);
     latest.add(told(alloc, messages.0)?)?;
     latest.add(told(alloc, messages.1)?)?;
     latest.add(told(alloc, messages.2)?)?;
@@ -170,7 +170,7 @@ fn joins(rt: HostRuntime) -> Result<(), Fail> {
 #[test]
 fn answers(rt: HostRuntime) -> Result<(), Fail> {
     let alloc = rt.alloc();
-    let mut log = Log::new(alloc)?;
+    let mut log = Log::new(alloc);
     let row = field(alloc, "r")?;
     assert!(rt; log.last().is_none());
     assert!(rt; log.value(&row).is_none());
@@ -199,7 +199,7 @@ fn answers(rt: HostRuntime) -> Result<(), Fail> {
 #[test]
 fn lets_go(rt: HostRuntime) -> Result<(), Fail> {
     let alloc = rt.alloc();
-    let mut latest = LatestMessages::new(alloc)?;
+    let mut latest = LatestMessages::new(alloc);
     for millis in 0..5000 {
         let message = message(alloc, FIRST, "r", "N:1")?;
         let stamp = Stamp {

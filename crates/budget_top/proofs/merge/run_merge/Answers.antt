@@ -1,5 +1,4 @@
-use Rattle.budget_top.proofs.Running.{run_untouched}
 use Rattle.budget_top.proofs.merge.run_merge.Goals as goal
 
-pub returns-in-Err-clause-run : goal.returns-in-Err-clause-run
-returns-in-Err-clause-run g c = run_untouched (g.S.Source.left c.args.source.now) (g.W.Sink.taken c.args.sink.now)
+pub merge_lines-status-requires : goal.merge_lines-status-requires
+merge_lines-status-requires g c = record { fresh = c.new-merge.ensures (g.W.Sink.taken c.args.sink.now) }

@@ -8,9 +8,9 @@ use Rattle.device_core.proofs.join.read_log.Goals as goal
 
 pub loop-index-init : goal.loop-index-init
 loop-index-init c = record {
-  rest = ap (λ (l : LogState). kept_after l.messages 0 c.args.records.now) c.in_ok-log.ensures ∙ kept_is c.args.records.now;
-  live = ap (λ (l : LogState). l.spent) c.in_ok-log.ensures;
+  rest = ap (λ (l : LogState). kept_after l.messages 0 c.args.records.now) c.new-log.ensures ∙ kept_is c.args.records.now;
+  live = ap (λ (l : LogState). l.spent) c.new-log.ensures;
   trie_live = c.new-trie.ensures.live;
-  right = subst (λ (l : LogState). IsTrieOf (pairs_of l.messages) c.new-trie.result) (sym c.in_ok-log.ensures) c.new-trie.ensures.empty;
-  valid = subst (λ (l : LogState). AreMessages l.messages) (sym c.in_ok-log.ensures) tt;
+  right = subst (λ (l : LogState). IsTrieOf (pairs_of l.messages) c.new-trie.result) (sym c.new-log.ensures) c.new-trie.ensures.empty;
+  valid = subst (λ (l : LogState). AreMessages l.messages) (sym c.new-log.ensures) tt;
 }

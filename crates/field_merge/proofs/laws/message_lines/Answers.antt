@@ -1,4 +1,5 @@
 -- Each law is a lemma.
+use Rattle.field_merge.proofs.BadEscapes.{bad_found}
 use Rattle.field_merge.proofs.LineLemmas.{reading_of_line, reading_is_message, message_line_on_one_line}
 use Rattle.field_merge.proofs.RawLines.{line_writes_back}
 use Rattle.field_merge.proofs.StampLemmas.{stamp_text_escaped}
@@ -18,3 +19,6 @@ returns-clause-one_line c = message_line_on_one_line
 
 pub returns-clause-stamp : goal.returns-clause-stamp
 returns-clause-stamp c = stamp_text_escaped
+
+pub returns-clause-escape_place : goal.returns-clause-escape_place
+returns-clause-escape_place c = bad_found
