@@ -64,10 +64,6 @@ unescaped-cut bs None h = unescaped-whole bs (Lacks-from_reads 92 bs h)
 unescaped-cut bs (Some x) h =
     (ap unescaped h.0 ∙ unescaped-front x.0.now (92 ∷ x.1.now) (Lacks-from_reads 92 x.0.now h.1), omega (arith, simp length-append at (ap length h.0)))
 
--- one more escape is read: `done` stands before the cut
-pub unescaped-on : (done before : List ℕ) (b : ℕ) (after rest part : List ℕ) → done ++ unescaped rest ≡ part → unescaped rest ≡ before ++ (b ∷ unescaped after) → ((done ++ before) ++ b ∷ []) ++ unescaped after ≡ part
-unescaped-on done before b after rest part h e = simp append_assoc (ap (λ t. done ++ t) (sym e) ∙ h)
-
 -- the bytes that a part writes by an escape are ASCII
 pub special_ascii : (b : ℕ) → is_special b ≡ true → b < 128
 special_ascii b h = grind (arith, nat_tests)
@@ -109,10 +105,6 @@ escaped-cut xs at h =
     let found = (cond_some (nat_lt (position_or_len is_special xs) (length xs)) _ _ h).1 in
     let front : escaped xs ≡ take at xs ++ escaped (drop at xs) = subst (λ n. escaped xs ≡ take n xs ++ escaped (drop n xs)) found (escaped-front xs) in
     (p.0, p.1, front ∙ ap (λ t. take at xs ++ escaped t) (drop_more xs at 0 p.0))
-
--- one more special byte is written: `done` stands before the cut
-pub escaped-on : (done before byte after rest all : List ℕ) → done ++ escaped rest ≡ all → escaped rest ≡ before ++ (byte ++ escaped after) → ((done ++ before) ++ byte) ++ escaped after ≡ all
-escaped-on done before byte after rest all h e = simp append_assoc (ap (λ t. done ++ t) (sym e) ∙ h)
 
 pub place_after-zero : (o : Option ℕ) → place_after 0 o ≡ o
 place_after-zero None = refl

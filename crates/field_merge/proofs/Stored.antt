@@ -2,7 +2,6 @@
 use Rattle.std.proofs.Common.{◌≡◌, ◌≢◌, ◌+◌, IsTrue, arith, length, List, [], ◌∷◌, Bool, true, false, not, ◌&&◌, ◌||◌, ◌↔◌, cond, Option, None, Some, map, refl, sym, ap, ◌∙◌, subst}
 use Rattle.std.specs.Ordering.{is_eq, is_lt, ordering_reverse, match_ordering}
 use Rattle.std.specs.Option.{is_none, is_some}
-use Rattle.std.proofs.lemmas.Bool.{both_ways}
 use Rattle.std.specs.Cmp.{tied_itself}
 use Rattle.std.specs.List.{list_any, AllByRecursion, Contains, IsDistinct}
 use Rattle.std.specs.List.Sorted.{IsStrictlySortedBy}
@@ -173,27 +172,9 @@ pub marked-more : (b m : Bool) → cond b true m ≡ (b || m)
 marked-more true m = refl
 marked-more false m = refl
 
--- nothing is marked before the first message
-pub marks-none : (ms : List Message) (marked : BTreeSet FieldNames) → marked.keys ≡ [] → MarksChanged ms ms marked
-marks-none ms marked empty = record {
-  grown = λ s there. there;
-  exactly = λ f. (
-    λ t. let no : contains names_cmp marked f ≡ false = ap (λ (ks : List FieldNames). list_any (is_at (names_cmp f)) ks) empty in absurd (both_ways (contains names_cmp marked f) no t),
-    λ differs. absurd (differs refl),
-  );
-}
-
 pub flag-none : (o : Option Message) (b : Bool) → is_some o ≡ b → not b ≡ is_none o
 flag-none None b h = ap not (sym h)
 flag-none (Some m) b h = ap not (sym h)
-
-pub message-at : (t : Stamp → Bool) (es : List (Stamp × Message)) (m : Message) → AreMessages (values_of es) → Some m ≡ lookup t es → IsMessage m
-message-at t [] m v h = cc
-message-at t (e ∷ es) m v h =
-    elim (t e.0) as (λ b. Some m ≡ cond b (Some e.1) (lookup t es) → IsMessage m) [
-      | true ↦ λ is. let same : e.1 ≡ m = cc in subst (λ (n : Message). IsMessage n) same v.0
-      | false ↦ λ is. message-at t es m v.1 is
-    ] h
 
 -- the marked fields, as a list
 same_test : (λ (f g : FieldNames). is_eq (names_cmp f g)) ≡ names_eq
