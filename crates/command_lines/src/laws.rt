@@ -51,7 +51,7 @@ pub fn first_bad_is_told()
 }
 
 /// A law: what lines that only read are answered. `value` tells the value of the latest message of the field, escaped, and
-/// `none` exactly where no message is one of the field. `fields` tells the line of the latest message of each field, by
+/// `none` where no message is one of the field. `fields` tells the line of the latest message of each field, by
 /// dataset, row and column. `messages` tells the line of each message whose timestamp's text is greater than the text, by
 /// timestamp.
 pub fn answers_tell()
