@@ -23,9 +23,9 @@ pub record ListsLater (since : List ℕ) (ms told : List Message) : Type 0 where
 -- what the lines that only read are answered, but for the trie
 pub record AnswersTell : Type 0 where
   -- `value` of a field that a message has: the value of its latest message, escaped
-  pub value : (ms : List Message) (d r c : List ℕ) (m : Message) → IsRising ms → IsLatest ms (field_of d r c) m → answer ms (Value d r c) ≡ Done (escaped (value_text m.value) ∷ [])
+  pub value : (ms : List Message) (dataset row column : List ℕ) (m : Message) → IsRising ms → IsLatest ms (field_of dataset row column) m → answer ms (Value dataset row column) ≡ Done (escaped (value_text m.value) ∷ [])
   -- `value` of a field that no message has: `none`
-  pub none : (ms : List Message) (d r c : List ℕ) → HasNone ms (field_of d r c) → answer ms (Value d r c) ≡ Done (codes "none" ∷ [])
+  pub none : (ms : List Message) (dataset row column : List ℕ) → HasNone ms (field_of dataset row column) → answer ms (Value dataset row column) ≡ Done (codes "none" ∷ [])
   -- `fields`: the line of the latest message of each field, by dataset, row and column
   pub fields : (ms listed : List Message) → ListsLatest ms listed → answer ms Fields ≡ Done (map message_line listed)
   -- `messages`: the line of each message with a timestamp whose text is greater, by timestamp
