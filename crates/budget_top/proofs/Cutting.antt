@@ -1,10 +1,11 @@
 -- The pieces of bytes that come one after the other.
-use Rattle.std.proofs.Common.{◌≡◌, ℕ, suc, ◌+◌, ◌≤◌, List, [], ◌∷◌, ◌++◌, refl, ap, sym, ◌∙◌, Bool, true, false, cond, not, None, Some, length, take, get_or, nat_lt, arith, append-nil, subst}
+use Rattle.std.proofs.Common.{◌≡◌, ℕ, suc, ◌+◌, ◌≤◌, ◌<◌, List, [], ◌∷◌, ◌++◌, refl, ap, sym, ◌∙◌, Bool, true, false, cond, not, None, Some, length, take, get_or, nat_lt, arith, append-nil, subst}
 use Rattle.std.proofs.lemmas.Bool.{ltb-false, eqb-true}
 use Rattle.std.proofs.lemmas.List.Quantifiers.{position-Some}
 use Rattle.std.proofs.lemmas.Grind.{common_steps}
 use Rattle.std.specs.List.{onto_first, position, position_or_len}
-use Rattle.budget_top.specs.Lines.{is_end, pieces, IsWithinLine, FirstEnd, all_but_last, last_of, whole_lines, last_piece}
+use Rattle.std.specs.Prelude.{slice_index}
+use Rattle.budget_top.specs.Lines.{is_end, pieces, IsWithinLine, all_but_last, last_of, whole_lines, last_piece}
 
 -- bytes before the first of some pieces
 abbrev pub onto : List ℕ → List (List ℕ) → List (List ℕ)
@@ -99,6 +100,12 @@ within_none bytes none =
     no_some : (t : Bool) (k : ℕ) → cond t (Some k) None ≡ None → t ≡ false
     no_some true k e = absurd (cc)
     no_some false k e = refl
+
+-- the first line feed stands at this place
+pub record FirstEnd (bytes : List ℕ) (at : ℕ) : Type 0 where
+  pub inside : at < length bytes
+  pub line : IsWithinLine (take at bytes)
+  pub end : slice_index bytes at ≡ 10
 
 pub first_end : (bytes : List ℕ) (n : ℕ) → position is_end bytes ≡ Some n → FirstEnd bytes n
 first_end bytes n some =

@@ -3,7 +3,8 @@ use Rattle.std.proofs.Common.{◌≡◌, ℕ, ◌+◌, ◌-◌, List, [], ◌∷
 use Rattle.std.proofs.Math.Seq.{take-add}
 use Rattle.std.proofs.lemmas.List.{take_more, take-append-drop}
 use Rattle.budget_top.specs.declared.merge.Merge.{Merge}
-use Rattle.budget_top.specs.Lines.{IsWithinLine, FirstEnd, whole_lines}
+use Rattle.budget_top.specs.Lines.{IsWithinLine, whole_lines}
+use Rattle.budget_top.proofs.Cutting.{FirstEnd}
 use Rattle.budget_top.specs.Verdicts.{bad_lines}
 use Rattle.budget_top.specs.Fronts.{AppendsFront}
 use Rattle.budget_top.specs.Steps.{Stands}

@@ -18,10 +18,8 @@ use Rattle.device_core.specs.Edits.{writes_of}
 use Rattle.device_core.specs.Device.{State, DeviceState, Accepted, at_rest, written, writing, edited, taken_in, receiving, received, greatest_of, IsAccepted}
 use Rattle.command_lines.specs.declared.command.Command.{Command}
 use Rattle.command_lines.specs.declared.command.CommandFault.{CommandFault}
-use Rattle.command_lines.specs.declared.reply.Reply.{Reply}
 use Rattle.command_lines.specs.Commands.{command, IsRead}
-use Rattle.command_lines.specs.Replies.{refused}
-use Rattle.budget_top.specs.Session.{asked_kept_line, reply_to_refusal, settled}
+use Rattle.budget_top.specs.Session.{asked_kept_line}
 use Rattle.budget_top.specs.Handling.{Brings}
 
 -- ---- what is asked

@@ -19,7 +19,7 @@ use Rattle.budget_top.specs.declared.session.Session.{Session}
 use Rattle.budget_top.specs.declared.stop.DeviceStop.{DeviceStop}
 use Rattle.budget_top.specs.declared.stop.DeviceStop.TheVariants.{Run, Keeper}
 use Rattle.budget_top.specs.declared.stop.Stop.TheVariants.{Memory, Sink}
-use Rattle.budget_top.specs.Lines.{IsWithinLine, FirstEnd, whole_lines, last_piece, all_lines, line_if_some}
+use Rattle.budget_top.specs.Lines.{IsWithinLine, whole_lines, last_piece, all_lines, line_if_some}
 use Rattle.budget_top.specs.KeptLine.{kept_line, kept_line_with}
 use Rattle.command_lines.specs.Commands.{longest_line}
 use Rattle.budget_top.specs.Fronts.{AppendsFront}
@@ -29,7 +29,7 @@ use Rattle.budget_top.specs.Handling.{IsHandled, Carries, CarriesEither, HoldsEi
 use Rattle.budget_top.specs.Stops.{stop_of}
 use Rattle.budget_top.specs.Standing.{Entry, lines_of, readings_of, AreFirst, Halts, Cuts}
 use Rattle.budget_top.specs.DeviceSteps.{Stands, Ended, BreaksAs}
-use Rattle.budget_top.proofs.Cutting.{whole_lines-within, last_piece-within, whole_lines-end, last_piece-end, whole_lines-append}
+use Rattle.budget_top.proofs.Cutting.{FirstEnd, whole_lines-within, last_piece-within, whole_lines-end, last_piece-end, whole_lines-append}
 use Rattle.budget_top.proofs.Standing.{appends_as, kept_line-append}
 use Rattle.budget_top.proofs.Ending.{one_begun}
 use Rattle.budget_top.proofs.Feeding.{all_taken, taken_line}

@@ -1,5 +1,5 @@
 -- How bytes are cut into lines.
-use Rattle.std.specs.Prelude.{◌≡◌, ℕ, ◌<◌, length, take, slice_index, Bool, List, [], ◌∷◌, ◌++◌, ◌==◌}
+use Rattle.std.specs.Prelude.{◌≡◌, ℕ, Bool, List, [], ◌∷◌, ◌++◌, ◌==◌}
 use Rattle.std.specs.List.{slice_split}
 
 -- whether a byte ends a line: 10 is the line feed
@@ -13,12 +13,6 @@ pieces bytes = slice_split is_end bytes
 -- no line feed stands in the bytes
 abbrev pub IsWithinLine : List ℕ → Type 0
 IsWithinLine bytes = pieces bytes ≡ bytes ∷ []
-
--- the first line feed stands at this place
-pub record FirstEnd (bytes : List ℕ) (at : ℕ) : Type 0 where
-  pub inside : at < length bytes
-  pub line : IsWithinLine (take at bytes)
-  pub end : slice_index bytes at ≡ 10
 
 -- all but the last of some pieces
 abbrev pub all_but_last : List (List ℕ) → List (List ℕ)

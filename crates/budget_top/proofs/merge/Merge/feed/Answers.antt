@@ -1,8 +1,7 @@
 use Rattle.std.proofs.Common.{◌∙◌, List, ℕ, arith, subst, sym, drop, length-drop}
 use Rattle.std.proofs.lemmas.Result.{err_from_is_err_and}
-use Rattle.budget_top.specs.Lines.{FirstEnd}
 use Rattle.budget_top.specs.Steps.{Stands}
-use Rattle.budget_top.proofs.Cutting.{first_end, within_none}
+use Rattle.budget_top.proofs.Cutting.{FirstEnd, first_end, within_none}
 use Rattle.budget_top.proofs.Feeding.{ends_there, line_within, taken_line, breaks_before_line, breaks_in_line}
 use Rattle.budget_top.proofs.merge.Merge.feed.Goals as goal
 

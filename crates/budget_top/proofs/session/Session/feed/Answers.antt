@@ -1,9 +1,8 @@
 use Rattle.std.proofs.Common.{◌∙◌, refl, arith, sym, drop, length-drop}
 use Rattle.std.proofs.lemmas.Result.{err_from_is_err_and}
-use Rattle.budget_top.specs.Lines.{FirstEnd}
 use Rattle.budget_top.specs.declared.stop.DeviceStop.TheVariants.{Run}
 use Rattle.budget_top.specs.declared.stop.Stop.TheVariants.{Memory}
-use Rattle.budget_top.proofs.Cutting.{first_end, within_none}
+use Rattle.budget_top.proofs.Cutting.{FirstEnd, first_end, within_none}
 use Rattle.budget_top.proofs.Feeding.{ends_there, line_within}
 use Rattle.budget_top.proofs.Serving.{halts_between, breaks_from, breaks_more, first_taken, first_line, stands_within, stands_line, stands_rest}
 use Rattle.budget_top.proofs.session.Session.feed.Goals as goal
