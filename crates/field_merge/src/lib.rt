@@ -20,11 +20,6 @@ pub use laws::{
     message_lines,
 };
 pub use line::{LineFault, cut_part, push_body, read_line, read_text, write_line};
-pub use log::{Joined, Log};
+pub use log::{Entered, Joined, Log};
 pub use message::Message;
 pub use pieces::FieldLines;
-
-#[cfg(test)]
-mod log_tests;
-#[cfg(test)]
-mod tests;
