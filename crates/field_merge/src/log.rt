@@ -1,12 +1,13 @@
 //! The message log.
-ghost use Rattle.std.specs.Prelude.{◌≡◌, ◌≢◌, ◌↔◌, ◌&&◌, cond, Some, ◌+◌, IfOk, OnOk, OnErr, false, true, [], ◌∷◌, length};
+ghost use Rattle.std.specs.Prelude.{◌≡◌, ◌≢◌, ◌↔◌, ◌&&◌, cond, Some, ◌+◌, IfOk, OnOk, OnErr, false, true, [], ◌∷◌, ◌++◌, List, length};
 ghost use Rattle.std.specs.BTreeSet.{IsOrdered};
 ghost use Rattle.field_values.specs.Names.{FieldNames, names_cmp};
 ghost use Rattle.std.specs.Option.{option_copied, is_none};
 ghost use Rattle.std.specs.BTreeMap.{values};
 ghost use Rattle.field_merge.specs.Messages.{AreMessages, IsMessage};
 ghost use Rattle.field_merge.specs.Log.{IsRising, at_stamp, field_text, has_field, join, last_stamp, latest, messages_after, value_in};
-ghost use Rattle.field_merge.specs.Joining.{AreChanged};
+ghost use Rattle.field_merge.specs.Joining.{AreChanged, HasOneEach, HaveSame};
+ghost use Rattle.field_merge.specs.declared.message.Message.{Message};
 
 use crate::index::{Index, Messages, enter, take_in, winner_among};
 use crate::later::copies_after;
@@ -55,6 +56,20 @@ pub struct Joined {
     pub changed: Items<Field>,
 }
 
+impl Joined {
+    ghost use Rattle.std.specs.Prelude.{◌≡◌, IfOk};
+
+    /// A copy in memory of its own.
+    pub fn copy(&self, alloc: Global) -> Result<Joined, NoMemory>
+        ensures { IfOk result (λ j. j ≡ self.now) }
+    {
+        Ok(Joined {
+            added: self.added,
+            changed: self.changed.copy(alloc)?,
+        })
+    }
+}
+
 /// What the entry of a message tells.
 #[derive(Clone, Copy, Debug, PartialEq, Eq)]
 pub struct Entered {
@@ -93,11 +108,16 @@ impl Log {
         self.spent
     }
 
-    /// Joins copies of the messages of a batch, one after the other.
+    /// Joins copies of the messages of a batch, one after the other. Joining the batch again would change nothing; what joins
+    /// next might as well have stood behind the batch; and where equal timestamps mean equal messages in it, it joins as its
+    /// messages do in any other order and number.
     pub fn join(&mut self, batch: &[Message]) -> Result<Joined, NoMemory>
         requires live { self.old.spent ≡ false }
         requires valid { AreMessages batch.now }
         ensures joined { OnOk result (self.new.messages ≡ join self.old.messages batch.now) }
+        ensures again { OnOk result (join self.new.messages batch.now ≡ self.new.messages) }
+        ensures in_turn { OnOk result ((more : List Message) → join self.new.messages more ≡ join self.old.messages (batch.now ++ more)) }
+        ensures any_order { OnOk result ((other : List Message) → HasOneEach batch.now → HaveSame batch.now other → self.new.messages ≡ join self.old.messages other) }
         ensures added { IfOk result (λ j. length self.old.messages + j.added ≡ length self.new.messages) }
         ensures changed { IfOk result (λ j. AreChanged self.old.messages self.new.messages j.changed) }
         ensures kept { OnOk result (self.new.spent ≡ false) }
