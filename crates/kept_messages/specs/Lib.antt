@@ -1,0 +1,4 @@
+pub mod Records
+pub mod News
+pub mod Pairs
+pub mod Holding
