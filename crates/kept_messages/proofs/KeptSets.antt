@@ -96,7 +96,7 @@ same_order r s m n h k =
 -- ---- the messages of records
 
 -- each record keeps the message at its place
-abbrev Reads : List Record → List Message → Type 0
+abbrev pub Reads : List Record → List Message → Type 0
 Reads [] [] = Unit {0}
 Reads [] (m ∷ ms) = ⊥
 Reads (r ∷ rs) [] = ⊥
@@ -109,7 +109,7 @@ below r m (s ∷ rs) [] is low reads = absurd reads
 below r m (s ∷ rs) (n ∷ ms) is low reads = (sym (same_order r s m n is reads.0) ∙ low.0, below r m rs ms is low.1 reads.1)
 
 -- messages of records with rising keys rise
-rise_too : (rs : List Record) (ms : List Message) → Rise rs → Reads rs ms → IsRising ms
+pub rise_too : (rs : List Record) (ms : List Message) → Rise rs → Reads rs ms → IsRising ms
 rise_too [] [] up reads = in_order_nil stamp_of stamp_cmp
 rise_too [] (m ∷ ms) up reads = absurd reads
 rise_too (r ∷ rs) [] up reads = absurd reads
@@ -119,7 +119,7 @@ rise_too (r ∷ rs) (m ∷ ms) up reads = cons stamp_of stamp_cmp m ms (below r 
 join_itself : (ms : List Message) → IsRising ms → join [] ms ≡ ms
 join_itself ms up = same stamp_of stamp_cmp stamps_total (join [] ms) ms (rising [] ms (in_order_nil stamp_of stamp_cmp)) up (λ s. found [] ms s)
 
-abbrev keeps_none : Record → Bool
+abbrev pub keeps_none : Record → Bool
 keeps_none r = is_none (message_in r)
 
 all_read : (rs : List Record) (index : ℕ) → position_from keeps_none index rs ≡ None → Reads rs (filter_map message_in rs)
@@ -144,7 +144,7 @@ all_are (r ∷ rs) [] reads = absurd reads
 all_are (r ∷ rs) (m ∷ ms) reads = ap₂ (λ (o : Option Message) (xs : List Message). cons_option o xs) reads.0 (all_are rs ms reads.1)
 
 -- records with rising keys keep a message set just where they read as its messages
-kept_reads : (rs : List Record) (ms : List Message) → Rise rs → kept_set rs ≡ Ok ms → Reads rs ms
+pub kept_reads : (rs : List Record) (ms : List Message) → Rise rs → kept_set rs ≡ Ok ms → Reads rs ms
 kept_reads rs ms up h = by (position_from keeps_none 0 rs) refl h
   where
     by : (o : Option ℕ) → position_from keeps_none 0 rs ≡ o → unless_bad o (join [] (filter_map message_in rs)) ≡ Ok ms → Reads rs ms

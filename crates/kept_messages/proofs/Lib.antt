@@ -1,5 +1,6 @@
 pub mod OneRecord
 pub mod KeptSets
+pub mod Groups
 pub mod Members
 pub mod Starting
 pub mod Keeping

@@ -21,22 +21,22 @@ lower : (x y : Place) (es : List (Place × Text)) → place_cmp x y ≡ Less →
 lower x y [] low all = tt
 lower x y (e ∷ es) low all = (place_total.trans x y e.0 low all.0, lower x y es low all.1)
 
-rising : (m : FinMap place_cmp Text) → IsRising place_cmp (entries m)
+pub rising : (m : FinMap place_cmp Text) → IsRising place_cmp (entries m)
 rising m = in_order (entries m) (is_true _ (entries_sorted m))
 
-none_below : (p : Place) (es : List (Place × Text)) → Above p es → find place_cmp p es ≡ None
+pub none_below : (p : Place) (es : List (Place × Text)) → Above p es → find place_cmp p es ≡ None
 none_below p [] h = refl
 none_below p (e ∷ es) h = ap (λ r. cond (is_eq r) (Some e.1) (find place_cmp p es)) h.0 ∙ none_below p es h.1
 
 -- ---- the records of one group
 
-abbrev group : Text → List (Place × Text) → List Record
+abbrev pub group : Text → List (Place × Text) → List Record
 group g es = of_group g [] es
 
-skip : (g : Text) (e : Place × Text) (es : List (Place × Text)) → is_in g [] e ≡ false → group g (e ∷ es) ≡ group g es
+pub skip : (g : Text) (e : Place × Text) (es : List (Place × Text)) → is_in g [] e ≡ false → group g (e ∷ es) ≡ group g es
 skip g e es h = ap (λ b. map of_entry (cond b (e ∷ filter (is_in g []) es) (filter (is_in g []) es))) h
 
-hold : (g : Text) (e : Place × Text) (es : List (Place × Text)) → is_in g [] e ≡ true → group g (e ∷ es) ≡ of_entry e ∷ group g es
+pub hold : (g : Text) (e : Place × Text) (es : List (Place × Text)) → is_in g [] e ≡ true → group g (e ∷ es) ≡ of_entry e ∷ group g es
 hold g e es h = ap (λ b. map of_entry (cond b (e ∷ filter (is_in g []) es) (filter (is_in g []) es))) h
 
 turned : (r : Ordering) → is_eq (ordering_reverse r) ≡ is_eq r
@@ -50,7 +50,7 @@ tied_by g e r h = ap is_eq (text_total.antisymm e.0.0 g ∙ ap ordering_reverse 
 outside : (g : Text) (e : Place × Text) (r : Ordering) → text_cmp g e.0.0 ≡ r → is_eq r ≡ false → is_in g [] e ≡ false
 outside g e r h other = ap (λ b. b && is_lt (text_cmp [] e.0.1)) (tied_by g e r h ∙ other)
 
-inside : (g : Text) (e : Place × Text) → text_cmp g e.0.0 ≡ Equal → text_cmp [] e.0.1 ≡ Less → is_in g [] e ≡ true
+pub inside : (g : Text) (e : Place × Text) → text_cmp g e.0.0 ≡ Equal → text_cmp [] e.0.1 ≡ Less → is_in g [] e ≡ true
 inside g e h some = ap₂ (λ (b : Bool) (r : Ordering). b && is_lt r) (tied_by g e Equal h) some
 
 -- behind a record above the group none is of the group
@@ -156,7 +156,7 @@ entries_with m g r =
     by true = refl
     by false = entries-insert place_total m (g, r.key) r.body
 
-above_none : (key : Text) → 0 < length key → text_cmp [] key ≡ Less
+pub above_none : (key : Text) → 0 < length key → text_cmp [] key ≡ Less
 above_none [] some = absurd (omega arith)
 above_none (x ∷ key) some = refl
 

@@ -1,18 +1,32 @@
 -- The messages of records, read one after the other.
-use Rattle.std.proofs.Common.{◌≡◌, Bool, true, false, cond, ℕ, ◌+◌, List, [], ◌∷◌, ◌++◌, length, Option, None, Some, Result, Ok, Err, is_none, is_some, refl, subst, ap, ◌∙◌, arith}
+use Rattle.std.proofs.Common.{◌≡◌, Bool, true, false, cond, ℕ, zero, suc, ◌+◌, ◌<◌, slice_index_or, drop, List, [], ◌∷◌, ◌++◌, length, Option, None, Some, Result, Ok, Err, is_none, is_some, refl, sym, subst, ap, ◌∙◌, arith}
+use Rattle.std.specs.Prelude.{is_ok, if◌then◌else◌}
+use Rattle.std.specs.Result.{result_ok}
 use Rattle.std.specs.List.{filter_map, position_from, cons_option}
 use Rattle.budget_ports.specs.declared.keeper.Record.{Record}
 use Rattle.field_merge.specs.declared.message.Message.{Message}
 use Rattle.hybrid_clock.specs.Order.{stamp_cmp}
+use Rattle.hybrid_clock.specs.Reading.{read_stamp}
+use Rattle.field_merge.specs.Lines.{reading}
 use Rattle.field_merge.specs.Log.{IsRising, join_one, join}
 use Rattle.field_merge.proofs.Ordered.{in_order_nil}
 use Rattle.field_merge.proofs.Joining.{stamp_of, rising}
-use Rattle.kept_messages.specs.Records.{message_in, unless_bad, kept_set, KeepMessages, RecordsAreRead}
+use Rattle.kept_messages.proofs.Members.{from_place}
+use Rattle.kept_messages.specs.Records.{message_in, unless_bad, kept_set, HasFirstStamp, KeepMessages, RecordsAreRead}
 
 -- the message set after the records from one with this index on were read into messages
 abbrev pub kept_after : List Message → ℕ → List Record → Result (List Message) ℕ
 kept_after ms index [] = Ok ms
 kept_after ms index (r ∷ rs) = elim (message_in r) [ None ↦ Err index | Some m ↦ kept_after (join_one ms m) (index + 1) rs ]
+
+-- one record on
+pub kept_on : (ms new : List Message) (index : ℕ) (rs : List Record) (r : Record) (m : Message) (set : Result (List Message) ℕ) → index < length rs → r ≡ slice_index_or rs index r → Some m ≡ message_in r → new ≡ join_one ms m
+    → kept_after ms index (drop index rs) ≡ set → kept_after new (index + 1) (drop (index + 1) rs) ≡ set
+kept_on ms new index rs r m set within is read joined so_far =
+    let later : List Record = drop (index + 1) rs in
+    let next : kept_after ms index (r ∷ later) ≡ kept_after (join_one ms m) (index + 1) later =
+    ap (λ o. elim o as (λ _. Result (List Message) ℕ) [ None ↦ Err index | Some n ↦ kept_after (join_one ms n) (index + 1) later ]) (sym read) in
+    ap (λ l. kept_after l (index + 1) later) joined ∙ sym next ∙ ap (kept_after ms index) (sym (from_place rs index r within is)) ∙ so_far
 
 abbrev settled : List Message → Option ℕ → List Message → Result (List Message) ℕ
 settled ms None read = Ok (join ms read)
@@ -49,6 +63,18 @@ rising_of (Some index) read ms is = absurd (cc)
 -- a message set rises
 pub rising_set : (rs : List Record) (ms : List Message) → kept_set rs ≡ Ok ms → IsRising ms
 rising_set rs ms is = rising_of (position_from keeps_none 0 rs) (filter_map message_in rs) ms is
+
+-- ---- the key of the first record
+
+key_read : (b : Bool) (line : Option Message) (m : Message) → (if b then line else None) ≡ Some m → b ≡ true
+key_read true line m h = refl
+key_read false line m h = absurd (cc)
+
+-- where a record has been read, the first one has a timestamp's text as its key
+pub first_stamp : (rs : List Record) (i : ℕ) (r : Record) (m : Message) → i < length rs → r ≡ slice_index_or rs i r → Some m ≡ message_in r → (0 < i → HasFirstStamp rs) → HasFirstStamp rs
+first_stamp [] i r m within is read before = absurd (omega (arith, within))
+first_stamp (q ∷ rs) zero r m within is read before = ap (λ (s : Record). is_ok (read_stamp s.key)) (sym is) ∙ key_read (is_ok (read_stamp r.key)) (result_ok (reading (r.key ++ 9 ∷ r.body))) m (sym read)
+first_stamp (q ∷ rs) (suc i) r m within is read before = before (omega arith)
 
 -- ---- the first record that keeps no message
 

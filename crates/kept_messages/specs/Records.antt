@@ -1,5 +1,5 @@
 -- The records that a keeper keeps of messages.
-use Rattle.std.specs.Prelude.{◌≡◌, ℕ, List, [], ◌∷◌, ◌++◌, length, is_none, is_ok, IsSome, if◌then◌else◌, Option, None, Some, Result, Ok, Err}
+use Rattle.std.specs.Prelude.{◌≡◌, ℕ, List, [], ◌∷◌, ◌++◌, length, is_none, is_ok, true, IsSome, if◌then◌else◌, Option, None, Some, Result, Ok, Err}
 use Rattle.std.specs.Result.{result_ok}
 use Rattle.std.specs.List.{AllByRecursion, filter_map, flat_map, position_from}
 use Rattle.hybrid_clock.specs.Stamp.{stamp_text}
@@ -34,6 +34,11 @@ kept_set rs = unless_bad (position_from (λ r. is_none (message_in r)) 0 rs) (jo
 abbrev pub IsStartFault : Result (List Message) ℕ → StartFault → Type 0
 IsStartFault meant (BadRecord index) = meant ≡ Err index
 IsStartFault meant NoMemory = Unit {0}
+
+-- there is a first record, whose key is a timestamp's text
+abbrev pub HasFirstStamp : List Record → Type 0
+HasFirstStamp [] = ⊥
+HasFirstStamp (r ∷ rs) = is_ok (read_stamp r.key) ≡ true
 
 -- the record of a message keeps that message; and a record that keeps a message is that message's record, but for the bytes 0 and LF that stand in its body without their escape
 pub record RecordsReadBack : Type 0 where

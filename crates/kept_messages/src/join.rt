@@ -1,12 +1,12 @@
 //! Messages that join a log and its trie, and the records of those that are new.
-ghost use Rattle.std.specs.Prelude.{◌≡◌, ◌++◌, ◌∷◌, [], map, false, is_none, if◌then◌else◌, IfOk, IfErr, OnOk};
+ghost use Rattle.std.specs.Prelude.{◌≡◌, ◌≢◌, ◌++◌, ◌∷◌, [], map, false, is_none, if◌then◌else◌, IfOk, IfErr, OnOk, OnErr, Err};
 ghost use Rattle.field_merge.specs.Log.{join, join_one};
 ghost use Rattle.field_merge.specs.Messages.{IsMessage, AreMessages};
 ghost use Rattle.field_merge.specs.Log.{at_stamp};
 ghost use Rattle.minute_trie.specs.Trie.{is_spent, IsTrieOf};
 ghost use Rattle.kept_messages.specs.News.{new_in};
 ghost use Rattle.kept_messages.specs.Pairs.{pairs_of};
-ghost use Rattle.kept_messages.specs.Records.{record_of, kept_set, IsStartFault};
+ghost use Rattle.kept_messages.specs.Records.{record_of, kept_set, IsStartFault, HasFirstStamp};
 ghost use Rattle.kept_messages.specs.declared.join.StartFault.TheVariants.{NoMemory as OutOfMemory};
 
 use crate::record::{read_record, write_record};
@@ -55,7 +55,13 @@ fn enter(log: &mut Log, trie: &mut Trie, message: Message) -> Result<bool, NoMem
     Ok(is_new)
 }
 
-/// The log of the messages that records keep, and its trie.
+/// The log of the messages that records keep, joined in the order of the records, and its trie. So of
+/// records with one timestamp the first counts.
+///
+/// # Errors
+///
+/// `BadRecord` for the first record that keeps no message. Where the key of the very first one is no
+/// timestamp, this is told before memory is taken.
 pub fn read_log(alloc: Global, records: &[Record]) -> Result<(Log, Trie), StartFault>
     ensures messages { IfOk result (λ l. kept_set records.now ≡ Ok l.0.messages) }
     ensures live { IfOk result (λ l. l.0.spent ≡ false) }
@@ -63,6 +69,7 @@ pub fn read_log(alloc: Global, records: &[Record]) -> Result<(Log, Trie), StartF
     ensures trie_live { IfOk result (λ l. is_spent l.1 ≡ false) }
     ensures right { IfOk result (λ l. IsTrieOf (pairs_of l.0.messages) l.1) }
     ensures err { IfErr result (IsStartFault (kept_set records.now)) }
+    ensures memory { result ≡ Err OutOfMemory → HasFirstStamp records.now }
 {
     let mut log = Log::new(alloc);
     let mut trie = Trie::new(alloc);
@@ -108,7 +115,8 @@ fn push_if(is_new: bool, batch: &mut Vec<Record>, kept: Record) -> Result<(), No
     Ok(())
 }
 
-/// Joins messages, and adds the records of the new ones to a batch.
+/// Joins messages to a log and its trie, and adds the records of the new ones to a batch, in the order
+/// in which they come. After want of memory the log, the trie or the batch may have some of them.
 pub fn join_all(
     alloc: Global,
     log: &mut Log,
@@ -125,6 +133,7 @@ pub fn join_all(
     ensures right { OnOk result (IsTrieOf (pairs_of log.new.messages) trie.new) }
     ensures joined { OnOk result (log.new.messages ≡ join log.old.messages messages.now) }
     ensures batch { OnOk result (batch.new.items ≡ batch.old.items ++ map record_of (new_in log.old.messages messages.now)) }
+    ensures memory { OnErr result (messages.now ≢ []) }
 {
     for message in messages {
         join_message(alloc, log, trie, message, batch)?;

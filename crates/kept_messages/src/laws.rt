@@ -1,4 +1,5 @@
 //! Facts about what a group keeps of messages, which a proof can call for.
+ghost use Rattle.kept_messages.specs.Groups.{GroupsAreRead};
 ghost use Rattle.kept_messages.specs.Holding.{BatchesAreKept};
 ghost use Rattle.kept_messages.specs.News.{NewOnesAreAdded};
 ghost use Rattle.kept_messages.specs.Records.{RecordsReadBack, RecordsAreRead};
@@ -15,6 +16,12 @@ pub fn records_are_read()
     ensures { RecordsAreRead }
 {}
 
+/// A law: what a group keeps is read as the messages of all its records, each once, and no others. Where
+/// some record keeps no message, the first such is told, by the number of those before it.
+pub fn groups_are_read()
+    ensures { GroupsAreRead }
+{}
+
 /// A law: a group that keeps a message set keeps, with the records of the new ones of other messages
 /// appended, that set joined with these messages. It loses none of the records that it had at entry
 /// and changes none, each other one is just the record of a message of the set, and all else that is
@@ -23,9 +30,9 @@ pub fn batches_are_kept()
     ensures { BatchesAreKept }
 {}
 
-/// A law: of messages that come, those that are new stand in the order in which they came; joining them
-/// alone joins all of them, and the join has one message more for each. So the count of an `incoming` says by how many messages the
-/// device has grown, and a timestamp that comes twice counts once.
+/// A law: of messages that come, those that are new stand in the order in which they came; joining
+/// them alone joins all of them, and the join has one message more for each. So the number of the new ones says
+/// by how many messages the set has grown, and a timestamp that comes twice counts once.
 pub fn new_ones_are_added()
     ensures { NewOnesAreAdded }
 {}

@@ -7,5 +7,7 @@ mod laws;
 mod record;
 
 pub use join::{StartFault, join_all, read_log};
-pub use laws::{batches_are_kept, new_ones_are_added, records_are_read, records_read_back};
+pub use laws::{
+    batches_are_kept, groups_are_read, new_ones_are_added, records_are_read, records_read_back,
+};
 pub use record::{read_record, write_record};

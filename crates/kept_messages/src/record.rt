@@ -1,5 +1,5 @@
 //! The records that a keeper keeps of messages.
-ghost use Rattle.std.specs.Prelude.{◌≡◌, ◌++◌, ◌∷◌, IfOk, OnOk, Some, is_ok, string_bytes};
+ghost use Rattle.std.specs.Prelude.{◌≡◌, ◌++◌, ◌∷◌, IfOk, OnOk, OnErr, Some, true, is_ok, string_bytes};
 ghost use Rattle.std.specs.Result.{result_ok};
 ghost use Rattle.std.specs.Option.{ForSome};
 ghost use Rattle.hybrid_clock.specs.Stamp.{IsStamp, stamp_text};
@@ -38,7 +38,7 @@ fn body(alloc: Global, message: &Message) -> Result<Txt, NoMemory>
     Ok(Txt::new(body))
 }
 
-/// The record that keeps a message.
+/// The record that keeps a message: under the text of its timestamp, the rest of its line.
 pub fn write_record(alloc: Global, message: &Message) -> Result<Record, NoMemory>
     requires { IsMessage message.now }
     ensures { IfOk result (λ r. r ≡ record_of message.now) }
@@ -79,10 +79,12 @@ fn message_of_line(alloc: Global, line: &Txt) -> Result<Option<Message>, NoMemor
     }
 }
 
-/// The message that a record keeps.
+/// The message that a record keeps, if it keeps one. A key that is no timestamp is told before memory is
+/// taken.
 pub fn read_record(alloc: Global, kept: &Record) -> Result<Option<Message>, NoMemory>
     ensures message { IfOk result (λ m. m ≡ message_in kept.now) }
     ensures valid { IfOk result (λ m. ForSome m IsMessage) }
+    ensures memory { OnErr result (is_ok (read_stamp kept.now.key) ≡ true) }
 {
     if !is_stamp(&kept.key) {
         return Ok(None);

@@ -1,7 +1,7 @@
-use Rattle.std.proofs.Common.{◌≡◌, drop, false}
+use Rattle.std.proofs.Common.{◌≡◌, ◌<◌, drop, false}
 use Rattle.field_merge.specs.Messages.{AreMessages}
 use Rattle.minute_trie.specs.Trie.{is_spent, IsTrieOf}
-use Rattle.kept_messages.specs.Records.{kept_set}
+use Rattle.kept_messages.specs.Records.{kept_set, HasFirstStamp}
 use Rattle.kept_messages.specs.Pairs.{pairs_of}
 use Rattle.kept_messages.proofs.Starting.{kept_after}
 use Rattle.kept_messages.proofs.join.read_log.Given as goal
@@ -13,4 +13,5 @@ invariant-loop-index l = record {
   trie_live : is_spent l.trie ≡ false;
   right : IsTrieOf (pairs_of l.log.messages) l.trie;
   valid : AreMessages l.log.messages;
+  first : 0 < l.index → HasFirstStamp l.records;
 }
