@@ -13,6 +13,3 @@ pub use laws::{
     accepted_are_joined, devices_begin, edits_read_back, greatest_is_told, messages_are_answered,
     received_are_joined, writes_are_answered, writes_are_joined,
 };
-
-#[cfg(test)]
-mod tests;
