@@ -1,7 +1,8 @@
-pub mod Records
 pub mod Edits
 pub mod Device
-pub mod Holding
+pub mod Beginning
+pub mod Greatest
 pub mod ReadBack
-pub mod News
 pub mod Answering
+pub mod Accepting
+pub mod Several
