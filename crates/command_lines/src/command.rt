@@ -1,8 +1,9 @@
 //! The commands of lines.
-ghost use Rattle.std.specs.Prelude.{◌≡◌, ◌<◌, IfOk};
+ghost use Rattle.std.specs.Prelude.{◌≡◌, ◌<◌, IfOk, IfErr, false};
+ghost use Rattle.field_merge.specs.Lines.{parts};
 ghost use Rattle.command_lines.specs.declared.command.CommandFault.TheVariants.{NoMemory as OutOfMemory};
-ghost use Rattle.command_lines.specs.Commands.{set_words, receive_words, fields_words, messages_words, value_words, trie_words, line_words, command, command_of, IsRead, IsCommand};
-ghost use Rattle.command_lines.specs.Unread.{command_of_unread};
+ghost use Rattle.command_lines.specs.Commands.{set_words, receive_words, fields_words, messages_words, value_words, trie_words, line_words, is_too_long, command, IsRead, IsCommand};
+ghost use Rattle.command_lines.specs.Unread.{command_of_unread, IsFaultOf, ReadsTextIn};
 
 use crate::words::{Words, cut_word};
 use device_core::{BookEdit, Edit};
@@ -54,6 +55,7 @@ pub const LONGEST_LINE: usize = 1_048_576;
 fn set(alloc: Global, words: &mut Words<'_>) -> Result<Command, CommandFault>
     ensures read { IsRead (command_of_unread set_words words.old) result }
     ensures valid { IfOk result IsCommand }
+    ensures memory { IfErr result (IsFaultOf set_words words.old) }
 {
     let dataset = words.text(alloc)?;
     let row = words.text(alloc)?;
@@ -73,6 +75,7 @@ fn set(alloc: Global, words: &mut Words<'_>) -> Result<Command, CommandFault>
 fn receive(alloc: Global, words: &mut Words<'_>) -> Result<Command, CommandFault>
     ensures read { IsRead (command_of_unread receive_words words.old) result }
     ensures valid { IfOk result IsCommand }
+    ensures memory { IfErr result (IsFaultOf receive_words words.old) }
 {
     let stamp = words.stamp(alloc)?;
     let dataset = words.name(alloc)?;
@@ -101,6 +104,7 @@ fn receive(alloc: Global, words: &mut Words<'_>) -> Result<Command, CommandFault
 fn fields(words: &Words<'_>) -> Result<Command, CommandFault>
     ensures read { IsRead (command_of_unread fields_words words.now) result }
     ensures valid { IfOk result IsCommand }
+    ensures memory { IfErr result (IsFaultOf fields_words words.now) }
 {
     words.end()?;
     Ok(Command::Fields)
@@ -110,6 +114,7 @@ fn fields(words: &Words<'_>) -> Result<Command, CommandFault>
 fn messages(alloc: Global, words: &mut Words<'_>) -> Result<Command, CommandFault>
     ensures read { IsRead (command_of_unread messages_words words.old) result }
     ensures valid { IfOk result IsCommand }
+    ensures memory { IfErr result (IsFaultOf messages_words words.old) }
 {
     let since = words.text(alloc)?;
     words.end()?;
@@ -120,6 +125,7 @@ fn messages(alloc: Global, words: &mut Words<'_>) -> Result<Command, CommandFaul
 fn value(alloc: Global, words: &mut Words<'_>) -> Result<Command, CommandFault>
     ensures read { IsRead (command_of_unread value_words words.old) result }
     ensures valid { IfOk result IsCommand }
+    ensures memory { IfErr result (IsFaultOf value_words words.old) }
 {
     let dataset = words.text(alloc)?;
     let row = words.text(alloc)?;
@@ -136,6 +142,7 @@ fn value(alloc: Global, words: &mut Words<'_>) -> Result<Command, CommandFault>
 fn trie(words: &Words<'_>) -> Result<Command, CommandFault>
     ensures read { IsRead (command_of_unread trie_words words.now) result }
     ensures valid { IfOk result IsCommand }
+    ensures memory { IfErr result (IsFaultOf trie_words words.now) }
 {
     words.end()?;
     Ok(Command::Trie)
@@ -146,6 +153,7 @@ fn command_of(alloc: Global, name: &str, words: &mut Words<'_>) -> Result<Comman
     requires { words.old.last ≡ 0 }
     ensures read { IsRead (command_of_unread (line_words name.now) words.old) result }
     ensures valid { IfOk result IsCommand }
+    ensures memory { IfErr result (IsFaultOf (line_words name.now) words.old) }
 {
     match name {
         "set" => set(alloc, words),
@@ -166,6 +174,9 @@ fn command_of(alloc: Global, name: &str, words: &mut Words<'_>) -> Result<Comman
 pub fn read_command(alloc: Global, line: &Txt) -> Result<Command, CommandFault>
     ensures read { IsRead (command line.now) result }
     ensures valid { IfOk result IsCommand }
+
+    // Memory runs out only where the line is not too long, its name is that of a line with words, and the next word has no bad escape.
+    ensures memory { IfErr result (λ fault. fault ≡ OutOfMemory → (is_too_long line.now ≡ false) × ReadsTextIn (parts line.now)) }
 {
     if line.bytes().len() > LONGEST_LINE {
         return Err(CommandFault::BadCommand { word: 0 });
