@@ -6,7 +6,7 @@ use Rattle.std.specs.Io.KnownBytes.{Appends, IsAtEnd}
 use Rattle.budget_ports.specs.Faults.{risen}
 use Rattle.budget_ports.specs.Keeper.{Only, LeavesNoMore}
 use Rattle.field_merge.specs.declared.message.Message.{Message}
-use Rattle.device_core.specs.Records.{kept_set}
+use Rattle.kept_messages.specs.Records.{kept_set}
 use Rattle.device_core.specs.Device.{State, begun}
 use Rattle.budget_top.specs.Lines.{whole_lines, all_lines}
 use Rattle.budget_top.specs.Limits.{most_input, HasRead, AreDue}

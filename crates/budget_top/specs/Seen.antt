@@ -6,7 +6,7 @@ use Rattle.budget_ports.specs.Readings.{Readings}
 use Rattle.budget_ports.specs.Memory.{SinkState}
 use Rattle.budget_ports.specs.KeeperState.{KeeperState, holds}
 use Rattle.field_merge.specs.declared.message.Message.{Message}
-use Rattle.device_core.specs.Holding.{Holds as HoldsIn}
+use Rattle.kept_messages.specs.Holding.{Holds as HoldsIn}
 
 -- the group in which a device's messages are kept
 abbrev pub device_group : Text

@@ -1,6 +1,6 @@
 -- A device: its state, and what an edit and received messages make of it.
 use Rattle.std.specs.Prelude.{◌≡◌, ◌⊎◌, ℕ, ◌+◌, ◌-◌, ◌<◌, ◌≤◌, List, [], ◌∷◌, length, map, Bool, true, false, nat_lt, if◌then◌else◌, Option, None, Some, Result, Ok, Err}
-use Rattle.std.specs.List.{list_any, AllByRecursion}
+use Rattle.std.specs.List.{AllByRecursion}
 use Rattle.std.specs.Ordering.{is_lt}
 use Rattle.hybrid_clock.specs.declared.stamp.Stamp.{Stamp}
 use Rattle.hybrid_clock.specs.declared.clock.ClockFault.{ClockFault}
@@ -10,19 +10,19 @@ use Rattle.budget_ports.specs.declared.keeper.Record.{Record}
 use Rattle.field_merge.specs.declared.message.Message.{Message}
 use Rattle.budget_ports.specs.Keeper.{HaveKeys}
 use Rattle.field_merge.specs.Messages.{AreMessages}
-use Rattle.field_merge.specs.Log.{LogState, has_stamp, join_one, join, last_stamp}
+use Rattle.field_merge.specs.Log.{LogState, join, last_stamp}
 use Rattle.minute_trie.specs.declared.trie.Trie.{Trie}
-use Rattle.minute_trie.specs.Trie.{Pair, stamp_pair, is_spent, IsTrieOf}
+use Rattle.minute_trie.specs.Trie.{is_spent, IsTrieOf}
+use Rattle.kept_messages.specs.Records.{record_of}
+use Rattle.kept_messages.specs.News.{new_in}
+use Rattle.kept_messages.specs.Pairs.{pairs_of}
 use Rattle.device_core.specs.declared.edit.Edit.{Edit}
 use Rattle.device_core.specs.declared.edit.Write.{Write}
 use Rattle.device_core.specs.declared.edit.EditFault.{EditFault}
 use Rattle.device_core.specs.declared.edit.EditFault.TheVariants.{TooManyWrites}
 use Rattle.device_core.specs.declared.edit.LineRefusal.{LineRefusal}
 use Rattle.device_core.specs.declared.edit.LineRefusal.TheVariants.{Edit as OfEdit, Clock as OfClock, NoMemory}
-use Rattle.device_core.specs.declared.device.StartFault.{StartFault}
-use Rattle.device_core.specs.declared.device.StartFault.TheVariants.{BadRecord, NoMemory as OutOfMemory}
 use Rattle.device_core.specs.Edits.{writes_of}
-use Rattle.device_core.specs.Records.{record_of}
 
 -- the message set, and the timestamp at which the clock stands, with the device's own node
 pub record State : Type 0 where
@@ -44,20 +44,21 @@ at_rest s = record { state = s; batch = []; made = []; spent = false }
 abbrev pub begun : List ℕ → List Message → State
 begun node ms = record { messages = ms; clock = clock_after node (last_stamp ms) }
 
--- those of the messages whose timestamp is new: no message of ms has it, and no earlier one of them
-abbrev pub new_in : List Message → List Message → List Message
-new_in ms [] = []
-new_in ms (n ∷ ns) = if list_any (has_stamp n.stamp) ms then new_in ms ns else n ∷ new_in (join_one ms n) ns
-
 -- the messages joined, with the clock where it now stands, and the new ones pending
 abbrev pub with_messages : List Message → List Message → Stamp → DeviceState
 with_messages ms ns clock = record
     { state = record { messages = join ms ns; clock = clock }; batch = map record_of (new_in ms ns); made = []; spent = false }
 
--- what an accepted line leaves, and how many writes or new messages it was
+-- what an accepted line leaves: the state, the records that are not kept yet and the ids that it made for rows; and how many writes or new messages it was
 pub record Accepted : Type 0 where
-  pub device : DeviceState
+  pub state : State
+  pub batch : List Record
+  pub made : List (List ℕ)
   pub count : ℕ
+
+-- a device after a line that was accepted with this count
+abbrev pub accepted_as : DeviceState → ℕ → Accepted
+accepted_as device count = record { state = device.state; batch = device.batch; made = device.made; count = count }
 
 -- the messages of writes, under timestamps with counters in a row
 abbrev pub stamped : Stamp → List Write → List Message
@@ -71,12 +72,12 @@ first_in_row clock n = record clock { counter = clock.counter - (n - 1) }
 -- writes under the timestamp that the clock drew, or its refusal
 abbrev pub written : State → List Write → Result Stamp ClockFault → Result Accepted LineRefusal
 written s ws (Err fault) = Err (OfClock fault)
-written s ws (Ok clock) = Ok (record { device = with_messages s.messages (stamped (first_in_row clock (length ws)) ws) clock; count = length ws })
+written s ws (Ok clock) = Ok (accepted_as (with_messages s.messages (stamped (first_in_row clock (length ws)) ws) clock) (length ws))
 
 -- writes are made at a reading of the wall clock: none need no timestamp, and 65,536 are the most
 abbrev pub writing : State → ℕ → Result (List Write) EditFault → Result Accepted LineRefusal
 writing s reading (Err fault) = Err (OfEdit fault)
-writing s reading (Ok []) = Ok (record { device = at_rest s; count = 0 })
+writing s reading (Ok []) = Ok (accepted_as (at_rest s) 0)
 writing s reading (Ok (w ∷ ws)) =
     if nat_lt 65_536 (length (w ∷ ws)) then Err (OfEdit (TooManyWrites (length (w ∷ ws))))
     else written s (w ∷ ws) (draw s.clock reading (length (w ∷ ws)))
@@ -102,11 +103,11 @@ greatest_of (m ∷ ms) = Some (greatest m.stamp ms)
 -- messages joined where the clock took their greatest timestamp, or its refusal
 abbrev pub taken_in : State → List Message → Result Stamp ClockFault → Result Accepted LineRefusal
 taken_in s ns (Err fault) = Err (OfClock fault)
-taken_in s ns (Ok clock) = Ok (record { device = with_messages s.messages ns clock; count = length (new_in s.messages ns) })
+taken_in s ns (Ok clock) = Ok (accepted_as (with_messages s.messages ns clock) (length (new_in s.messages ns)))
 
 -- messages with this greatest timestamp are received; where there are none, the clock stays as it is
 abbrev pub receiving : State → List Message → ℕ → Option Stamp → Result Accepted LineRefusal
-receiving s ns reading None = Ok (record { device = at_rest s; count = 0 })
+receiving s ns reading None = Ok (accepted_as (at_rest s) 0)
 receiving s ns reading (Some stamp) = taken_in s ns (receive s.clock reading stamp)
 
 -- messages are received at a reading of the wall clock, once for all of them, by their greatest timestamp
@@ -123,21 +124,12 @@ IsAhead clock = AllByRecursion (λ m. IsUpTo clock m.stamp)
 
 -- a line was accepted as it should be, with this count
 abbrev pub IsAccepted : Result Accepted LineRefusal → DeviceState → ℕ → Type 0
-IsAccepted meant device count = meant ≡ Ok (record { device = device; count = count })
+IsAccepted meant device count = meant ≡ Ok (accepted_as device count)
 
 -- a line was refused as it should be, and left all as it was; or memory ran out, and the device is spent
 abbrev pub IsRefused : Result Accepted LineRefusal → DeviceState → DeviceState → LineRefusal → Type 0
 IsRefused meant old new NoMemory = new.spent ≡ true
 IsRefused meant old new refusal = (meant ≡ Err refusal) × (new ≡ old)
-
--- the first record that keeps no message was told, or memory ran out
-abbrev pub IsStartFault : Result (List Message) ℕ → StartFault → Type 0
-IsStartFault meant (BadRecord index) = meant ≡ Err index
-IsStartFault meant OutOfMemory = Unit {0}
-
--- the pairs of messages in a trie: each timestamp's minute, and the hash of its text
-abbrev pub pairs_of : List Message → List Pair
-pairs_of ms = map (λ m. stamp_pair m.stamp) ms
 
 -- what holds of a device that is not spent
 pub record Stands (log : LogState) (trie : Trie) (clock : Stamp) (batch : List Record) : Type 0 where

@@ -1,7 +1,7 @@
-pub mod Records
 pub mod Edits
 pub mod Device
-pub mod Holding
+pub mod Greatest
 pub mod ReadBack
-pub mod News
 pub mod Answering
+pub mod Accepting
+pub mod Several

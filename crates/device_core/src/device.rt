@@ -1,44 +1,28 @@
 //! A device.
-ghost use Rattle.std.specs.Prelude.{◌≡◌, ◌≢◌, ◌+◌, ◌-◌, ◌≤◌, ◌<◌, [], length, true, false, IfOk, IfErr, OnOk, OnErr, Err};
+ghost use Rattle.std.specs.Prelude.{◌≡◌, ◌≢◌, ◌+◌, ◌-◌, ◌≤◌, ◌<◌, [], length, true, false, is_ok, IfOk, IfErr, OnOk, OnErr, Err};
 ghost use Rattle.hybrid_clock.specs.Node.{IsNode};
 ghost use Rattle.hybrid_clock.specs.Stamp.{IsStamp};
 ghost use Rattle.budget_ports.specs.Keeper.{HaveKeys};
 ghost use Rattle.field_merge.specs.Log.{messages_after};
 ghost use Rattle.field_merge.specs.Messages.{AreMessages};
 ghost use Rattle.minute_trie.specs.Trie.{is_spent, IsTrieOf, ArePairs};
+ghost use Rattle.kept_messages.specs.Records.{kept_set, IsStartFault, HasFirstStamp};
+ghost use Rattle.kept_messages.specs.declared.join.StartFault.TheVariants.{NoMemory as NoMemoryToStart};
+ghost use Rattle.kept_messages.specs.Pairs.{pairs_of};
 ghost use Rattle.device_core.specs.declared.edit.LineRefusal.TheVariants.{Edit as OfEdit};
-ghost use Rattle.device_core.specs.declared.device.StartFault.TheVariants.{NoMemory as OutOfMemory};
-ghost use Rattle.device_core.specs.Records.{kept_set};
 ghost use Rattle.device_core.specs.Edits.{IsEdit, AreWrites};
-ghost use Rattle.device_core.specs.Device.{at_rest, begun, with_messages, stamped, writing, edited, later_of, greatest_of, received, pairs_of, IsAhead, IsAccepted, IsRefused, IsStartFault};
+ghost use Rattle.device_core.specs.Device.{at_rest, begun, with_messages, stamped, writing, edited, later_of, greatest_of, received, IsAhead, IsAccepted, IsRefused};
 
 use crate::edit::{Edit, EditFault, LineRefusal, Write, edit_writes};
-use crate::join::{join_all, read_log};
 use budget_ports::Record;
 use field_merge::{Log, Message};
 use field_values::{Items, NoMemory, Steps, Txt};
 use hybrid_clock::{HybridClock, Node, Stamp};
+use kept_messages::{StartFault, join_all, read_log};
 use minute_trie::{Trie, tries_are_maps};
 use std::alloc::Global;
 use std::marker::Model;
 use std::sync::ledger::Ledger;
-
-/// Why a device does not start.
-#[derive(Clone, Copy, Debug, PartialEq, Eq)]
-pub enum StartFault {
-    /// The record with this index, counted from 0, is the first that keeps no message.
-    BadRecord { index: usize },
-    /// Memory ran out.
-    NoMemory,
-}
-
-impl From<NoMemory> for StartFault {
-    ghost from_gives = { λ _ fault. fault ≡ OutOfMemory };
-
-    fn from(_error: NoMemory) -> StartFault {
-        StartFault::NoMemory
-    }
-}
 
 /// The most writes of one edit, which is how many counters a time has.
 const MOST_WRITES: usize = 65_536;
@@ -79,12 +63,14 @@ impl Device {
     ///
     /// # Errors
     ///
-    /// `BadRecord` for the first record that keeps no message.
+    /// `BadRecord` for the first record that keeps no message. Where the key of the very first one is no
+    /// timestamp, this is told before memory is taken.
     pub fn start(alloc: Global, node: Node, records: &[Record]) -> Result<Device, StartFault>
         requires { IsNode node }
         ensures messages { IfOk result (λ d. kept_set records.now ≡ Ok d.state.messages) }
         ensures state { IfOk result (λ d. d ≡ at_rest (begun node d.state.messages)) }
         ensures err { IfErr result (IsStartFault (kept_set records.now)) }
+        ensures memory { result ≡ Err NoMemoryToStart → HasFirstStamp records.now }
     {
         let (log, trie) = read_log(alloc, records)?;
         let clock = HybridClock::new(node, log.last());
@@ -107,8 +93,8 @@ impl Device {
     ///
     /// # Errors
     ///
-    /// Tested in this order: the edit's own checks, `TooManyWrites`, the clock. After a refusal the
-    /// device is as it was, and after `NoMemory` it is spent.
+    /// Tested in this order: the edit's own checks, `TooManyWrites`, the clock. An empty name is told
+    /// before memory is taken. After a refusal the device is as it was, and after `NoMemory` it is spent.
     pub fn prepare<G: Ledger>(
         &mut self,
         edit: &Edit,
@@ -122,6 +108,7 @@ impl Device {
         ensures refused { IfErr result (IsRefused (edited self.old.state edit.now reading) self.old self.new) }
         ensures live { OnOk result (self.new.spent ≡ false) }
         ensures memory { result ≢ Err (OfEdit EditFault.NoMemory) }
+        ensures empty { result ≡ Err LineRefusal.NoMemory → edited self.old.state edit.now reading ≢ Err (OfEdit (EditFault.BadId [])) }
         ensures steps { steps.new ≡ steps.old }
     {
         match edit_writes(self.alloc, edit) {
@@ -220,7 +207,8 @@ impl Device {
     ///
     /// # Errors
     ///
-    /// The clock's. After a refusal the device is as it was, and after `NoMemory` it is spent.
+    /// The clock's, before memory is taken. After a refusal the device is as it was, and after `NoMemory`
+    /// it is spent.
     pub fn incoming<G: Ledger>(
         &mut self,
         batch: &[Message],
@@ -233,6 +221,7 @@ impl Device {
         ensures ok { IfOk result (IsAccepted (received self.old.state batch.now reading) self.new) }
         ensures refused { IfErr result (IsRefused (received self.old.state batch.now reading) self.old self.new) }
         ensures live { OnOk result (self.new.spent ≡ false) }
+        ensures memory { result ≡ Err LineRefusal.NoMemory → (batch.now ≢ []) × (is_ok (received self.old.state batch.now reading) ≡ true) }
         ensures steps { steps.new ≡ steps.old }
     {
         let Some(stamp) = greatest_stamp(batch) else {

@@ -1,37 +1,35 @@
-//! Facts about what a device holds, and what a keeper holds of it, which a proof can call for.
+//! Facts about what a device makes of edits and of messages, which a proof can call for.
+ghost use Rattle.device_core.specs.Accepting.{AcceptedAreJoined};
 ghost use Rattle.device_core.specs.Answering.{WritesAreAnswered, MessagesAreAnswered};
-ghost use Rattle.device_core.specs.Holding.{BatchesAreKept};
-ghost use Rattle.device_core.specs.News.{NewOnesAreAdded, GreatestIsTold};
+ghost use Rattle.device_core.specs.Greatest.{GreatestIsTold};
 ghost use Rattle.device_core.specs.ReadBack.{EditsReadBack, ReceivedAreJoined};
-ghost use Rattle.device_core.specs.Records.{RecordsReadBack, RecordsAreRead};
+ghost use Rattle.device_core.specs.Several.{WritesAreJoined};
 
-/// A law: the record of a message keeps that message. A record that keeps a message is the record of
-/// that message, but for the bytes 0 and LF that stand in its body without their escape.
-pub fn records_read_back()
-    ensures { RecordsReadBack }
-{}
-
-/// A law: records of which each keeps a message have a message set, which is their messages joined in
-/// order. Else the place of the first record that keeps none is told, whatever stands behind it.
-pub fn records_are_read()
-    ensures { RecordsAreRead }
-{}
-
-/// A law: a group that keeps a message set keeps, with the records of the new ones of other messages
-/// appended, that set joined with these messages. It loses none of the records that it had at entry
-/// and changes none, each other one is just the record of a message of the set, and all else that is
-/// kept stays.
-pub fn batches_are_kept()
-    ensures { BatchesAreKept }
+/// A law: of every accepted line some messages have joined, and the records of the new ones, and no
+/// others, are pending; no id that it made has a line feed. The clock keeps its node, and is behind no
+/// message where it was behind none before.
+pub fn accepted_are_joined()
+    ensures { AcceptedAreJoined }
 {}
 
 /// A law: where the clock is not behind a message, a write of a value into a field that is accepted is
 /// one message under a timestamp that no message had, of the device's own node, at which the clock then
 /// stands. It joins the messages, is the latest of its field, so that the field has that value, and its
-/// record alone is pending. So a write is never lost
-/// to a message that came before it, whatever clock that message had.
+/// record alone is pending. So a write is never lost to a message that came before it, whatever clock that
+/// message had.
 pub fn edits_read_back()
     ensures { EditsReadBack }
+{}
+
+/// A law: where the clock is not behind a message, writes that are accepted are a message each, under
+/// timestamps of the device's own node with counters in a row, all later than where the clock stood; the
+/// clock stands at the last. They stand behind the messages of before, so that the set has grown by their
+/// number, and their records alone are pending. A field has the value of its last write, and one that is
+/// not written keeps its latest message. At most 65,536 writes are accepted, where the clock draws their
+/// timestamps; more are refused for their number, else they are refused for the fault of the clock. No
+/// writes are accepted and leave all as it was.
+pub fn writes_are_joined()
+    ensures { WritesAreJoined }
 {}
 
 /// A law: a write is accepted where its three names are names and the clock draws a timestamp, at
@@ -53,13 +51,6 @@ pub fn messages_are_answered()
 /// it is behind none now.
 pub fn received_are_joined()
     ensures { ReceivedAreJoined }
-{}
-
-/// A law: of messages that come, those that are new stand in the order in which they came; joining them
-/// alone joins all of them, and the join has one message more for each. So the count of an `incoming` says by how many messages the
-/// device has grown, and a timestamp that comes twice counts once.
-pub fn new_ones_are_added()
-    ensures { NewOnesAreAdded }
 {}
 
 /// A law: the timestamp by which a clock receives messages is that of one of them, and none of them
