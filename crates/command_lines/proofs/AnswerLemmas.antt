@@ -28,7 +28,7 @@ use Rattle.minute_trie.specs.Held.{IsMap}
 use Rattle.minute_trie.specs.Json.{trie_text}
 use Rattle.minute_trie.specs.Laws.{OrderIsFree, TriesAreMaps, TextsReadBack}
 use Rattle.minute_trie.specs.Trie.{trie_of, ArePairs}
-use Rattle.device_core.specs.Device.{pairs_of}
+use Rattle.kept_messages.specs.Pairs.{pairs_of}
 use Rattle.command_lines.specs.declared.reply.Reply.TheVariants.{Done}
 use Rattle.command_lines.specs.Answers.{AnswersTell, ListsLater, TellsTrie}
 use Rattle.command_lines.specs.Readings.{shown}

@@ -96,3 +96,9 @@ abbrev pub IsCommand : Command → Type 0
 IsCommand (Edit edit) = IsEdit edit
 IsCommand (Receive message) = IsMessage message
 IsCommand _ = Unit {0}
+
+-- a command that holds a text, which takes memory
+abbrev pub HoldsText : Command → Type 0
+HoldsText Fields = ⊥
+HoldsText Trie = ⊥
+HoldsText _ = Unit {0}

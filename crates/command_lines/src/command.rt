@@ -1,8 +1,8 @@
 //! The commands of lines.
-ghost use Rattle.std.specs.Prelude.{◌≡◌, ◌<◌, IfOk, IfErr, false};
+ghost use Rattle.std.specs.Prelude.{◌≡◌, ◌<◌, IfOk, IfErr, OnErr, false};
 ghost use Rattle.field_merge.specs.Lines.{parts};
 ghost use Rattle.command_lines.specs.declared.command.CommandFault.TheVariants.{NoMemory as OutOfMemory};
-ghost use Rattle.command_lines.specs.Commands.{set_words, receive_words, fields_words, messages_words, value_words, trie_words, line_words, is_too_long, command, IsRead, IsCommand};
+ghost use Rattle.command_lines.specs.Commands.{set_words, receive_words, fields_words, messages_words, value_words, trie_words, line_words, is_too_long, command, IsRead, IsCommand, HoldsText};
 ghost use Rattle.command_lines.specs.Unread.{command_of_unread, IsFaultOf, ReadsTextIn};
 
 use crate::words::{Words, cut_word};
@@ -26,6 +26,37 @@ pub enum Command {
     Value { dataset: Txt, row: Txt, column: Txt },
     /// `trie`: the JSON text of the trie of all messages.
     Trie,
+}
+
+impl Command {
+    /// An equal command.
+    pub fn copy(&self) -> Result<Command, NoMemory>
+        ensures value { IfOk result (λ command. command ≡ self.now) }
+
+        // A command without texts takes no memory, so it is always copied.
+        ensures memory { OnErr result (HoldsText self.now) }
+    {
+        match self {
+            Command::Edit(edit) => Ok(Command::Edit(edit.copy()?)),
+            Command::Receive { message } => Ok(Command::Receive {
+                message: message.copy()?,
+            }),
+            Command::Fields => Ok(Command::Fields),
+            Command::Messages { since } => Ok(Command::Messages {
+                since: since.copy()?,
+            }),
+            Command::Value {
+                dataset,
+                row,
+                column,
+            } => Ok(Command::Value {
+                dataset: dataset.copy()?,
+                row: row.copy()?,
+                column: column.copy()?,
+            }),
+            Command::Trie => Ok(Command::Trie),
+        }
+    }
 }
 
 /// Why a line is no command.

@@ -16,6 +16,3 @@ pub use laws::{
     receives_message_lines, replies_are_lines,
 };
 pub use reply::{Reply, added_reply, faulty_reply, refusal_reply, reply_text, wrote_reply};
-
-#[cfg(test)]
-mod tests;
