@@ -7,7 +7,7 @@ use Rattle.std.specs.Str.Parse.{AllDigits, signed_digits_value, starts_with_minu
 use Rattle.std.proofs.lemmas.Fmt.{decimal_is_IsNumeral}
 use Rattle.std.proofs.lemmas.Str.Parse.{digit_from_value}
 use Rattle.std.proofs.lemmas.Slice.Eq.{bytes_eq-Decides}
-use Rattle.std.proofs.lemmas.Bool.{and_parts, and_from, false≢true, ne_eqb}
+use Rattle.std.proofs.lemmas.Bool.{and_parts, false≢true, ne_eqb}
 use Rattle.std.proofs.lemmas.Int.{ints}
 use Rattle.command_lines.specs.Forms.{is_amount, amount_of, id_or_none}
 use Rattle.command_lines.specs.FormLaws.{id_text}

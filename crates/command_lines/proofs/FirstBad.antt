@@ -1,5 +1,5 @@
 -- The index that is told is that of the first word that is not of its form.
-use Rattle.std.proofs.Common.{◌≡◌, ℕ, suc, ◌+◌, ◌<◌, ◌≤◌, List, [], ◌∷◌, ◌++◌, length, map, take, Option, None, Some, inl, inr, Result, Ok, Err, refl, ap, sym, subst, ◌∙◌, arith}
+use Rattle.std.proofs.Common.{◌≡◌, ℕ, suc, ◌+◌, ◌<◌, ◌≤◌, List, [], ◌∷◌, ◌++◌, length, map, take, Option, None, Some, inl, inr, Ok, Err, refl, ap, sym, subst, ◌∙◌, arith}
 use Rattle.std.specs.Prelude.{codes}
 use Rattle.field_merge.specs.Escapes.{escaped, unescaped, bad_escape}
 use Rattle.command_lines.specs.declared.command.Command.{Command}
@@ -36,7 +36,7 @@ step : (wanted : Wanted) (w : List ℕ) (ws : List (List ℕ)) (last index : ℕ
     → (IsForm reached → Told reached ws (last + 1) index) → command_of reached (last + 1) ws ≡ Err index → Told wanted (w ∷ ws) last index
 step wanted w ws last index reached form on e rest read =
     let same : (l : ℕ) (more : List (List ℕ)) → command_of wanted l (w ∷ more) ≡ command_of reached (l + 1) more =
-        λ l more. at_word wanted l w more form ∙ ap (λ r. command_of r (l + 1) more) e in
+    λ l more. at_word wanted l w more form ∙ ap (λ r. command_of r (l + 1) more) e in
     elim (form_or_misfit reached) [
       | inl none ↦
           let stop : last + 1 ≡ index = let told : command_of misfit (last + 1) ws ≡ Err index = ap (λ r. command_of r (last + 1) ws) (sym none) ∙ read in cc in (

@@ -78,13 +78,22 @@ value_opens : Opens value_words
 value_opens = open_word _ (λ d. open_word _ (λ r. open_word _ (λ c. open_end _)))
 
 field_lines_are : AreKnown field_lines
-field_lines_are =
-    (record { good = refl; plain = refl; form = tt; goes = set_opens.1; tells = set_tells },
-    (record { good = refl; plain = refl; form = tt; goes = receive_opens.1; tells = receive_tells },
-    (record { good = refl; plain = refl; form = tt; goes = tt; tells = record { same = refl; valid = tt } },
-    (record { good = refl; plain = refl; form = tt; goes = messages_opens.1; tells = λ since. record { same = refl; valid = tt } },
-    (record { good = refl; plain = refl; form = tt; goes = value_opens.1; tells = λ d r c. record { same = refl; valid = tt } },
-    (record { good = refl; plain = refl; form = tt; goes = tt; tells = record { same = refl; valid = tt } }, tt))))))
+field_lines_are = (
+  record { good = refl; plain = refl; form = tt; goes = set_opens.1; tells = set_tells },
+  (
+    record { good = refl; plain = refl; form = tt; goes = receive_opens.1; tells = receive_tells },
+    (
+      record { good = refl; plain = refl; form = tt; goes = tt; tells = record { same = refl; valid = tt } },
+      (
+        record { good = refl; plain = refl; form = tt; goes = messages_opens.1; tells = λ since. record { same = refl; valid = tt } },
+        (
+          record { good = refl; plain = refl; form = tt; goes = value_opens.1; tells = λ d r c. record { same = refl; valid = tt } },
+          (record { good = refl; plain = refl; form = tt; goes = tt; tells = record { same = refl; valid = tt } }, tt),
+        ),
+      ),
+    ),
+  ),
+)
 
 -- ---- all lines
 

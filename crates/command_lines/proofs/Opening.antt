@@ -1,14 +1,13 @@
 -- What is wanted of the words of a line can be given.
-use Rattle.std.proofs.Common.{◌≡◌, ◌≢◌, ℕ, Bool, true, false, List, [], ◌∷◌, ◌++◌, Option, None, Some, Result, Ok, Err, refl, subst, sym, arith, pos, ℤ}
+use Rattle.std.proofs.Common.{◌≢◌, ℕ, Bool, true, false, List, [], ◌∷◌, ◌++◌, Option, None, Some, Result, Ok, Err, refl, subst, sym, arith, pos, ℤ}
 use Rattle.std.specs.Prelude.{codes, if◌then◌else◌}
-use Rattle.std.specs.List.{flat_map}
 use Rattle.hybrid_clock.specs.declared.stamp.Stamp.{Stamp}
 use Rattle.hybrid_clock.specs.declared.stamp.StampFault.{StampFault}
 use Rattle.hybrid_clock.specs.Stamp.{IsStamp, stamp_text}
 use Rattle.hybrid_clock.specs.Reading.{read_stamp}
 use Rattle.hybrid_clock.proofs.Writing.{text_reads}
 use Rattle.command_lines.specs.declared.command.Command.{Command}
-use Rattle.command_lines.specs.Forms.{Share, Wanted, no_more, word, may_end, some_texts, some_shares, misfit, is_name, of_stamp, stamp_word, name_word, of_amount, amount_of, id_or_none, ends, behind}
+use Rattle.command_lines.specs.Forms.{Share, Wanted, no_more, word, may_end, some_texts, some_shares, misfit, is_name, of_stamp, stamp_word, name_word, of_amount, amount_of, id_or_none, behind}
 use Rattle.command_lines.specs.FormLaws.{share_texts}
 use Rattle.command_lines.proofs.FormLemmas.{IsForm, Makes}
 use Rattle.command_lines.proofs.RepeatLemmas.{some_made, texts_make, shares_make}
@@ -96,5 +95,5 @@ pub open_stamp : (next : Stamp → Wanted) → ((s : Stamp) → Opens (next s)) 
 open_stamp next h =
     let first = (h first_stamp).0 in
     let end : CanEnd (stamp_word next) =
-        (stamp_text first_stamp ∷ first.0, first.1, subst (λ read. Makes (of_stamp next read) first.0 first.1) (sym (text_reads first_stamp first_stamp_is)) first.2) in
+    (stamp_text first_stamp ∷ first.0, first.1, subst (λ read. Makes (of_stamp next read) first.0 first.1) (sym (text_reads first_stamp first_stamp_is)) first.2) in
     (end, (end, λ text. on_stamp next (read_stamp text) (λ s. (h s).1)))

@@ -1,5 +1,5 @@
 -- A line that is read as a command is the line of the command, but for the bytes that stand in it without their escape.
-use Rattle.std.proofs.Common.{◌≡◌, ℕ, ◌+◌, Bool, true, false, cond, List, [], ◌∷◌, ◌++◌, map, inl, inr, Result, Ok, Err, ap, sym, subst, ◌∙◌}
+use Rattle.std.proofs.Common.{◌≡◌, ℕ, Bool, true, false, cond, List, [], ◌∷◌, map, inl, inr, Result, Ok, Err, ap, sym, subst, ◌∙◌}
 use Rattle.std.specs.Prelude.{nat_lt, length}
 use Rattle.std.specs.List.{join_with_byte, AllByRecursion}
 use Rattle.field_merge.specs.Escapes.{escaped, unescaped}

@@ -1,14 +1,14 @@
 -- What words that repeat, or that may be left out, are read as.
-use Rattle.std.proofs.Common.{◌≡◌, ◌≢◌, ℕ, ◌+◌, List, [], ◌∷◌, ◌++◌, map, true, Option, None, Some, ◌⊎◌, inl, inr, Result, Ok, Err, refl, ap, sym, subst, ◌∙◌, append_assoc, ℤ}
+use Rattle.std.proofs.Common.{◌≡◌, ◌≢◌, ℕ, List, [], ◌∷◌, ◌++◌, map, Option, None, Some, ◌⊎◌, inl, inr, Ok, refl, ap, sym, subst, ◌∙◌, append_assoc, ℤ}
 use Rattle.std.specs.List.{flat_map, AllByRecursion}
 use Rattle.std.specs.Fmt.{signed_decimal}
 use Rattle.std.proofs.lemmas.List.{append-nil}
 use Rattle.field_merge.specs.Escapes.{unescaped}
 use Rattle.command_lines.specs.declared.command.Command.{Command}
-use Rattle.command_lines.specs.Forms.{Share, Wanted, word, may_end, some_texts, some_shares, of_amount, amount_of, id_or_none, of_some, ends, behind, command_of}
-use Rattle.command_lines.specs.FormLaws.{AreWordsOf, id_text, share_texts, IsShare, MakesOfTexts, MakesOfShares, FormsAreRead}
+use Rattle.command_lines.specs.Forms.{Share, Wanted, word, may_end, some_texts, some_shares, of_amount, amount_of, id_or_none, of_some, command_of}
+use Rattle.command_lines.specs.FormLaws.{id_text, share_texts, IsShare, MakesOfTexts, MakesOfShares, FormsAreRead}
 use Rattle.command_lines.proofs.Amounts.{amount_back, amount_written, id_back, id_written}
-use Rattle.command_lines.proofs.FormLemmas.{Makes, makes_none, makes_read, read_makes, at_end, at_word}
+use Rattle.command_lines.proofs.FormLemmas.{Makes, makes_none, makes_read, read_makes}
 
 module _ {A : Type 0} (made : List A → Command) where
   -- one or more have the command

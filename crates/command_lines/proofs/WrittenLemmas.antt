@@ -5,7 +5,7 @@ use Rattle.std.specs.List.{join_with_byte}
 use Rattle.std.proofs.lemmas.Bool.{le-ltb}
 use Rattle.field_values.specs.declared.name.NamePart.TheVariants.{Dataset}
 use Rattle.field_values.specs.Names.{IsName, field_of}
-use Rattle.field_values.specs.Value.{value_text, value_of}
+use Rattle.field_values.specs.Value.{value_text}
 use Rattle.field_values.proofs.NameLemmas.{name_fault-none}
 use Rattle.field_values.proofs.Values.{values_read_back_lem}
 use Rattle.hybrid_clock.specs.declared.stamp.Stamp.{Stamp}
@@ -21,7 +21,7 @@ use Rattle.device_core.specs.declared.edit.Edit.TheVariants.{Book}
 use Rattle.device_core.specs.declared.edit.BookEdit.TheVariants.{Set}
 use Rattle.command_lines.specs.declared.command.Command.{Command}
 use Rattle.command_lines.specs.declared.command.Command.TheVariants.{Edit, Receive, Fields, Messages, Value, Trie}
-use Rattle.command_lines.specs.Forms.{Wanted, word, no_more, misfit, of_stamp, stamp_word, name_word, command_of}
+use Rattle.command_lines.specs.Forms.{Wanted, word, no_more, misfit, of_stamp, stamp_word, name_word}
 use Rattle.command_lines.specs.Commands.{line_words, of_words, longest_line, IsCommand}
 use Rattle.command_lines.specs.Written.{command_line, CommandsReadBack}
 use Rattle.command_lines.proofs.FormLemmas.{Makes, makes_written}
