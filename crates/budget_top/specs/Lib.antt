@@ -17,3 +17,4 @@ pub mod Handling
 pub mod Standing
 pub mod DeviceRun
 pub mod DeviceSteps
+pub mod Valid

@@ -6,3 +6,4 @@
 mod device;
 #[cfg(test)]
 mod kept;
+mod lines;
