@@ -1,0 +1,89 @@
+//! The reply to a request.
+ghost use Rattle.std.specs.Prelude.{◌≡◌, ◌≢◌, ◌≤◌, length, true, IfOk, IfErr, None};
+ghost use Rattle.field_merge.specs.Messages.{AreMessages};
+ghost use Rattle.sync_wire.specs.declared.fault.WireFault.TheVariants.{NoMemory as OutOfMemory};
+ghost use Rattle.sync_wire.specs.declared.layout.Layout.TheVariants as layouts;
+ghost use Rattle.sync_wire.specs.Reading.{Gives, answer};
+ghost use Rattle.sync_wire.specs.Fields.{tagged_of, payload_of, IsPlaced};
+ghost use Rattle.sync_wire.specs.Spelling.{BeginsWithKept};
+ghost use Rattle.sync_wire.specs.Wire.{response_check, response_kept, response_at, IsResponse, IsResponseFault};
+ghost use Rattle.sync_wire.specs.Gather.{with_response_field};
+
+use crate::envelope::{envelope_at, no_messages, pushed};
+use crate::fault::WireFault;
+use crate::fields::{Field, Held, field_at};
+use crate::layout::Layout;
+use crate::text::{no_text, text_of};
+use field_merge::Message;
+use field_values::{Items, Txt};
+use std::alloc::Global;
+
+/// What the server replies.
+#[derive(Debug, Drop)]
+pub struct SyncResponse {
+    /// The messages that the device asked for, which are those of the envelopes that are not encrypted.
+    pub messages: Items<Message>,
+    /// Whether an envelope is encrypted. Such a reply can be read, and cannot be written.
+    pub encrypted: bool,
+    /// The text of the trie of all messages that the server has.
+    pub merkle: Txt,
+}
+
+/// The reply with what the field says.
+fn take_field(
+    alloc: Global,
+    mut response: SyncResponse,
+    field: Field<'_>,
+) -> Result<SyncResponse, WireFault>
+    requires placed { IsPlaced (payload_of field.content) }
+    requires valid { AreMessages response.messages }
+    ensures value { Gives (λ r. r) result (answer (response_check (tagged_of field.entry)) (with_response_field response (tagged_of field.entry))) }
+    ensures valid { IfOk result (λ r. AreMessages r.messages) }
+    ensures memory { IfErr result (λ e. e ≡ OutOfMemory → response_check (tagged_of field.entry) ≡ None) }
+    ensures kept { IfErr result (λ e. e ≡ OutOfMemory → response_kept field.entry.number ≡ true) }
+{
+    if let Held::Bytes { end, bytes } = field.content {
+        if field.number == 1 {
+            match envelope_at(alloc, end, bytes)? {
+                Some(message) => response.messages = pushed(response.messages, message)?,
+                None => response.encrypted = true,
+            }
+        } else if field.number == 2 {
+            response.merkle = text_of(alloc, end, bytes)?;
+        }
+    }
+    Ok(response)
+}
+
+/// The reply that the bytes spell.
+fn response_at(alloc: Global, end: usize, bytes: &[u8]) -> Result<SyncResponse, WireFault>
+    requires { length bytes.now ≤ end }
+    ensures value { Gives (λ r. r) result (response_at end bytes.now) }
+    ensures valid { IfOk result (λ r. AreMessages r.messages) }
+    ensures memory { IfErr result (λ e. e ≡ OutOfMemory → BeginsWithKept response_check response_kept layouts.Response end bytes.now) }
+{
+    let mut response = SyncResponse {
+        messages: no_messages(alloc),
+        encrypted: false,
+        merkle: no_text(alloc),
+    };
+    let mut rest = bytes;
+    'fields: while !rest.is_empty() {
+        let (field, after) = field_at(Layout::Response, end, rest)?;
+        response = take_field(alloc, response, field)?;
+        rest = after;
+    }
+    Ok(response)
+}
+
+/// The reply that the bytes mean, or their first fault in reading order.
+pub fn read_response(alloc: Global, bytes: &[u8]) -> Result<SyncResponse, WireFault>
+    ensures found { IfOk result (IsResponse bytes.now) }
+    ensures valid { IfOk result (λ r. AreMessages r.messages) }
+    ensures fault { IfErr result (λ e. e ≢ OutOfMemory → IsResponseFault bytes.now e) }
+
+    // A fault is told before memory is taken for the field in which it is.
+    ensures memory { IfErr result (λ e. e ≡ OutOfMemory → BeginsWithKept response_check response_kept layouts.Response (length bytes.now) bytes.now) }
+{
+    response_at(alloc, bytes.len(), bytes)
+}
