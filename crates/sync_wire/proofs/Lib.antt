@@ -5,3 +5,8 @@ pub mod Spelled
 pub mod Steps
 pub mod Kept
 pub mod Totals
+pub mod Numbers
+pub mod Written
+pub mod Codec
+pub mod Envelopes
+pub mod Bodies

@@ -6,3 +6,5 @@ pub mod Spelling
 pub mod Envelope
 pub mod Wire
 pub mod Gather
+pub mod Canon
+pub mod Laws

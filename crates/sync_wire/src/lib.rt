@@ -10,9 +10,10 @@ mod message;
 mod request;
 mod response;
 mod text;
+mod writing;
 
 pub use fault::WireFault;
 pub use layout::Layout;
-pub use message::read_message;
-pub use request::{SyncRequest, read_request};
-pub use response::{SyncResponse, read_response};
+pub use message::{read_message, write_message};
+pub use request::{SyncRequest, read_request, write_request};
+pub use response::{SyncResponse, read_response, write_response};

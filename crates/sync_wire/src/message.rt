@@ -4,11 +4,14 @@ ghost use Rattle.hybrid_clock.specs.Stamp.{IsStamp};
 ghost use Rattle.field_merge.specs.declared.message.Message.{Message};
 ghost use Rattle.field_merge.specs.Messages.{IsMessage};
 ghost use Rattle.sync_wire.specs.declared.fault.WireFault.TheVariants.{NoMemory as OutOfMemory};
+ghost use Rattle.sync_wire.specs.Canon.{content_bytes};
 ghost use Rattle.sync_wire.specs.Wire.{IsMessageContent, IsContentFault};
 
 use crate::content::{content_at, message_from};
 use crate::fault::WireFault;
+use crate::writing::{content_of, fits};
 use field_merge::Message;
+use field_values::{Items, NoMemory};
 use hybrid_clock::Stamp;
 use std::alloc::Global;
 
@@ -25,4 +28,15 @@ pub fn read_message(alloc: Global, stamp: &Stamp, bytes: &[u8]) -> Result<Messag
 {
     let texts = content_at(bytes.len(), bytes)?;
     message_from(alloc, 0, *stamp, texts)
+}
+
+/// The content of a message, without its timestamp, in its one spelling: it reads back as the message.
+pub fn write_message(alloc: Global, message: &Message) -> Result<Items<u8>, NoMemory>
+    requires { IsMessage message.now }
+    ensures bytes { IfOk result (λ b. b ≡ content_bytes message.now) }
+    ensures meaning { IfOk result (λ b. IsMessageContent message.now.stamp b message.now) }
+{
+    let bytes = content_of(alloc, message)?;
+    fits(&bytes);
+    Ok(Items::new(bytes))
 }

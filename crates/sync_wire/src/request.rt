@@ -1,5 +1,5 @@
 //! A request.
-ghost use Rattle.std.specs.Prelude.{◌≡◌, ◌≢◌, ◌≤◌, length, true, IfOk, IfErr, None};
+ghost use Rattle.std.specs.Prelude.{◌≡◌, ◌≢◌, ◌≤◌, ◌<◌, length, true, false, IfOk, OnErr, IfErr, None};
 ghost use Rattle.field_merge.specs.Messages.{AreMessages};
 ghost use Rattle.sync_wire.specs.declared.fault.WireFault.TheVariants.{NoMemory as OutOfMemory};
 ghost use Rattle.sync_wire.specs.declared.layout.Layout.TheVariants as layouts;
@@ -7,6 +7,8 @@ ghost use Rattle.sync_wire.specs.Reading.{Gives, answer};
 ghost use Rattle.sync_wire.specs.Fields.{tagged_of, payload_of, IsPlaced};
 ghost use Rattle.sync_wire.specs.Spelling.{BeginsWithKept};
 ghost use Rattle.sync_wire.specs.Wire.{request_check, request_kept, request_at, IsRequest, IsRequestFault};
+ghost use Rattle.sync_wire.specs.Canon.{request_bytes};
+ghost use Rattle.sync_wire.specs.Laws.{RequestTexts};
 ghost use Rattle.sync_wire.specs.Gather.{with_request_field};
 
 use crate::envelope::{envelope_at, no_messages, pushed};
@@ -14,8 +16,9 @@ use crate::fault::WireFault;
 use crate::fields::{Field, Held, field_at};
 use crate::layout::Layout;
 use crate::text::{no_text, text_of};
+use crate::writing::{fits, put_messages, put_text};
 use field_merge::Message;
-use field_values::{Items, Txt};
+use field_values::{Items, NoMemory, Txt};
 use std::alloc::Global;
 
 /// What a device asks of the server.
@@ -96,4 +99,34 @@ pub fn read_request(alloc: Global, bytes: &[u8]) -> Result<SyncRequest, WireFaul
     ensures memory { IfErr result (λ e. e ≡ OutOfMemory → BeginsWithKept request_check request_kept layouts.Request (length bytes.now) bytes.now) }
 {
     request_at(alloc, bytes.len(), bytes)
+}
+
+/// The bytes of a request.
+fn request_bytes(alloc: Global, request: &SyncRequest) -> Result<Vec<u8>, NoMemory>
+    requires { AreMessages request.now.messages }
+    ensures bytes { IfOk result (λ v. v.items ≡ request_bytes request.now) }
+    ensures texts { IfOk result (λ _. RequestTexts request.now) }
+    ensures memory { OnErr result (0 < length (request_bytes request.now)) }
+{
+    let mut out = Vec::new(alloc);
+    put_messages(alloc, &mut out, request.messages.as_slice())?;
+    put_text(&mut out, 2, request.file.bytes())?;
+    put_text(&mut out, 3, request.group.bytes())?;
+    put_text(&mut out, 6, request.since.bytes())?;
+    Ok(out)
+}
+
+/// A request in its one spelling: it reads back as the request.
+pub fn write_request(alloc: Global, request: &SyncRequest) -> Result<Items<u8>, NoMemory>
+    requires plain { request.now.encrypted ≡ false }
+    requires valid { AreMessages request.now.messages }
+    ensures bytes { IfOk result (λ b. b ≡ request_bytes request.now) }
+    ensures meaning { IfOk result (λ b. IsRequest b request.now) }
+
+    // Where nothing is to be written, no memory is taken.
+    ensures memory { OnErr result (0 < length (request_bytes request.now)) }
+{
+    let bytes = request_bytes(alloc, request)?;
+    fits(&bytes);
+    Ok(Items::new(bytes))
 }

@@ -1,5 +1,5 @@
 //! The reply to a request.
-ghost use Rattle.std.specs.Prelude.{◌≡◌, ◌≢◌, ◌≤◌, length, true, IfOk, IfErr, None};
+ghost use Rattle.std.specs.Prelude.{◌≡◌, ◌≢◌, ◌≤◌, ◌<◌, length, true, false, IfOk, OnErr, IfErr, None};
 ghost use Rattle.field_merge.specs.Messages.{AreMessages};
 ghost use Rattle.sync_wire.specs.declared.fault.WireFault.TheVariants.{NoMemory as OutOfMemory};
 ghost use Rattle.sync_wire.specs.declared.layout.Layout.TheVariants as layouts;
@@ -7,6 +7,8 @@ ghost use Rattle.sync_wire.specs.Reading.{Gives, answer};
 ghost use Rattle.sync_wire.specs.Fields.{tagged_of, payload_of, IsPlaced};
 ghost use Rattle.sync_wire.specs.Spelling.{BeginsWithKept};
 ghost use Rattle.sync_wire.specs.Wire.{response_check, response_kept, response_at, IsResponse, IsResponseFault};
+ghost use Rattle.sync_wire.specs.Canon.{response_bytes};
+ghost use Rattle.sync_wire.specs.Laws.{ResponseTexts};
 ghost use Rattle.sync_wire.specs.Gather.{with_response_field};
 
 use crate::envelope::{envelope_at, no_messages, pushed};
@@ -14,8 +16,9 @@ use crate::fault::WireFault;
 use crate::fields::{Field, Held, field_at};
 use crate::layout::Layout;
 use crate::text::{no_text, text_of};
+use crate::writing::{fits, put_messages, put_text};
 use field_merge::Message;
-use field_values::{Items, Txt};
+use field_values::{Items, NoMemory, Txt};
 use std::alloc::Global;
 
 /// What the server replies.
@@ -86,4 +89,32 @@ pub fn read_response(alloc: Global, bytes: &[u8]) -> Result<SyncResponse, WireFa
     ensures memory { IfErr result (λ e. e ≡ OutOfMemory → BeginsWithKept response_check response_kept layouts.Response (length bytes.now) bytes.now) }
 {
     response_at(alloc, bytes.len(), bytes)
+}
+
+/// The bytes of a reply.
+fn response_bytes(alloc: Global, response: &SyncResponse) -> Result<Vec<u8>, NoMemory>
+    requires { AreMessages response.now.messages }
+    ensures bytes { IfOk result (λ v. v.items ≡ response_bytes response.now) }
+    ensures texts { IfOk result (λ _. ResponseTexts response.now) }
+    ensures memory { OnErr result (0 < length (response_bytes response.now)) }
+{
+    let mut out = Vec::new(alloc);
+    put_messages(alloc, &mut out, response.messages.as_slice())?;
+    put_text(&mut out, 2, response.merkle.bytes())?;
+    Ok(out)
+}
+
+/// A reply in its one spelling: it reads back as the reply.
+pub fn write_response(alloc: Global, response: &SyncResponse) -> Result<Items<u8>, NoMemory>
+    requires plain { response.now.encrypted ≡ false }
+    requires valid { AreMessages response.now.messages }
+    ensures bytes { IfOk result (λ b. b ≡ response_bytes response.now) }
+    ensures meaning { IfOk result (λ b. IsResponse b response.now) }
+
+    // Where nothing is to be written, no memory is taken.
+    ensures memory { OnErr result (0 < length (response_bytes response.now)) }
+{
+    let bytes = response_bytes(alloc, response)?;
+    fits(&bytes);
+    Ok(Items::new(bytes))
 }
