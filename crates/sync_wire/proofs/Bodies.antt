@@ -15,6 +15,7 @@ use Rattle.sync_wire.specs.Reading.{fault_of}
 use Rattle.sync_wire.specs.Layouts.{allows}
 use Rattle.sync_wire.specs.Fields.{Tagged}
 use Rattle.sync_wire.specs.Envelope.{Written, content_check, content_of, content_at, message_from, envelope_at}
+use Rattle.sync_wire.specs.Spelling.{Means}
 use Rattle.sync_wire.specs.Wire.{envelope_fault, request_check, request_of, request_at, response_check, response_of, response_at, IsRequest, IsResponse, IsMessageContent}
 use Rattle.sync_wire.specs.Gather.{with_request_field, with_response_field}
 use Rattle.sync_wire.specs.Canon.{text_field, bytes_field, Parts, envelope_spelled, envelope_field, content_spelled, written_of, parts_of, content_bytes, message_field, request_bytes, response_bytes}
@@ -169,3 +170,72 @@ response_reads_back x plain valid has wide =
 pub content_reads_back : (m : Message) → IsMessage m → HasTexts m → length (content_bytes m) < 2 ^ 64 → IsMessageContent m.stamp (content_bytes m) m
 content_reads_back m valid has wide =
     (written_of m, content_meant (content_bytes m) (written_of m) (content_read (length (content_bytes m)) (written_of m) wide (omega arith) has.dataset has.row has.column has.value), message_again 0 m valid)
+
+-- ---- what is read of the one spelling is written so again
+
+abbrev asked : SyncRequest → Result SyncRequest WireFault
+asked x = Ok x
+
+same_asked : (x y : SyncRequest) → asked x ≡ asked y → x ≡ y
+same_asked x y e = cc
+
+abbrev request_spelled : List Parts → List ℕ → List ℕ → List ℕ → List ℕ
+request_spelled ps f g s = flat_map envelope_field ps ++ (text_field 2 f ++ (text_field 3 g ++ text_field 6 s))
+
+request_is_read : (bytes : List ℕ) (x : SyncRequest) → IsRequest bytes x → request_at (length bytes) bytes ≡ Ok x
+unfolding request_at
+request_is_read bytes x w = is_read request_check layouts.Request request_of (length bytes) bytes x w
+
+pub request_writes_back : (ps : List Parts) (f g s : List ℕ) (x : SyncRequest) → length (request_spelled ps f g s) < 2 ^ 64 → IsRequest (request_spelled ps f g s) x
+    → (x.encrypted ≡ false) × (request_bytes x ≡ request_spelled ps f g s)
+request_writes_back ps f g s x wide w =
+    let bytes = request_spelled ps f g s in
+    let end = length bytes in
+    let total = request_at end bytes in
+    let ok = request_is_read bytes x w in
+    let at0 = request_begin end bytes [] [] [] [] (omega arith) refl refl refl refl in
+    let found = envelopes_back request_check with_request_field layouts.Request (λ ms. request ms [] [] []) end total x request_takes [] ps (text_field 2 f ++ (text_field 3 g ++ text_field 6 s)) wide ok at0 in
+    let fine = λ (t : List ℕ). fine_of_ok request_check with_request_field layouts.Request end total t x wide ok in
+    let made = request_texts end found.0 f g s total wide (fine f) (fine g) (fine s) found.2 in
+    let same : x ≡ request found.0 f g s = same_asked x _ (sym ok ∙ made) in
+    let again = found.1 in
+    rw same (refl, rw again refl)
+
+abbrev replied : SyncResponse → Result SyncResponse WireFault
+replied x = Ok x
+
+same_replied : (x y : SyncResponse) → replied x ≡ replied y → x ≡ y
+same_replied x y e = cc
+
+abbrev response_spelled : List Parts → List ℕ → List ℕ
+response_spelled ps t = flat_map envelope_field ps ++ text_field 2 t
+
+response_is_read : (bytes : List ℕ) (x : SyncResponse) → IsResponse bytes x → response_at (length bytes) bytes ≡ Ok x
+unfolding response_at
+response_is_read bytes x w = is_read response_check layouts.Response response_of (length bytes) bytes x w
+
+pub response_writes_back : (ps : List Parts) (t : List ℕ) (x : SyncResponse) → length (response_spelled ps t) < 2 ^ 64 → IsResponse (response_spelled ps t) x
+    → (x.encrypted ≡ false) × (response_bytes x ≡ response_spelled ps t)
+response_writes_back ps t x wide w =
+    let bytes = response_spelled ps t in
+    let end = length bytes in
+    let total = response_at end bytes in
+    let ok = response_is_read bytes x w in
+    let at0 = response_begin end bytes [] [] (omega arith) refl refl in
+    let found = envelopes_back response_check with_response_field layouts.Response (λ ms. response ms []) end total x response_takes [] ps (text_field 2 t) wide ok at0 in
+    let made = response_texts end found.0 t total wide (fine_of_ok response_check with_response_field layouts.Response end total t x wide ok) found.2 in
+    let same : x ≡ response found.0 t = same_replied x _ (sym ok ∙ made) in
+    let again = found.1 in
+    rw same (refl, rw again refl)
+
+content_is_read : (bytes : List ℕ) (w : Written) → Means content_check layouts.Content content_of (length bytes) bytes w → content_at (length bytes) bytes ≡ Ok w
+unfolding content_at
+content_is_read bytes w h = is_read content_check layouts.Content content_of (length bytes) bytes w h
+
+pub content_writes_back : (stamp : Stamp) (v : Written) (m : Message) → length (content_spelled v) < 2 ^ 64 → IsMessageContent stamp (content_spelled v) m
+    → (m.stamp ≡ stamp) × (content_bytes m ≡ content_spelled v)
+content_writes_back stamp v m wide h =
+    let bytes = content_spelled v in
+    let same = content_back (length bytes) v h.0 wide (omega arith) (content_is_read bytes h.0 h.1) in
+    let said = message_said 0 stamp h.0 m h.2 in
+    (said.0, ap content_spelled (said.1 ∙ same))

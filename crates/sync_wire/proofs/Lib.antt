@@ -10,3 +10,5 @@ pub mod Written
 pub mod Codec
 pub mod Envelopes
 pub mod Bodies
+pub mod Readings
+pub mod Plain

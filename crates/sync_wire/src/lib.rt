@@ -5,6 +5,7 @@ mod content;
 mod envelope;
 mod fault;
 mod fields;
+mod laws;
 mod layout;
 mod message;
 mod request;
@@ -13,6 +14,9 @@ mod text;
 mod writing;
 
 pub use fault::WireFault;
+pub use laws::{
+    bytes_are_read, envelopes_are_read, numbers_are_short, plain_writes_back, written_read_back,
+};
 pub use layout::Layout;
 pub use message::{read_message, write_message};
 pub use request::{SyncRequest, read_request, write_request};
