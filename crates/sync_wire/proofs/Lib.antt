@@ -12,3 +12,4 @@ pub mod Envelopes
 pub mod Bodies
 pub mod Readings
 pub mod Plain
+pub mod Causes

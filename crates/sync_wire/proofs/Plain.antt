@@ -1,5 +1,6 @@
 -- Bytes of the one spelling.
 use Rattle.std.proofs.Common.{◌≡◌, ◌⊎◌, inl, inr, ℕ, zero, suc, ◌+◌, ◌-◌, ◌*◌, ◌/◌, ◌%◌, ◌^◌, ◌<◌, ◌≤◌, false, List, [], ◌∷◌, ◌++◌, length, All, refl, sym, ap, subst, ◌∙◌, arith}
+use Rattle.std.proofs.lemmas.List.Elements.{recursion_from_All}
 use Rattle.std.specs.List.{AllByRecursion}
 use Rattle.std.proofs.lemmas.Bool.{cases_lt, lt-ltb, le-ltb}
 use Rattle.std.proofs.Math.Nat.{pow-succ'}
@@ -73,17 +74,13 @@ within_one (suc k) (b ∷ bs) n a (inr s) small e =
           rw (le-ltb n 128 ge, high, low) (ap (λ (x : List ℕ). b ∷ x) deep)
     ]
 
-all_bytes : (text : List ℕ) → All IsByte text → AllByRecursion IsByte text
-all_bytes [] h = tt
-all_bytes (b ∷ bs) h = (h 0 0 (omega arith), all_bytes bs (λ k d p. h (suc k) d (omega arith)))
-
 numbers_fewest : (text : List ℕ) (n : ℕ) → All IsByte text → IsNumber text n → length (number_bytes n) ≤ length text
 unfolding number_bytes
-numbers_fewest text n a s = within_fewest 9 text n (all_bytes text a) s.spells
+numbers_fewest text n a s = within_fewest 9 text n (recursion_from_All IsByte text a) s.spells
 
 numbers_one : (text : List ℕ) (n : ℕ) → All IsByte text → IsNumber text n → length text ≡ length (number_bytes n) → text ≡ number_bytes n
 unfolding number_bytes
-numbers_one text n a s e = let fits = s.fits in within_one 9 text n (all_bytes text a) s.spells (omega arith) e
+numbers_one text n a s e = let fits = s.fits in within_one 9 text n (recursion_from_All IsByte text a) s.spells (omega arith) e
 
 pub numbers_short : NumbersAreShort
 numbers_short = record { spelled = number_is; fewest = numbers_fewest; one = numbers_one }

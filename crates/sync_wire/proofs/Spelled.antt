@@ -102,7 +102,7 @@ digit_takes k b bs n rest r false deeper t h =
     subst (λ (y : ℕ × List ℕ). Took (suc k) (b ∷ bs) y.0 y.1) (ok_is made wanted a.2)
     (b ∷ deep.0, ap (λ (x : List ℕ). b ∷ x) deep.1, inr (a.0.0, ltb-false b 128 t, refl, deep.2), omega arith)
 
-digits_takes : (at end k : ℕ) (bytes : List ℕ) (n : ℕ) (rest : List ℕ) → digits at end k bytes ≡ Ok (n, rest) → Took k bytes n rest
+pub digits_takes : (at end k : ℕ) (bytes : List ℕ) (n : ℕ) (rest : List ℕ) → digits at end k bytes ≡ Ok (n, rest) → Took k bytes n rest
 unfolding digits
 digits_takes at end zero bytes n rest e = absurd cc
 digits_takes at end (suc k) [] n rest e = absurd cc
@@ -188,7 +188,7 @@ type_allowed false (Some w) kind is a p q r =
     let e = eqb-true kind w a in
     elim is [ inl h ↦ absurd (p0 (e ∙ h)) | inr h ↦ absurd (q0 (e ∙ h)) ]
 
-kind_allowed : (layout : Layout) (number kind : ℕ) → allows layout number kind ≡ true → (eqb kind 0 ≡ false) → (eqb kind 2 ≡ false) → (eqb kind 1 ≡ false) → kind ≡ 5
+pub kind_allowed : (layout : Layout) (number kind : ℕ) → allows layout number kind ≡ true → (eqb kind 0 ≡ false) → (eqb kind 2 ≡ false) → (eqb kind 1 ≡ false) → kind ≡ 5
 kind_allowed layout number kind a = type_allowed (eqb number 0) (wanted_type layout number) kind (wanted_is layout number) a
 
 body_by : (kind end : ℕ) (bytes : List ℕ) (p : Payload) (rest : List ℕ) (t0 t2 t1 : Bool) → eqb kind 0 ≡ t0 → eqb kind 2 ≡ t2 → eqb kind 1 ≡ t1

@@ -8,3 +8,4 @@ pub mod Wire
 pub mod Gather
 pub mod Canon
 pub mod Laws
+pub mod Causes

@@ -1,4 +1,5 @@
 //! Facts about all bytes and all messages, which a proof can call for.
+ghost use Rattle.sync_wire.specs.Causes.{FaultsHaveCauses};
 ghost use Rattle.sync_wire.specs.Laws.{BytesAreRead, EnvelopesAreRead, WrittenReadBack, PlainWritesBack, NumbersAreShort};
 
 /// A law: any bytes mean one request or have one first fault as a request, and not both. The same holds of replies, and of
@@ -26,4 +27,10 @@ pub fn plain_writes_back()
 /// A law: a number is written in the fewest bytes that spell it, and no other bytes of that length spell it.
 pub fn numbers_are_short()
     ensures { NumbersAreShort }
+{}
+
+/// A law: a fault that is told where a field should stand has its cause: a number that breaks off, is too long or too large, a
+/// tag that the message doesn't allow, or a content that is not there whole; and its place is that of the cause.
+pub fn faults_have_causes()
+    ensures { FaultsHaveCauses }
 {}
