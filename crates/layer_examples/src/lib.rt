@@ -10,3 +10,4 @@ mod messages;
 mod tries;
 #[cfg(test)]
 mod values;
+mod wire;

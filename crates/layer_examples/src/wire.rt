@@ -1,0 +1,193 @@
+//! The wire format of a sync. The bytes were written by a few lines of another program, from the public description of Protocol
+//! Buffers.
+use field_values::{Field, Value};
+use hybrid_clock::Stamp;
+use std::test::Fail;
+use sync_wire::{
+    WireFault, read_message, read_request, read_response, write_message, write_request,
+    write_response,
+};
+
+#[test]
+fn refuses_requests(rt: HostRuntime) {
+    let cases: [(&[u8], WireFault); 33] = [
+        (b"\x0a", WireFault::Truncated { at: 1 }),
+        (b"\x0a\x05", WireFault::Truncated { at: 2 }),
+        (b"\x00", WireFault::BadTag { at: 0 }),
+        (b"\x0b", WireFault::BadTag { at: 0 }),
+        (b"(\x01", WireFault::BadTag { at: 0 }),
+        (b"=\x00\x00", WireFault::Truncated { at: 3 }),
+        (
+            b"\x80\x80\x80\x80\x80\x80\x80\x80\x80\x80",
+            WireFault::LongVarint { at: 0 },
+        ),
+        (
+            b"\x80\x80\x80\x80\x80\x80\x80\x80\x80",
+            WireFault::Truncated { at: 9 },
+        ),
+        (
+            b"\x80\x80\x80\x80\x80\x80\x80\x80\x80\x02",
+            WireFault::LongVarint { at: 0 },
+        ),
+        (b"\x12\x03a\xffb", WireFault::NotUtf8 { at: 3 }),
+        (b"\x12\x02a\xc3", WireFault::NotUtf8 { at: 3 }),
+        (b"\x0a\x00", WireFault::BadStamp { at: 2 }),
+        (b"\x0a\x05\x0a\x01x\x1a\x00", WireFault::BadStamp { at: 2 }),
+        (b"\x0a\x05\x0a\x01x\x10\x01", WireFault::BadStamp { at: 2 }),
+        (
+            b"\x0a\x03\x0a\x09x\x12\x04home",
+            WireFault::Truncated { at: 5 },
+        ),
+        (
+            b"\x0aK\x0a.2024-01-05T10:00:00.000Z-0000-00000000000000aa\x1a\x15\x0a\x05notes\x12\x01n\x1a\x04note\"\x04S:h:\x02zz\x12\x04home",
+            WireFault::Truncated { at: 73 },
+        ),
+        (
+            b"\x0a\x08\x0a\x01x\x1a\x03\x0a\x01\xff",
+            WireFault::NotUtf8 { at: 9 },
+        ),
+        (
+            b"\x12\x04home\x0a\x11\x0a\x01x\x1a\x0c\x0a\x00\x12\x01r\x1a\x01c\"\x02S:",
+            WireFault::BadStamp { at: 8 },
+        ),
+        (
+            b"\x12\x04home\x0a8\x0a.2024-01-05T10:00:00.000Z-0000-00000000000000aa\x1a\x06\x12\x01r\x1a\x01c",
+            WireFault::BadMessage { at: 8 },
+        ),
+        (
+            b"\x12\x04home\x0a0\x0a.2024-01-05T10:00:00.000Z-0000-00000000000000aa",
+            WireFault::BadMessage { at: 8 },
+        ),
+        (
+            b"\x0a\x03\x0a\x01x\x12\x01\xff",
+            WireFault::BadStamp { at: 2 },
+        ),
+        (
+            b"\x0aK\x0a\x01\xff\x0a.2024-01-05T10:00:00.000Z-0000-00000000000000aa\x1a\x16\x0a\x05notes\x12\x01n\x1a\x04note\"\x04S:hi",
+            WireFault::NotUtf8 { at: 4 },
+        ),
+        (b"\x12\x01\xff\x12\x04home", WireFault::NotUtf8 { at: 2 }),
+        (b"\x0a\x02\x08\x05", WireFault::BadTag { at: 2 }),
+        (
+            b"\x0a3\x0a.2024-01-05T10:00:00.000Z-0000-00000000000000aa\x12\x01\x01",
+            WireFault::BadTag { at: 50 },
+        ),
+        (
+            b"\x0a6\x0a.2024-01-05T10:00:00.000Z-0000-00000000000000aa\x10\x00\x1a\x02 \x01",
+            WireFault::BadTag { at: 54 },
+        ),
+        (
+            b"\x12\xff\xff\xff\xff\xff\xff\xff\xff\xff\xff",
+            WireFault::LongVarint { at: 1 },
+        ),
+        (
+            b"8\xff\xff\xff\xff\xff\xff\xff\xff\xff\x018\xff\xff\xff\xff\xff\xff\xff\xff\xff\x02",
+            WireFault::LongVarint { at: 12 },
+        ),
+        (b"\x12\x01fK", WireFault::BadTag { at: 3 }),
+        (b"\x12\x01fL", WireFault::BadTag { at: 3 }),
+        (b"\x12\x01fN", WireFault::BadTag { at: 3 }),
+        (b"\x12\x01fO", WireFault::BadTag { at: 3 }),
+        (b"\x04", WireFault::BadTag { at: 0 }),
+    ];
+    for (bytes, fault) in cases {
+        assert_eq!(rt;
+            read_request(rt.alloc(), bytes).err(),
+            Some(fault),
+            "{bytes:?}"
+        );
+    }
+}
+
+#[test]
+fn reads_requests(rt: HostRuntime) -> Result<(), Fail> {
+    let cases: [(&[u8], usize, bool, &str, &str, &str); 5] = [
+        (b"", 0, false, "", "", ""),
+        (b"I\x00\x00\x00\x00\x00\x00\x00\x00", 0, false, "", "", ""),
+        (
+            b"2\x01s\x1a\x01g8\xff\xff\xff\xff\xff\xff\xff\xff\xff\x01\x12\x03old*\x02\xff\xfe\x12\x01f\xfd\xff\xff\xff\xff\xff\xff\xff\xff\x01\x00\x00\x00\x00\x0aH\x0a.2024-01-05T10:00:00.000Z-0000-00000000000000aa\x1a\x16\x0a\x05notes\x12\x01n\x1a\x04note\"\x04S:hi",
+            1,
+            false,
+            "f",
+            "g",
+            "s",
+        ),
+        (
+            b"\x0a6\x0a.2024-01-05T10:00:00.000Z-0000-00000000000000aa\x10\x01\x1a\x02\xff\xff\x0aM\x0a.2024-01-05T10:00:00.000Z-0000-00000000000000aa\x1a\x01\xff\x10\x00\x1a\x16\x0a\x05notes\x12\x01n\x1a\x04note\"\x04S:hi",
+            1,
+            true,
+            "",
+            "",
+            "",
+        ),
+        (
+            b"\x0aE\x0a\x01x\x0a.2024-01-05T10:00:01.000Z-0000-00000000000000bb\x1a\x10\x0a\x05notes\x12\x01n\x1a\x04note\x0aH\x0a.2024-01-05T10:00:00.000Z-0000-00000000000000aa\x1a\x16\x0a\x05notes\x12\x01n\x1a\x04note\"\x04S:hi",
+            2,
+            false,
+            "",
+            "",
+            "",
+        ),
+    ];
+    for (bytes, messages, encrypted, file, group, since) in cases {
+        let request = read_request(rt.alloc(), bytes)?;
+        assert_eq!(rt; request.messages.len(), messages);
+        assert_eq!(rt; request.encrypted, encrypted);
+        assert_eq!(rt; request.file.as_str(), file);
+        assert_eq!(rt; request.group.as_str(), group);
+        assert_eq!(rt; request.since.as_str(), since);
+    }
+    Ok(())
+}
+
+#[test]
+fn writes_a_request(rt: HostRuntime) -> Result<(), Fail> {
+    let bytes: &[u8] =
+        b"\x0aR\x0a.2024-01-05T10:00:00.000Z-0000-00000000000000aa\x1a \x0a\x0acategories\x12\x04food\x1a\x04name\"\x06S:Food\x12\x04home\x1a\x04home2.2024-01-05T09:55:02.000Z-0000-0000000000000000";
+    let request = read_request(rt.alloc(), bytes)?;
+    assert_eq!(rt; request.messages.len(), 1);
+    assert!(rt; !request.encrypted);
+    let written = write_request(rt.alloc(), &request)?;
+    assert_eq!(rt; written.as_slice(), bytes);
+    Ok(())
+}
+
+#[test]
+fn writes_a_message(rt: HostRuntime) -> Result<(), Fail> {
+    let alloc = rt.alloc();
+    let bytes: &[u8] = b"\x0a\x05notes\x12\x01n\x1a\x04note\"\x04S:hi";
+    let stamp = Stamp::parse(b"2024-01-05T10:00:00.000Z-0000-00000000000000aa")?;
+    let message = read_message(alloc, &stamp, bytes)?;
+    assert_eq!(rt; message.field, Field::make(alloc, "notes", "n", "note")?);
+    assert_eq!(rt; message.value, Value::read(alloc, "S:hi")?);
+    let written = write_message(alloc, &message)?;
+    assert_eq!(rt; written.as_slice(), bytes);
+    for (bytes, fault) in [
+        (&bytes[..21], WireFault::Truncated { at: 21 }),
+        (&bytes[..10], WireFault::BadMessage { at: 0 }),
+    ] {
+        assert_eq!(rt; read_message(alloc, &stamp, bytes).err(), Some(fault));
+    }
+    Ok(())
+}
+
+#[test]
+fn writes_a_reply(rt: HostRuntime) -> Result<(), Fail> {
+    let bytes: &[u8] =
+        b"\x0aH\x0a.2024-01-05T10:00:01.000Z-0000-00000000000000bb\x1a\x16\x0a\x05notes\x12\x01n\x1a\x04note\"\x04N:-7\x12\x02{}";
+    let reply = read_response(rt.alloc(), bytes)?;
+    assert_eq!(rt; reply.messages.len(), 1);
+    assert_eq!(rt; reply.merkle.as_str(), "{}");
+    assert!(rt; !reply.encrypted);
+    let written = write_response(rt.alloc(), &reply)?;
+    assert_eq!(rt; written.as_slice(), bytes);
+    let cases: [(&[u8], WireFault); 3] = [
+        (b"\x10\x01", WireFault::BadTag { at: 0 }),
+        (b"\x1a\x01x\x12\x02a\xff", WireFault::NotUtf8 { at: 6 }),
+        (b"\x0a\x03\x0a\x01x", WireFault::BadStamp { at: 2 }),
+    ];
+    for (bytes, fault) in cases {
+        assert_eq!(rt; read_response(rt.alloc(), bytes).err(), Some(fault));
+    }
+    Ok(())
+}

@@ -1,0 +1,15 @@
+pub mod Powers
+pub mod Texts
+pub mod Gather
+pub mod Spelled
+pub mod Steps
+pub mod Kept
+pub mod Totals
+pub mod Numbers
+pub mod Written
+pub mod Codec
+pub mod Envelopes
+pub mod Bodies
+pub mod Readings
+pub mod Plain
+pub mod Causes

@@ -1,0 +1,11 @@
+pub mod Reading
+pub mod Layouts
+pub mod Fields
+pub mod Meaning
+pub mod Spelling
+pub mod Envelope
+pub mod Wire
+pub mod Gather
+pub mod Canon
+pub mod Laws
+pub mod Causes
