@@ -10,4 +10,5 @@ mod messages;
 mod tries;
 #[cfg(test)]
 mod values;
+#[cfg(test)]
 mod wire;

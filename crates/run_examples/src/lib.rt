@@ -6,4 +6,5 @@
 mod device;
 #[cfg(test)]
 mod kept;
+#[cfg(test)]
 mod lines;
