@@ -6,3 +6,5 @@ pub mod Contents
 pub mod Keeper
 pub mod KeeperState
 pub mod Undoing
+pub mod Exchanges
+pub mod Script
