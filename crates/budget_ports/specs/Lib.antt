@@ -8,3 +8,6 @@ pub mod KeeperState
 pub mod Undoing
 pub mod Exchanges
 pub mod Script
+pub mod Connections
+pub mod MemoryDoor
+pub mod Laws
