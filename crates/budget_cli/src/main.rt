@@ -8,11 +8,12 @@ ghost use Rattle.budget_ports.specs.Faults.{count_after};
 ghost use Rattle.budget_ports.specs.KeeperState.{KeeperState, holds};
 ghost use Rattle.budget_top.specs.Words.{planned, planned_mode, refusal_status};
 ghost use Rattle.budget_top.specs.MergeRun.{MergeRun};
-ghost use Rattle.budget_top.specs.DeviceRun.{DeviceRun};
+ghost use Rattle.budget_top.specs.DeviceRun.{DeviceRun, target_of};
 ghost use Rattle.budget_top.specs.Seen.{seen};
 ghost use Rattle.budget_top.specs.declared.words.Mode.TheVariants.{Merge, Device};
 ghost use Rattle.budget_top.specs.declared.words.Plan.{Plan};
 
+mod closed_link;
 mod stdin_source;
 mod stdout_sink;
 mod system_clock;
@@ -21,6 +22,7 @@ mod tests;
 
 use budget_ports::{MemoryKeeper, Sink, Source};
 use budget_top::{WordFault, plan, refusal_status, run};
+use closed_link::ClosedLink;
 use field_values::{Items, Steps, Txt};
 use std::env;
 use std::io::{BufWriter, ErrorKind};
@@ -66,8 +68,8 @@ fn without_run(rt: &HostRuntime, fault: WordFault) -> ExitCode
     ExitCode::from(refusal_status(fault))
 }
 
-/// Does what the words ask for over a source and a sink, with the clock of the system and a keeper in
-/// memory, and gives the status. The ledger under the counter of steps is still blank.
+/// Does what the words ask for over a source and a sink, with the clock of the system, a keeper in
+/// memory and no server, and gives the status. The ledger under the counter of steps is still blank.
 fn status_over<G: Ledger, S: Source, W: Sink>(
     rt: &HostRuntime,
     words: &Items<Txt>,
@@ -84,12 +86,13 @@ fn status_over<G: Ledger, S: Source, W: Sink>(
     ensures merge { planned_mode words.now ≡ Some Merge → MergeRun result (S.left source.old) (S.left source.new) (W.taken sink.old) (W.taken sink.new) }
 
     // The keeper holds nothing at first, and holds from one line to the next what the device keeps.
-    ensures device { (plan : Plan) (node : List ℕ) → planned words.now ≡ Ok plan → plan.mode ≡ Device → plan.node ≡ Some node → (keeper : KeeperState) × DeviceRun node result (S.left source.old) (S.left source.new) (W.faults sink.old) (W.faults sink.new) (seen (W.taken sink.old) None (Unit {0}) nothing (λ k. k ≡ nothing)) (seen (W.taken sink.new) None (Unit {0}) keeper.contents (holds keeper)) }
+    ensures device { (plan : Plan) (node : List ℕ) → planned words.now ≡ Ok plan → plan.mode ≡ Device → plan.node ≡ Some node → (keeper : KeeperState) × DeviceRun node (target_of plan) result (S.left source.old) (S.left source.new) (W.faults sink.old) (W.faults sink.new) (seen (W.taken sink.old) None None 0 (Unit {0}) nothing (λ k. k ≡ nothing)) (seen (W.taken sink.new) None None 0 (Unit {0}) keeper.contents (holds keeper)) }
     ensures source { S.faults source.new ≡ count_after (result == 4) (S.faults source.old) }
     ensures sink { result ≢ 3 → W.faults sink.new ≡ count_after (result == 5) (W.faults sink.old) }
 {
     let alloc = rt.alloc();
     let mut keeper = MemoryKeeper::new(alloc);
+    let mut link = ClosedLink::new();
     let mut clock = SystemClock::new(rt);
     let mut steps = Steps::<G>::new(blank);
     run(
@@ -98,6 +101,7 @@ fn status_over<G: Ledger, S: Source, W: Sink>(
         source,
         sink,
         &mut keeper,
+        &mut link,
         &mut clock,
         &mut steps,
     )

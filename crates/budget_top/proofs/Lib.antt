@@ -10,6 +10,7 @@ pub mod Running
 pub mod Judging
 pub mod Finding
 pub mod Folding
+pub mod Plain
 pub mod Serving
 pub mod Answering
 pub mod Obeying
@@ -25,3 +26,5 @@ pub mod Spelled
 pub mod Hyphens
 pub mod Refusing
 pub mod LineWriting
+mod Before
+mod Unsynced

@@ -17,7 +17,8 @@ use Rattle.command_lines.specs.declared.reply.Reply.{Reply}
 use Rattle.command_lines.specs.Replies.{refused, reply_lines, reply_text_of}
 use Rattle.command_lines.specs.ReplyLines.{RepliesAreLines, IsReply, AreLines}
 use Rattle.budget_top.specs.Lines.{pieces, all_but_last, last_of}
-use Rattle.budget_top.specs.Session.{asked, obeyed, settled, wrote_all, added_all, reply_to_refusal, step, replies}
+use Rattle.budget_top.specs.Session.{asked, obeyed, settled, wrote_all, added_all, reply_to_refusal}
+use Rattle.budget_top.specs.Course.{step, replies}
 use Rattle.budget_top.specs.Replies.{RepliesAreCut, lines_of_replies}
 use Rattle.budget_top.proofs.Cutting.{onto, pieces_some, pieces-append, but_last-append, last_of-append}
 
@@ -71,8 +72,8 @@ cut_behind text more ls is =
     ∙ ap (λ ps. ls ++ ps) (pieces_some more)
 
 pub replies_cut : RepliesAreLines → RepliesAreCut
-replies_cut law s [] = refl
-replies_cut law s (i ∷ is) =
-    cut_behind (reply_text_of (step s i).1) (replies (step s i).0 is) (reply_lines (step s i).1) (law.cut (step s i).1 (obeyed_reply law s i.reading (asked i.line)))
-    ∙ ap (λ ls. reply_lines (step s i).1 ++ ls) (replies_cut law (step s i).0 is)
-    ∙ sym (append_assoc (reply_lines (step s i).1) (lines_of_replies (step s i).0 is) ([] ∷ []))
+replies_cut law t r [] = refl
+replies_cut law t r (i ∷ is) =
+    cut_behind (reply_text_of (step t r i).1) (replies t (step t r i).0 is) (reply_lines (step t r i).1) (law.cut (step t r i).1 (obeyed_reply law r.state i.given.reading (asked i.line)))
+    ∙ ap (λ ls. reply_lines (step t r i).1 ++ ls) (replies_cut law t (step t r i).0 is)
+    ∙ sym (append_assoc (reply_lines (step t r i).1) (lines_of_replies t (step t r i).0 is) ([] ∷ []))

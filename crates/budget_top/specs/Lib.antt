@@ -11,6 +11,8 @@ pub mod MergeRun
 pub mod Stops
 pub mod Steps
 pub mod Session
+pub mod Doing
+pub mod Course
 pub mod Replies
 pub mod Seen
 pub mod Handling

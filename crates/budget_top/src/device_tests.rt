@@ -1,7 +1,10 @@
 use crate::tests::{FOOD, joined, uncounted};
-use budget_ports::{Keeper, ListClock, MemoryKeeper, MemorySink, MemorySource, PortFault, Record};
+use budget_ports::{
+    Keeper, ListClock, MemoryKeeper, MemorySink, MemorySource, PortFault, Record, ScriptLink,
+};
 use field_values::{Items, Txt};
 use std::alloc::Global;
+use std::collections::VecDeque;
 use std::marker::Brand;
 use std::sync::ledger::Blank;
 use std::test::Fail;
@@ -72,6 +75,7 @@ fn outcome(
     let sink_fails = row.sink_fails.to_vec(rt.alloc())?;
     let mut source = MemorySource::with_faults(input, source_fails);
     let mut sink = MemorySink::with_faults(rt.alloc(), 1000, sink_fails)?;
+    let mut link = ScriptLink::new(rt.alloc(), VecDeque::new(rt.alloc()));
     let words = words(rt.alloc())?;
     let mut clock = ListClock::new([1_704_448_800_000].to_vec(rt.alloc())?);
     let status = uncounted::<Brand>(
@@ -81,6 +85,7 @@ fn outcome(
         &mut source,
         &mut sink,
         keeper,
+        &mut link,
         &mut clock,
     );
     Ok((status, sink.written().to_vec(rt.alloc())?))

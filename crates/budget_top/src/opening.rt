@@ -1,8 +1,8 @@
 //! The opening of a device's run: what its group keeps.
-ghost use Rattle.std.specs.Prelude.{◌≡◌, ◌==◌, ℕ, Ok, Err, IfOk};
+ghost use Rattle.std.specs.Prelude.{◌≡◌, ◌==◌, ℕ, Ok, Err, IfOk, OnOk};
 ghost use Rattle.hybrid_clock.specs.Node.{IsNode};
 ghost use Rattle.budget_ports.specs.Faults.{count_after};
-ghost use Rattle.budget_ports.specs.Keeper.{LeavesNoMore};
+ghost use Rattle.budget_ports.specs.Keeper.{IsKnown, LeavesNoMore};
 ghost use Rattle.device_core.specs.Records.{kept_set};
 ghost use Rattle.budget_top.specs.Seen.{device_group, device_records};
 ghost use Rattle.budget_top.specs.Stops.{opening_status};
@@ -37,9 +37,9 @@ pub fn open<K: Keeper>(
     ensures ok { IfOk result (IsOpened node (K.contents keeper.old) (K.tells keeper.new)) }
     ensures bad { (index : ℕ) → result ≡ Err (OpeningFault.BadRecord index) → K.tells keeper.new → kept_set (device_records (K.contents keeper.old)) ≡ Err index }
     ensures same { K.tells keeper.new → K.contents keeper.new ≡ K.contents keeper.old }
+    ensures known { OnOk result (IsKnown (K.tells keeper.new) (K.left keeper.new)) }
     ensures left { LeavesNoMore (K.left keeper.old) (K.left keeper.new) }
     ensures told { K.tells keeper.new → K.tells keeper.old }
-    ensures still { K.tells keeper.old → K.tells keeper.new }
     ensures count { K.faults keeper.new ≡ count_after (opening_status result == 6) (K.faults keeper.old) }
 {
     let records = match keeper.since(group, &Txt::new(String::new(alloc))) {

@@ -1,9 +1,10 @@
 ghost use Rattle.std.specs.Prelude.{◌≡◌, ◌≤◌};
 
 use crate::run_in_memory;
-use budget_ports::{ListClock, MemoryKeeper, MemorySink, MemorySource};
+use budget_ports::{ListClock, MemoryKeeper, MemorySink, MemorySource, ScriptLink};
 use field_values::{Items, Steps, Txt};
 use std::alloc::Global;
+use std::collections::VecDeque;
 use std::marker::Brand;
 use std::sync::ledger::{Blank, Ledger};
 use std::test::Fail;
@@ -67,6 +68,7 @@ pub(crate) fn uncounted<G: Ledger>(
     source: &mut MemorySource,
     sink: &mut MemorySink,
     keeper: &mut MemoryKeeper,
+    link: &mut ScriptLink,
     clock: &mut ListClock,
 ) -> u8
     requires name { blank.name ≡ G.name }
@@ -74,7 +76,7 @@ pub(crate) fn uncounted<G: Ledger>(
     requires some { 1 ≤ G.parts }
 {
     let mut steps = Steps::<G>::new(blank);
-    run_in_memory(alloc, words, source, sink, keeper, clock, &mut steps)
+    run_in_memory(alloc, words, source, sink, keeper, link, clock, &mut steps)
 }
 
 /// All parts, one behind the other.
@@ -103,6 +105,7 @@ fn outcome(rt: &HostRuntime, row: &Row<'_>) -> Result<(u8, Vec<u8>), Fail> {
     let mut source = MemorySource::with_faults(input, source_fails);
     let mut sink = MemorySink::with_faults(rt.alloc(), 1000, sink_fails)?;
     let mut keeper = MemoryKeeper::new(rt.alloc());
+    let mut link = ScriptLink::new(rt.alloc(), VecDeque::new(rt.alloc()));
     let mut clock = ListClock::new([0].to_vec(rt.alloc())?);
     let status = uncounted::<Brand>(
         Blank::new(1),
@@ -111,6 +114,7 @@ fn outcome(rt: &HostRuntime, row: &Row<'_>) -> Result<(u8, Vec<u8>), Fail> {
         &mut source,
         &mut sink,
         &mut keeper,
+        &mut link,
         &mut clock,
     );
     Ok((status, sink.written().to_vec(rt.alloc())?))
