@@ -11,10 +11,10 @@ use Rattle.budget_ports.specs.Keeper.{Commits, IsAlone}
 use Rattle.field_merge.specs.declared.message.Message.{Message}
 use Rattle.field_merge.specs.Messages.{IsMessage, AreMessages}
 use Rattle.field_merge.specs.Log.{has_stamp, by_stamp, placed, join_one, join}
-use Rattle.device_core.specs.Records.{record_of}
-use Rattle.device_core.specs.Device.{DeviceState, new_in}
-use Rattle.device_core.specs.Holding.{BatchesAreKept}
-use Rattle.device_core.specs.News.{NewOnesAreAdded}
+use Rattle.kept_messages.specs.Records.{record_of}
+use Rattle.device_core.specs.Device.{DeviceState}
+use Rattle.kept_messages.specs.Holding.{BatchesAreKept}
+use Rattle.kept_messages.specs.News.{new_in, NewOnesAreAdded}
 use Rattle.budget_top.specs.Seen.{HoldsSet, device_group}
 use Rattle.budget_top.specs.Handling.{Brings, Carries, CarriesEither}
 

@@ -26,5 +26,3 @@ pub mod Spelled
 pub mod Hyphens
 pub mod Refusing
 pub mod LineWriting
-mod Before
-mod Unsynced

@@ -8,7 +8,7 @@ use Rattle.budget_ports.specs.Faults.{risen}
 use Rattle.budget_ports.specs.Contents.{Contents}
 use Rattle.budget_ports.specs.Keeper.{IsAlone, LeavesNoMore}
 use Rattle.field_merge.specs.declared.message.Message.{Message}
-use Rattle.device_core.specs.Records.{kept_set}
+use Rattle.kept_messages.specs.Records.{kept_set}
 use Rattle.device_core.specs.Device.{begun}
 use Rattle.budget_top.specs.declared.words.Plan.{Plan}
 use Rattle.budget_top.specs.Lines.{whole_lines, all_lines}

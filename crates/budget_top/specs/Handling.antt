@@ -7,8 +7,9 @@ use Rattle.budget_ports.specs.declared.keeper.PortFault.{PortFault}
 use Rattle.budget_ports.specs.declared.keeper.PortFault.TheVariants.{Failed}
 use Rattle.field_merge.specs.declared.message.Message.{Message}
 use Rattle.field_merge.specs.Log.{join}
-use Rattle.device_core.specs.Records.{record_of, kept_set}
-use Rattle.device_core.specs.Device.{State, DeviceState, new_in, at_rest, begun}
+use Rattle.kept_messages.specs.Records.{record_of, kept_set}
+use Rattle.device_core.specs.Device.{State, DeviceState, at_rest, begun}
+use Rattle.kept_messages.specs.News.{new_in}
 use Rattle.command_lines.specs.declared.command.Command.{Command}
 use Rattle.command_lines.specs.declared.reply.Reply.{Reply}
 use Rattle.command_lines.specs.Replies.{reply_text_of}

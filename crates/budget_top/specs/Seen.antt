@@ -9,7 +9,7 @@ use Rattle.budget_ports.specs.KeeperState.{KeeperState, holds}
 use Rattle.budget_ports.specs.Exchanges.{Exchange}
 use Rattle.budget_ports.specs.Script.{LinkState, exchanges}
 use Rattle.field_merge.specs.declared.message.Message.{Message}
-use Rattle.device_core.specs.Holding.{Holds as HoldsIn}
+use Rattle.kept_messages.specs.Holding.{Holds as HoldsIn}
 use Rattle.budget_top.specs.Doing.{Target, Running, synced_name}
 
 -- the group in which a device's messages are kept

@@ -20,9 +20,10 @@ use command_lines::{
     Command, CommandFault, Reply, added_reply, faulty_reply, read_command, read_reply,
     refusal_reply, reply_text, wrote_reply,
 };
-use device_core::{Device, Edit, batches_are_kept, new_ones_are_added};
+use device_core::{Device, Edit};
 use field_merge::Message;
 use field_values::{NoMemory, Steps, Txt, TxtFault};
+use kept_messages::{batches_are_kept, new_ones_are_added};
 use std::alloc::Global;
 use std::sync::ledger::Ledger;
 

@@ -3,7 +3,7 @@ ghost use Rattle.std.specs.Prelude.{◌≡◌, ◌==◌, ℕ, Ok, Err, IfOk, OnO
 ghost use Rattle.hybrid_clock.specs.Node.{IsNode};
 ghost use Rattle.budget_ports.specs.Faults.{count_after};
 ghost use Rattle.budget_ports.specs.Keeper.{IsKnown, LeavesNoMore};
-ghost use Rattle.device_core.specs.Records.{kept_set};
+ghost use Rattle.kept_messages.specs.Records.{kept_set};
 ghost use Rattle.budget_top.specs.Seen.{device_group, device_records};
 ghost use Rattle.budget_top.specs.Stops.{opening_status};
 ghost use Rattle.budget_top.specs.Handling.{IsOpened};

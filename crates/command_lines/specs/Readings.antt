@@ -9,7 +9,7 @@ use Rattle.field_merge.specs.Messages.{message_line}
 use Rattle.field_merge.specs.Log.{fields, messages_after, latest}
 use Rattle.minute_trie.specs.Trie.{trie_of}
 use Rattle.minute_trie.specs.Json.{trie_text}
-use Rattle.device_core.specs.Device.{pairs_of}
+use Rattle.kept_messages.specs.Pairs.{pairs_of}
 use Rattle.command_lines.specs.declared.command.Command.{Command}
 use Rattle.command_lines.specs.declared.command.Command.TheVariants.{Edit, Receive, Fields, Messages, Value, Trie}
 use Rattle.command_lines.specs.declared.reply.Reply.{Reply}

@@ -9,7 +9,7 @@ ghost use Rattle.field_merge.specs.Messages.{message_line, AreMessages};
 ghost use Rattle.field_merge.specs.Log.{fields};
 ghost use Rattle.minute_trie.specs.Trie.{trie_of};
 ghost use Rattle.minute_trie.specs.Json.{trie_text};
-ghost use Rattle.device_core.specs.Device.{pairs_of};
+ghost use Rattle.kept_messages.specs.Pairs.{pairs_of};
 ghost use Rattle.command_lines.specs.Readings.{answer, shown, value_in, IsReading};
 
 use crate::command::Command;

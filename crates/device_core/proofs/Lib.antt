@@ -1,14 +1,7 @@
-pub mod OneRecord
-pub mod KeptSets
-pub mod Members
 pub mod Stamping
 pub mod Greatest
-pub mod Starting
-pub mod Keeping
 pub mod Writing
-pub mod Tracking
 pub mod ReadBack
-pub mod News
-pub mod WritingBack
+pub mod GreatestTold
 pub mod Received
 pub mod Answering

@@ -21,9 +21,10 @@ use Rattle.field_merge.proofs.Members.{none_from_any}
 use Rattle.field_merge.proofs.Orders.{names_total}
 use Rattle.field_merge.proofs.Latest.{latest-cons}
 use Rattle.device_core.specs.declared.edit.Write.{Write}
-use Rattle.device_core.specs.Records.{record_of}
+use Rattle.kept_messages.specs.Records.{record_of}
 use Rattle.device_core.specs.Edits.{write_unless}
-use Rattle.device_core.specs.Device.{State, Accepted, IsUpTo, IsAhead, new_in, stamped, first_in_row, with_messages, written, writing}
+use Rattle.kept_messages.specs.News.{new_in}
+use Rattle.device_core.specs.Device.{State, Accepted, IsUpTo, IsAhead, stamped, first_in_row, with_messages, written, writing}
 use Rattle.device_core.specs.ReadBack.{IsReadBack, EditsReadBack}
 
 -- ---- a timestamp past a clock is past all that the clock is not behind

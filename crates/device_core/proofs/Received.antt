@@ -7,11 +7,12 @@ use Rattle.hybrid_clock.specs.declared.clock.ClockFault.{ClockFault}
 use Rattle.hybrid_clock.specs.Stamp.{window}
 use Rattle.hybrid_clock.specs.Clock.{IsLater, receive, moved, next_counter, new_time, stands_at}
 use Rattle.field_merge.specs.declared.message.Message.{Message}
-use Rattle.device_core.specs.Device.{State, IsUpTo, IsAhead, new_in, with_messages, greatest_of, taken_in, receiving}
+use Rattle.kept_messages.specs.News.{new_in}
+use Rattle.device_core.specs.Device.{State, IsUpTo, IsAhead, with_messages, greatest_of, taken_in, receiving}
 use Rattle.device_core.specs.ReadBack.{AreTakenIn, ReceivedAreJoined}
 use Rattle.device_core.proofs.Greatest.{of_ahead, ahead_later}
-use Rattle.device_core.proofs.Members.{all_join}
-use Rattle.device_core.proofs.News.{one_each}
+use Rattle.kept_messages.proofs.Members.{all_join}
+use Rattle.kept_messages.proofs.News.{one_each}
 use Rattle.device_core.proofs.ReadBack.{moved_to}
 
 -- ---- a clock that receives a timestamp stands after it and after where it stood, with its own node

@@ -1,6 +1,6 @@
 -- A device: its state, and what an edit and received messages make of it.
 use Rattle.std.specs.Prelude.{◌≡◌, ◌⊎◌, ℕ, ◌+◌, ◌-◌, ◌<◌, ◌≤◌, List, [], ◌∷◌, length, map, Bool, true, false, nat_lt, if◌then◌else◌, Option, None, Some, Result, Ok, Err}
-use Rattle.std.specs.List.{list_any, AllByRecursion}
+use Rattle.std.specs.List.{AllByRecursion}
 use Rattle.std.specs.Ordering.{is_lt}
 use Rattle.hybrid_clock.specs.declared.stamp.Stamp.{Stamp}
 use Rattle.hybrid_clock.specs.declared.clock.ClockFault.{ClockFault}
@@ -10,19 +10,19 @@ use Rattle.budget_ports.specs.declared.keeper.Record.{Record}
 use Rattle.field_merge.specs.declared.message.Message.{Message}
 use Rattle.budget_ports.specs.Keeper.{HaveKeys}
 use Rattle.field_merge.specs.Messages.{AreMessages}
-use Rattle.field_merge.specs.Log.{LogState, has_stamp, join_one, join, last_stamp}
+use Rattle.field_merge.specs.Log.{LogState, join, last_stamp}
 use Rattle.minute_trie.specs.declared.trie.Trie.{Trie}
-use Rattle.minute_trie.specs.Trie.{Pair, stamp_pair, is_spent, IsTrieOf}
+use Rattle.minute_trie.specs.Trie.{is_spent, IsTrieOf}
+use Rattle.kept_messages.specs.Records.{record_of}
+use Rattle.kept_messages.specs.News.{new_in}
+use Rattle.kept_messages.specs.Pairs.{pairs_of}
 use Rattle.device_core.specs.declared.edit.Edit.{Edit}
 use Rattle.device_core.specs.declared.edit.Write.{Write}
 use Rattle.device_core.specs.declared.edit.EditFault.{EditFault}
 use Rattle.device_core.specs.declared.edit.EditFault.TheVariants.{TooManyWrites}
 use Rattle.device_core.specs.declared.edit.LineRefusal.{LineRefusal}
 use Rattle.device_core.specs.declared.edit.LineRefusal.TheVariants.{Edit as OfEdit, Clock as OfClock, NoMemory}
-use Rattle.device_core.specs.declared.device.StartFault.{StartFault}
-use Rattle.device_core.specs.declared.device.StartFault.TheVariants.{BadRecord, NoMemory as OutOfMemory}
 use Rattle.device_core.specs.Edits.{writes_of}
-use Rattle.device_core.specs.Records.{record_of}
 
 -- the message set, and the timestamp at which the clock stands, with the device's own node
 pub record State : Type 0 where
@@ -43,11 +43,6 @@ at_rest s = record { state = s; batch = []; made = []; spent = false }
 -- a device that begins with a message set: its clock goes on after the last message
 abbrev pub begun : List ℕ → List Message → State
 begun node ms = record { messages = ms; clock = clock_after node (last_stamp ms) }
-
--- those of the messages whose timestamp is new: no message of ms has it, and no earlier one of them
-abbrev pub new_in : List Message → List Message → List Message
-new_in ms [] = []
-new_in ms (n ∷ ns) = if list_any (has_stamp n.stamp) ms then new_in ms ns else n ∷ new_in (join_one ms n) ns
 
 -- the messages joined, with the clock where it now stands, and the new ones pending
 abbrev pub with_messages : List Message → List Message → Stamp → DeviceState
@@ -129,15 +124,6 @@ IsAccepted meant device count = meant ≡ Ok (record { device = device; count = 
 abbrev pub IsRefused : Result Accepted LineRefusal → DeviceState → DeviceState → LineRefusal → Type 0
 IsRefused meant old new NoMemory = new.spent ≡ true
 IsRefused meant old new refusal = (meant ≡ Err refusal) × (new ≡ old)
-
--- the first record that keeps no message was told, or memory ran out
-abbrev pub IsStartFault : Result (List Message) ℕ → StartFault → Type 0
-IsStartFault meant (BadRecord index) = meant ≡ Err index
-IsStartFault meant OutOfMemory = Unit {0}
-
--- the pairs of messages in a trie: each timestamp's minute, and the hash of its text
-abbrev pub pairs_of : List Message → List Pair
-pairs_of ms = map (λ m. stamp_pair m.stamp) ms
 
 -- what holds of a device that is not spent
 pub record Stands (log : LogState) (trie : Trie) (clock : Stamp) (batch : List Record) : Type 0 where

@@ -1,7 +1,5 @@
-pub mod Records
 pub mod Edits
 pub mod Device
-pub mod Holding
+pub mod Greatest
 pub mod ReadBack
-pub mod News
 pub mod Answering

@@ -8,8 +8,9 @@ use Rattle.field_merge.specs.declared.message.Message.{Message}
 use Rattle.field_merge.specs.Log.{at_stamp, join, latest}
 use Rattle.device_core.specs.declared.edit.Edit.TheVariants.{Book}
 use Rattle.device_core.specs.declared.edit.BookEdit.TheVariants.{Set}
-use Rattle.device_core.specs.Records.{record_of}
-use Rattle.device_core.specs.Device.{State, Accepted, IsAhead, new_in, edited, greatest_of, received}
+use Rattle.kept_messages.specs.Records.{record_of}
+use Rattle.kept_messages.specs.News.{new_in}
+use Rattle.device_core.specs.Device.{State, Accepted, IsAhead, edited, greatest_of, received}
 
 -- one message under a new timestamp, which is the device's own and that at which its clock now stands, has joined those of before: it has the value that was written,
 -- it is the latest of its field, its record alone is pending, no id was made, and one write was counted

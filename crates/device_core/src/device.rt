@@ -6,39 +6,22 @@ ghost use Rattle.budget_ports.specs.Keeper.{HaveKeys};
 ghost use Rattle.field_merge.specs.Log.{messages_after};
 ghost use Rattle.field_merge.specs.Messages.{AreMessages};
 ghost use Rattle.minute_trie.specs.Trie.{is_spent, IsTrieOf, ArePairs};
+ghost use Rattle.kept_messages.specs.Records.{kept_set, IsStartFault};
+ghost use Rattle.kept_messages.specs.Pairs.{pairs_of};
 ghost use Rattle.device_core.specs.declared.edit.LineRefusal.TheVariants.{Edit as OfEdit};
-ghost use Rattle.device_core.specs.declared.device.StartFault.TheVariants.{NoMemory as OutOfMemory};
-ghost use Rattle.device_core.specs.Records.{kept_set};
 ghost use Rattle.device_core.specs.Edits.{IsEdit, AreWrites};
-ghost use Rattle.device_core.specs.Device.{at_rest, begun, with_messages, stamped, writing, edited, later_of, greatest_of, received, pairs_of, IsAhead, IsAccepted, IsRefused, IsStartFault};
+ghost use Rattle.device_core.specs.Device.{at_rest, begun, with_messages, stamped, writing, edited, later_of, greatest_of, received, IsAhead, IsAccepted, IsRefused};
 
 use crate::edit::{Edit, EditFault, LineRefusal, Write, edit_writes};
-use crate::join::{join_all, read_log};
 use budget_ports::Record;
 use field_merge::{Log, Message};
 use field_values::{Items, NoMemory, Steps, Txt};
 use hybrid_clock::{HybridClock, Node, Stamp};
+use kept_messages::{StartFault, join_all, read_log};
 use minute_trie::{Trie, tries_are_maps};
 use std::alloc::Global;
 use std::marker::Model;
 use std::sync::ledger::Ledger;
-
-/// Why a device does not start.
-#[derive(Clone, Copy, Debug, PartialEq, Eq)]
-pub enum StartFault {
-    /// The record with this index, counted from 0, is the first that keeps no message.
-    BadRecord { index: usize },
-    /// Memory ran out.
-    NoMemory,
-}
-
-impl From<NoMemory> for StartFault {
-    ghost from_gives = { λ _ fault. fault ≡ OutOfMemory };
-
-    fn from(_error: NoMemory) -> StartFault {
-        StartFault::NoMemory
-    }
-}
 
 /// The most writes of one edit, which is how many counters a time has.
 const MOST_WRITES: usize = 65_536;

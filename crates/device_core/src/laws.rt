@@ -1,29 +1,7 @@
-//! Facts about what a device holds, and what a keeper holds of it, which a proof can call for.
+//! Facts about what a device makes of edits and of messages, which a proof can call for.
 ghost use Rattle.device_core.specs.Answering.{WritesAreAnswered, MessagesAreAnswered};
-ghost use Rattle.device_core.specs.Holding.{BatchesAreKept};
-ghost use Rattle.device_core.specs.News.{NewOnesAreAdded, GreatestIsTold};
+ghost use Rattle.device_core.specs.Greatest.{GreatestIsTold};
 ghost use Rattle.device_core.specs.ReadBack.{EditsReadBack, ReceivedAreJoined};
-ghost use Rattle.device_core.specs.Records.{RecordsReadBack, RecordsAreRead};
-
-/// A law: the record of a message keeps that message. A record that keeps a message is the record of
-/// that message, but for the bytes 0 and LF that stand in its body without their escape.
-pub fn records_read_back()
-    ensures { RecordsReadBack }
-{}
-
-/// A law: records of which each keeps a message have a message set, which is their messages joined in
-/// order. Else the place of the first record that keeps none is told, whatever stands behind it.
-pub fn records_are_read()
-    ensures { RecordsAreRead }
-{}
-
-/// A law: a group that keeps a message set keeps, with the records of the new ones of other messages
-/// appended, that set joined with these messages. It loses none of the records that it had at entry
-/// and changes none, each other one is just the record of a message of the set, and all else that is
-/// kept stays.
-pub fn batches_are_kept()
-    ensures { BatchesAreKept }
-{}
 
 /// A law: where the clock is not behind a message, a write of a value into a field that is accepted is
 /// one message under a timestamp that no message had, of the device's own node, at which the clock then
@@ -53,13 +31,6 @@ pub fn messages_are_answered()
 /// it is behind none now.
 pub fn received_are_joined()
     ensures { ReceivedAreJoined }
-{}
-
-/// A law: of messages that come, those that are new stand in the order in which they came; joining them
-/// alone joins all of them, and the join has one message more for each. So the count of an `incoming` says by how many messages the
-/// device has grown, and a timestamp that comes twice counts once.
-pub fn new_ones_are_added()
-    ensures { NewOnesAreAdded }
 {}
 
 /// A law: the timestamp by which a clock receives messages is that of one of them, and none of them

@@ -4,15 +4,14 @@
 
 mod device;
 mod edit;
-mod join;
 mod laws;
-mod record;
 
-pub use device::{Device, StartFault};
+pub use device::Device;
 pub use edit::{BookEdit, Edit, EditFault, LineRefusal, Write};
+pub use kept_messages::StartFault;
 pub use laws::{
-    batches_are_kept, edits_read_back, greatest_is_told, messages_are_answered, new_ones_are_added,
-    received_are_joined, records_are_read, records_read_back, writes_are_answered,
+    edits_read_back, greatest_is_told, messages_are_answered, received_are_joined,
+    writes_are_answered,
 };
 
 #[cfg(test)]

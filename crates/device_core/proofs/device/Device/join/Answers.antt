@@ -3,10 +3,11 @@ use Rattle.hybrid_clock.specs.declared.stamp.Stamp.{Stamp}
 use Rattle.budget_ports.specs.Keeper.{HaveKeys}
 use Rattle.field_merge.specs.declared.message.Message.{Message}
 use Rattle.field_merge.specs.Messages.{IsMessage, AreMessages}
-use Rattle.device_core.specs.Records.{record_of}
-use Rattle.device_core.specs.Device.{DeviceState, IsUpTo, IsAhead, new_in}
-use Rattle.device_core.proofs.Members.{all_join, all_new}
-use Rattle.device_core.proofs.Keeping.{have_keys}
+use Rattle.kept_messages.specs.Records.{record_of}
+use Rattle.kept_messages.specs.News.{new_in}
+use Rattle.device_core.specs.Device.{DeviceState, IsUpTo, IsAhead}
+use Rattle.kept_messages.proofs.Members.{all_join, all_new}
+use Rattle.kept_messages.proofs.Keeping.{have_keys}
 use Rattle.device_core.proofs.device.Device.join.Goals as goal
 
 pub invariant_of-self-2 : goal.invariant_of-self-2

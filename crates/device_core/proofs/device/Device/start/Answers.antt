@@ -6,7 +6,7 @@ use Rattle.hybrid_clock.specs.Clock.{clock_after}
 use Rattle.budget_ports.specs.Keeper.{HaveKeys}
 use Rattle.device_core.specs.Device.{IsAhead}
 use Rattle.device_core.proofs.Greatest.{after_ahead, last_valid}
-use Rattle.device_core.proofs.Starting.{rising_set}
+use Rattle.kept_messages.proofs.Starting.{rising_set}
 use Rattle.device_core.proofs.device.Device.start.Goals as goal
 
 pub invariant_of-result : goal.invariant_of-result

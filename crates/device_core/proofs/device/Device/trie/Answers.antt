@@ -1,7 +1,7 @@
 use Rattle.std.proofs.Common.{◌≡◌, false, ap, subst, ◌∙◌}
 use Rattle.field_merge.specs.Messages.{AreMessages}
 use Rattle.device_core.specs.Device.{DeviceState}
-use Rattle.device_core.proofs.Tracking.{are_pairs}
+use Rattle.kept_messages.proofs.Tracking.{are_pairs}
 use Rattle.device_core.proofs.device.Device.trie.Goals as goal
 
 pub returns-clause-pairs : goal.returns-clause-pairs

@@ -1,0 +1,9 @@
+pub mod OneRecord
+pub mod KeptSets
+pub mod Groups
+pub mod Members
+pub mod Starting
+pub mod Keeping
+pub mod Tracking
+pub mod News
+pub mod WritingBack

@@ -1,0 +1,13 @@
+//! What a group of a keeper keeps of messages: their records, read into a log with its trie, and the
+//! records of new messages that join it.
+#![tactic(auto)]
+
+mod join;
+mod laws;
+mod record;
+
+pub use join::{StartFault, join_all, read_log};
+pub use laws::{
+    batches_are_kept, groups_are_read, new_ones_are_added, records_are_read, records_read_back,
+};
+pub use record::{read_record, write_record};
