@@ -5,3 +5,5 @@ pub mod ReadBack
 pub mod GreatestTold
 pub mod Received
 pub mod Answering
+pub mod Several
+pub mod Accepting

@@ -24,7 +24,7 @@ use Rattle.device_core.specs.declared.edit.Write.{Write}
 use Rattle.kept_messages.specs.Records.{record_of}
 use Rattle.device_core.specs.Edits.{write_unless}
 use Rattle.kept_messages.specs.News.{new_in}
-use Rattle.device_core.specs.Device.{State, Accepted, IsUpTo, IsAhead, stamped, first_in_row, with_messages, written, writing}
+use Rattle.device_core.specs.Device.{State, Accepted, accepted_as, IsUpTo, IsAhead, stamped, first_in_row, with_messages, written, writing}
 use Rattle.device_core.specs.ReadBack.{IsReadBack, EditsReadBack}
 
 -- ---- a timestamp past a clock is past all that the clock is not behind
@@ -35,7 +35,7 @@ past s old new (inl p) (inr q) = let e = q.0 in inl (omega arith)
 past s old new (inr p) (inl q) = let e = p.0 in inl (omega arith)
 past s old new (inr p) (inr q) = inr (p.0 ∙ q.0, (let x = p.1 in let y = q.1 in omega arith))
 
-all_past : (old new : Stamp) (ms : List Message) → IsAhead old ms → IsLater old new → AllByRecursion (λ m. IsLater m.stamp new) ms
+pub all_past : (old new : Stamp) (ms : List Message) → IsAhead old ms → IsLater old new → AllByRecursion (λ m. IsLater m.stamp new) ms
 all_past old new [] ahead later = tt
 all_past old new (m ∷ ms) ahead later = (past m.stamp old new ahead.0 later, all_past old new ms ahead.1 later)
 
@@ -63,11 +63,11 @@ past_cmp s new (inr p) =
 
 -- ---- a message past all others is new, stands last, and is the latest of its field
 
-is_new : (ms : List Message) (n : Message) → AllByRecursion (λ m. IsLater m.stamp n.stamp) ms → list_any (has_stamp n.stamp) ms ≡ false
+pub is_new : (ms : List Message) (n : Message) → AllByRecursion (λ m. IsLater m.stamp n.stamp) ms → list_any (has_stamp n.stamp) ms ≡ false
 is_new [] n low = refl
 is_new (m ∷ ms) n low = ap (λ r. is_eq r || list_any (has_stamp n.stamp) ms) (past_cmp m.stamp n.stamp low.0) ∙ is_new ms n low.1
 
-stands_last : (ms : List Message) (n : Message) → AllByRecursion (λ m. IsLater m.stamp n.stamp) ms → placed by_stamp ms n ≡ ms ++ n ∷ []
+pub stands_last : (ms : List Message) (n : Message) → AllByRecursion (λ m. IsLater m.stamp n.stamp) ms → placed by_stamp ms n ≡ ms ++ n ∷ []
 stands_last [] n low = refl
 stands_last (m ∷ ms) n low =
     ap (λ r. cond (is_lt r) (n ∷ m ∷ ms) (m ∷ placed by_stamp ms n)) (past_cmp m.stamp n.stamp low.0) ∙ ap (λ l. m ∷ l) (stands_last ms n low.1)
@@ -117,16 +117,16 @@ draw_node clock new reading h = go (nat_lt (reading / 60_000) window) h
 -- ---- one write
 
 write_is : (s : State) (reading : ℕ) (w : Write) (a : Accepted) → writing s reading (Ok (w ∷ [])) ≡ Ok a
-    → (clock : Stamp) × ((draw s.clock reading 1 ≡ Ok clock) × (record { device = with_messages s.messages (stamped (first_in_row clock 1) (w ∷ [])) clock; count = 1 } ≡ a))
+    → (clock : Stamp) × ((draw s.clock reading 1 ≡ Ok clock) × (accepted_as (with_messages s.messages (stamped (first_in_row clock 1) (w ∷ [])) clock) 1 ≡ a))
 write_is s reading w a h = go (draw s.clock reading 1) refl h
   where
     go : (d : Result Stamp ClockFault) → draw s.clock reading 1 ≡ d → written s (w ∷ []) d ≡ Ok a
-        → (clock : Stamp) × ((draw s.clock reading 1 ≡ Ok clock) × (record { device = with_messages s.messages (stamped (first_in_row clock 1) (w ∷ [])) clock; count = 1 } ≡ a))
+        → (clock : Stamp) × ((draw s.clock reading 1 ≡ Ok clock) × (accepted_as (with_messages s.messages (stamped (first_in_row clock 1) (w ∷ [])) clock) 1 ≡ a))
     go (Ok clock) is k = (clock, (is, cc))
     go (Err fault) is k = absurd (cc)
 
 read_write : (s : State) (dataset row column : List ℕ) (value : Value) (clock : Stamp) → IsAhead s.clock s.messages → IsLater s.clock clock → clock.node ≡ s.clock.node
-    → IsReadBack s dataset row column value (record { device = with_messages s.messages (stamped (first_in_row clock 1) (record { field = field_of dataset row column; value = value } ∷ [])) clock; count = 1 })
+    → IsReadBack s dataset row column value (accepted_as (with_messages s.messages (stamped (first_in_row clock 1) (record { field = field_of dataset row column; value = value } ∷ [])) clock) 1)
 read_write s dataset row column value clock ahead later own =
     let ms = s.messages in
     let n : Message = record { stamp = first_in_row clock 1; field = field_of dataset row column; value = value } in

@@ -8,7 +8,7 @@ use Rattle.hybrid_clock.specs.Stamp.{window}
 use Rattle.hybrid_clock.specs.Clock.{IsLater, receive, moved, next_counter, new_time, stands_at}
 use Rattle.field_merge.specs.declared.message.Message.{Message}
 use Rattle.kept_messages.specs.News.{new_in}
-use Rattle.device_core.specs.Device.{State, IsUpTo, IsAhead, with_messages, greatest_of, taken_in, receiving}
+use Rattle.device_core.specs.Device.{State, accepted_as, at_rest, IsUpTo, IsAhead, with_messages, greatest_of, taken_in, receiving}
 use Rattle.device_core.specs.ReadBack.{AreTakenIn, ReceivedAreJoined}
 use Rattle.device_core.proofs.Greatest.{of_ahead, ahead_later}
 use Rattle.kept_messages.proofs.Members.{all_join}
@@ -57,7 +57,7 @@ none_came : (ns : List Message) → greatest_of ns ≡ None → ns ≡ []
 none_came [] h = refl
 none_came (n ∷ ns) h = absurd (cc)
 
-nothing_taken : (s : State) (reading : ℕ) → AreTakenIn s [] reading (record { device = record { state = s; batch = []; made = []; spent = false }; count = 0 })
+nothing_taken : (s : State) (reading : ℕ) → AreTakenIn s [] reading (accepted_as (at_rest s) 0)
 nothing_taken s reading = record {
   joined = refl;
   grown = omega arith;
@@ -71,7 +71,7 @@ nothing_taken s reading = record {
 }
 
 some_taken : (s : State) (ns : List Message) (reading : ℕ) (t clock : Stamp) → greatest_of ns ≡ Some t → receive s.clock reading t ≡ Ok clock
-    → AreTakenIn s ns reading (record { device = with_messages s.messages ns clock; count = length (new_in s.messages ns) })
+    → AreTakenIn s ns reading (accepted_as (with_messages s.messages ns clock) (length (new_in s.messages ns)))
 some_taken s ns reading t clock is drawn =
     let after = receive_later s.clock t clock reading drawn in
     let up : IsAhead clock ns = ahead_later t clock ns after.came (of_ahead t ns is) in record {
@@ -92,11 +92,11 @@ received_joined s ns reading a h = by (greatest_of ns) refl h
     taken : (t : Stamp) (r : Result Stamp ClockFault) → greatest_of ns ≡ Some t → receive s.clock reading t ≡ r → taken_in s ns r ≡ Ok a → AreTakenIn s ns reading a
     taken t (Err fault) is drawn k = absurd (cc)
     taken t (Ok clock) is drawn k =
-        let same : record { device = with_messages s.messages ns clock; count = length (new_in s.messages ns) } ≡ a = cc in
+        let same : accepted_as (with_messages s.messages ns clock) (length (new_in s.messages ns)) ≡ a = cc in
         subst (AreTakenIn s ns reading) same (some_taken s ns reading t clock is drawn)
 
     by : (o : Option Stamp) → greatest_of ns ≡ o → receiving s ns reading o ≡ Ok a → AreTakenIn s ns reading a
     by None is k =
-        let same : record { device = record { state = s; batch = []; made = []; spent = false }; count = 0 } ≡ a = cc in
-        subst (AreTakenIn s ns reading) same (subst (λ l. AreTakenIn s l reading (record { device = record { state = s; batch = []; made = []; spent = false }; count = 0 })) (sym (none_came ns is)) (nothing_taken s reading))
+        let same : accepted_as (at_rest s) 0 ≡ a = cc in
+        subst (AreTakenIn s ns reading) same (subst (λ l. AreTakenIn s l reading (accepted_as (at_rest s) 0)) (sym (none_came ns is)) (nothing_taken s reading))
     by (Some t) is k = taken t (receive s.clock reading t) is refl k

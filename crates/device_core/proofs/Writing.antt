@@ -13,9 +13,9 @@ use Rattle.device_core.specs.declared.edit.EditFault.{EditFault}
 use Rattle.device_core.specs.declared.edit.EditFault.TheVariants.{BadId, TooManyWrites, NoMemory as OutOfMemory}
 use Rattle.device_core.specs.declared.edit.LineRefusal.TheVariants.{Edit as OfEdit}
 use Rattle.device_core.specs.Edits.{bad_id, write_unless, set_writes, IsEditFault}
-use Rattle.device_core.specs.Device.{State, at_rest, written, writing, first_in_row}
+use Rattle.device_core.specs.Device.{State, at_rest, accepted_as, written, writing, first_in_row}
 
-pub writing_none : (s : State) (reading : ℕ) (ws : List Write) → length ws ≡ 0 → writing s reading (Ok ws) ≡ Ok (record { device = at_rest s; count = 0 })
+pub writing_none : (s : State) (reading : ℕ) (ws : List Write) → length ws ≡ 0 → writing s reading (Ok ws) ≡ Ok (accepted_as (at_rest s) 0)
 writing_none s reading [] none = refl
 writing_none s reading (w ∷ ws) none = absurd (omega arith)
 

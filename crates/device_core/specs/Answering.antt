@@ -15,7 +15,7 @@ use Rattle.device_core.specs.Device.{State, Accepted, edited, greatest_of, recei
 
 -- it was accepted, and the clock then stands at this timestamp
 abbrev pub IsAcceptedAt : Result Accepted LineRefusal → Stamp → Type 0
-IsAcceptedAt answer clock = (accepted : Accepted) × ((answer ≡ Ok accepted) × (accepted.device.state.clock ≡ clock))
+IsAcceptedAt answer clock = (accepted : Accepted) × ((answer ≡ Ok accepted) × (accepted.state.clock ≡ clock))
 
 -- the id is the first of dataset, row and column that is no name
 abbrev pub IsFirstBadName : List ℕ → List ℕ → List ℕ → List ℕ → Type 0

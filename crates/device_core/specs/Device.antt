@@ -49,10 +49,16 @@ abbrev pub with_messages : List Message → List Message → Stamp → DeviceSta
 with_messages ms ns clock = record
     { state = record { messages = join ms ns; clock = clock }; batch = map record_of (new_in ms ns); made = []; spent = false }
 
--- what an accepted line leaves, and how many writes or new messages it was
+-- what an accepted line leaves: the state, the records that are not kept yet and the ids that it made for rows; and how many writes or new messages it was
 pub record Accepted : Type 0 where
-  pub device : DeviceState
+  pub state : State
+  pub batch : List Record
+  pub made : List (List ℕ)
   pub count : ℕ
+
+-- a device after a line that was accepted with this count
+abbrev pub accepted_as : DeviceState → ℕ → Accepted
+accepted_as device count = record { state = device.state; batch = device.batch; made = device.made; count = count }
 
 -- the messages of writes, under timestamps with counters in a row
 abbrev pub stamped : Stamp → List Write → List Message
@@ -66,12 +72,12 @@ first_in_row clock n = record clock { counter = clock.counter - (n - 1) }
 -- writes under the timestamp that the clock drew, or its refusal
 abbrev pub written : State → List Write → Result Stamp ClockFault → Result Accepted LineRefusal
 written s ws (Err fault) = Err (OfClock fault)
-written s ws (Ok clock) = Ok (record { device = with_messages s.messages (stamped (first_in_row clock (length ws)) ws) clock; count = length ws })
+written s ws (Ok clock) = Ok (accepted_as (with_messages s.messages (stamped (first_in_row clock (length ws)) ws) clock) (length ws))
 
 -- writes are made at a reading of the wall clock: none need no timestamp, and 65,536 are the most
 abbrev pub writing : State → ℕ → Result (List Write) EditFault → Result Accepted LineRefusal
 writing s reading (Err fault) = Err (OfEdit fault)
-writing s reading (Ok []) = Ok (record { device = at_rest s; count = 0 })
+writing s reading (Ok []) = Ok (accepted_as (at_rest s) 0)
 writing s reading (Ok (w ∷ ws)) =
     if nat_lt 65_536 (length (w ∷ ws)) then Err (OfEdit (TooManyWrites (length (w ∷ ws))))
     else written s (w ∷ ws) (draw s.clock reading (length (w ∷ ws)))
@@ -97,11 +103,11 @@ greatest_of (m ∷ ms) = Some (greatest m.stamp ms)
 -- messages joined where the clock took their greatest timestamp, or its refusal
 abbrev pub taken_in : State → List Message → Result Stamp ClockFault → Result Accepted LineRefusal
 taken_in s ns (Err fault) = Err (OfClock fault)
-taken_in s ns (Ok clock) = Ok (record { device = with_messages s.messages ns clock; count = length (new_in s.messages ns) })
+taken_in s ns (Ok clock) = Ok (accepted_as (with_messages s.messages ns clock) (length (new_in s.messages ns)))
 
 -- messages with this greatest timestamp are received; where there are none, the clock stays as it is
 abbrev pub receiving : State → List Message → ℕ → Option Stamp → Result Accepted LineRefusal
-receiving s ns reading None = Ok (record { device = at_rest s; count = 0 })
+receiving s ns reading None = Ok (accepted_as (at_rest s) 0)
 receiving s ns reading (Some stamp) = taken_in s ns (receive s.clock reading stamp)
 
 -- messages are received at a reading of the wall clock, once for all of them, by their greatest timestamp
@@ -118,7 +124,7 @@ IsAhead clock = AllByRecursion (λ m. IsUpTo clock m.stamp)
 
 -- a line was accepted as it should be, with this count
 abbrev pub IsAccepted : Result Accepted LineRefusal → DeviceState → ℕ → Type 0
-IsAccepted meant device count = meant ≡ Ok (record { device = device; count = count })
+IsAccepted meant device count = meant ≡ Ok (accepted_as device count)
 
 -- a line was refused as it should be, and left all as it was; or memory ran out, and the device is spent
 abbrev pub IsRefused : Result Accepted LineRefusal → DeviceState → DeviceState → LineRefusal → Type 0

@@ -11,6 +11,8 @@ use Rattle.device_core.specs.declared.edit.Edit.TheVariants.{Book}
 use Rattle.device_core.specs.declared.edit.BookEdit.TheVariants.{Set}
 use Rattle.device_core.specs.declared.edit.EditFault.{EditFault}
 use Rattle.device_core.specs.declared.edit.EditFault.TheVariants.{BadId, NoMemory}
+use Rattle.device_core.specs.declared.edit.LineRefusal.{LineRefusal}
+use Rattle.device_core.specs.declared.edit.LineRefusal.TheVariants.{Edit as OfEdit}
 use Rattle.device_core.specs.declared.edit.Write.{Write}
 
 -- names with a fault refuse the edit: the name that the fault is about is told
@@ -40,6 +42,16 @@ IsEdit (Book (Set dataset row column value)) = IsValue value
 -- the names and the value of each write are valid
 abbrev pub AreWrites : List Write → Type 0
 AreWrites = AllByRecursion (λ w. AreNames w.field × IsValue w.value)
+
+-- the fault tells an id
+abbrev pub TellsId : EditFault → Type 0
+TellsId (BadId id) = Unit {0}
+TellsId fault = ⊥
+
+-- the refusal tells an id
+abbrev pub RefusesId : LineRefusal → Type 0
+RefusesId (OfEdit fault) = TellsId fault
+RefusesId refusal = ⊥
 
 -- memory ran out, or it is the fault of the edit
 abbrev pub IsEditFault : Result (List Write) EditFault → EditFault → Type 0

@@ -3,3 +3,5 @@ pub mod Device
 pub mod Greatest
 pub mod ReadBack
 pub mod Answering
+pub mod Accepting
+pub mod Several

@@ -18,12 +18,12 @@ pub record IsReadBack (before : State) (dataset row column : List ℕ) (value : 
   pub message : Message
   pub new : at_stamp before.messages message.stamp ≡ None
   pub own : message.stamp.node ≡ before.clock.node
-  pub at_clock : accepted.device.state.clock ≡ message.stamp
-  pub joined : accepted.device.state.messages ≡ join before.messages (message ∷ [])
-  pub is_latest : latest accepted.device.state.messages (field_of dataset row column) ≡ Some message
+  pub at_clock : accepted.state.clock ≡ message.stamp
+  pub joined : accepted.state.messages ≡ join before.messages (message ∷ [])
+  pub is_latest : latest accepted.state.messages (field_of dataset row column) ≡ Some message
   pub has_value : message.value ≡ value
-  pub pending : accepted.device.batch ≡ record_of message ∷ []
-  pub none_made : accepted.device.made ≡ []
+  pub pending : accepted.batch ≡ record_of message ∷ []
+  pub none_made : accepted.made ≡ []
   pub one : accepted.count ≡ 1
 
 -- a write that is accepted is read back, where the clock is not behind a message: its timestamp is new, and no message of its field is later
@@ -34,23 +34,23 @@ EditsReadBack = (s : State) (dataset row column : List ℕ) (value : Value) (rea
 -- messages were received at a reading of the wall clock
 pub record AreTakenIn (before : State) (ns : List Message) (reading : ℕ) (accepted : Accepted) : Type 0 where
   -- all of them joined those of before
-  pub joined : accepted.device.state.messages ≡ join before.messages ns
+  pub joined : accepted.state.messages ≡ join before.messages ns
   -- by as many as were counted there are more
-  pub grown : length accepted.device.state.messages ≡ length before.messages + accepted.count
+  pub grown : length accepted.state.messages ≡ length before.messages + accepted.count
   -- the records of the new ones are pending, and no others
-  pub pending : accepted.device.batch ≡ map record_of (new_in before.messages ns)
+  pub pending : accepted.batch ≡ map record_of (new_in before.messages ns)
   -- no id was made
-  pub none_made : accepted.device.made ≡ []
+  pub none_made : accepted.made ≡ []
   -- the clock received their greatest timestamp, once
-  pub at_clock : (s : Stamp) → greatest_of ns ≡ Some s → receive before.clock reading s ≡ Ok accepted.device.state.clock
+  pub at_clock : (s : Stamp) → greatest_of ns ≡ Some s → receive before.clock reading s ≡ Ok accepted.state.clock
   -- of no messages it stays
-  pub at_rest : ns ≡ [] → accepted.device.state.clock ≡ before.clock
+  pub at_rest : ns ≡ [] → accepted.state.clock ≡ before.clock
   -- its node is the device's own as before
-  pub own : accepted.device.state.clock.node ≡ before.clock.node
+  pub own : accepted.state.clock.node ≡ before.clock.node
   -- it is not behind one that came
-  pub up_to : IsAhead accepted.device.state.clock ns
+  pub up_to : IsAhead accepted.state.clock ns
   -- and not behind any message, where it was not before
-  pub ahead : IsAhead before.clock before.messages → IsAhead accepted.device.state.clock accepted.device.state.messages
+  pub ahead : IsAhead before.clock before.messages → IsAhead accepted.state.clock accepted.state.messages
 
 -- messages that are accepted are joined
 abbrev pub ReceivedAreJoined : Type 0

@@ -1,12 +1,13 @@
 //! A device.
-ghost use Rattle.std.specs.Prelude.{◌≡◌, ◌≢◌, ◌+◌, ◌-◌, ◌≤◌, ◌<◌, [], length, true, false, IfOk, IfErr, OnOk, OnErr, Err};
+ghost use Rattle.std.specs.Prelude.{◌≡◌, ◌≢◌, ◌+◌, ◌-◌, ◌≤◌, ◌<◌, [], length, true, false, is_ok, IfOk, IfErr, OnOk, OnErr, Err};
 ghost use Rattle.hybrid_clock.specs.Node.{IsNode};
 ghost use Rattle.hybrid_clock.specs.Stamp.{IsStamp};
 ghost use Rattle.budget_ports.specs.Keeper.{HaveKeys};
 ghost use Rattle.field_merge.specs.Log.{messages_after};
 ghost use Rattle.field_merge.specs.Messages.{AreMessages};
 ghost use Rattle.minute_trie.specs.Trie.{is_spent, IsTrieOf, ArePairs};
-ghost use Rattle.kept_messages.specs.Records.{kept_set, IsStartFault};
+ghost use Rattle.kept_messages.specs.Records.{kept_set, IsStartFault, HasFirstStamp};
+ghost use Rattle.kept_messages.specs.declared.join.StartFault.TheVariants.{NoMemory as NoMemoryToStart};
 ghost use Rattle.kept_messages.specs.Pairs.{pairs_of};
 ghost use Rattle.device_core.specs.declared.edit.LineRefusal.TheVariants.{Edit as OfEdit};
 ghost use Rattle.device_core.specs.Edits.{IsEdit, AreWrites};
@@ -62,12 +63,14 @@ impl Device {
     ///
     /// # Errors
     ///
-    /// `BadRecord` for the first record that keeps no message.
+    /// `BadRecord` for the first record that keeps no message. Where the key of the very first one is no
+    /// timestamp, this is told before memory is taken.
     pub fn start(alloc: Global, node: Node, records: &[Record]) -> Result<Device, StartFault>
         requires { IsNode node }
         ensures messages { IfOk result (λ d. kept_set records.now ≡ Ok d.state.messages) }
         ensures state { IfOk result (λ d. d ≡ at_rest (begun node d.state.messages)) }
         ensures err { IfErr result (IsStartFault (kept_set records.now)) }
+        ensures memory { result ≡ Err NoMemoryToStart → HasFirstStamp records.now }
     {
         let (log, trie) = read_log(alloc, records)?;
         let clock = HybridClock::new(node, log.last());
@@ -90,8 +93,8 @@ impl Device {
     ///
     /// # Errors
     ///
-    /// Tested in this order: the edit's own checks, `TooManyWrites`, the clock. After a refusal the
-    /// device is as it was, and after `NoMemory` it is spent.
+    /// Tested in this order: the edit's own checks, `TooManyWrites`, the clock. An empty name is told
+    /// before memory is taken. After a refusal the device is as it was, and after `NoMemory` it is spent.
     pub fn prepare<G: Ledger>(
         &mut self,
         edit: &Edit,
@@ -105,6 +108,7 @@ impl Device {
         ensures refused { IfErr result (IsRefused (edited self.old.state edit.now reading) self.old self.new) }
         ensures live { OnOk result (self.new.spent ≡ false) }
         ensures memory { result ≢ Err (OfEdit EditFault.NoMemory) }
+        ensures empty { result ≡ Err LineRefusal.NoMemory → edited self.old.state edit.now reading ≢ Err (OfEdit (EditFault.BadId [])) }
         ensures steps { steps.new ≡ steps.old }
     {
         match edit_writes(self.alloc, edit) {
@@ -203,7 +207,8 @@ impl Device {
     ///
     /// # Errors
     ///
-    /// The clock's. After a refusal the device is as it was, and after `NoMemory` it is spent.
+    /// The clock's, before memory is taken. After a refusal the device is as it was, and after `NoMemory`
+    /// it is spent.
     pub fn incoming<G: Ledger>(
         &mut self,
         batch: &[Message],
@@ -216,6 +221,7 @@ impl Device {
         ensures ok { IfOk result (IsAccepted (received self.old.state batch.now reading) self.new) }
         ensures refused { IfErr result (IsRefused (received self.old.state batch.now reading) self.old self.new) }
         ensures live { OnOk result (self.new.spent ≡ false) }
+        ensures memory { result ≡ Err LineRefusal.NoMemory → (batch.now ≢ []) × (is_ok (received self.old.state batch.now reading) ≡ true) }
         ensures steps { steps.new ≡ steps.old }
     {
         let Some(stamp) = greatest_stamp(batch) else {

@@ -1,15 +1,35 @@
 //! Facts about what a device makes of edits and of messages, which a proof can call for.
+ghost use Rattle.device_core.specs.Accepting.{AcceptedAreJoined};
 ghost use Rattle.device_core.specs.Answering.{WritesAreAnswered, MessagesAreAnswered};
 ghost use Rattle.device_core.specs.Greatest.{GreatestIsTold};
 ghost use Rattle.device_core.specs.ReadBack.{EditsReadBack, ReceivedAreJoined};
+ghost use Rattle.device_core.specs.Several.{WritesAreJoined};
+
+/// A law: of every accepted line some messages have joined, and the records of the new ones, and no
+/// others, are pending; no id that it made has a line feed. The clock keeps its node, and is behind no
+/// message where it was behind none before.
+pub fn accepted_are_joined()
+    ensures { AcceptedAreJoined }
+{}
 
 /// A law: where the clock is not behind a message, a write of a value into a field that is accepted is
 /// one message under a timestamp that no message had, of the device's own node, at which the clock then
 /// stands. It joins the messages, is the latest of its field, so that the field has that value, and its
-/// record alone is pending. So a write is never lost
-/// to a message that came before it, whatever clock that message had.
+/// record alone is pending. So a write is never lost to a message that came before it, whatever clock that
+/// message had.
 pub fn edits_read_back()
     ensures { EditsReadBack }
+{}
+
+/// A law: where the clock is not behind a message, writes that are accepted are a message each, under
+/// timestamps of the device's own node with counters in a row, all later than where the clock stood; the
+/// clock stands at the last. They stand behind the messages of before, so that the set has grown by their
+/// number, and their records alone are pending. A field has the value of its last write, and one that is
+/// not written keeps its latest message. At most 65,536 writes are accepted, where the clock draws their
+/// timestamps; more are refused for their number, else they are refused for the fault of the clock. No
+/// writes are accepted and leave all as it was.
+pub fn writes_are_joined()
+    ensures { WritesAreJoined }
 {}
 
 /// A law: a write is accepted where its three names are names and the clock draws a timestamp, at

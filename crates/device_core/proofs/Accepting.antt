@@ -1,0 +1,44 @@
+-- What every accepted line leaves.
+use Rattle.std.proofs.Common.{◌≡◌, ℕ, List, [], ◌∷◌, Option, None, Some, Result, Ok, Err, length, refl, sym, ap, ◌∙◌, subst}
+use Rattle.std.specs.List.{AllByRecursion}
+use Rattle.hybrid_clock.specs.declared.stamp.Stamp.{Stamp}
+use Rattle.field_merge.specs.declared.message.Message.{Message}
+use Rattle.device_core.specs.declared.edit.Write.{Write}
+use Rattle.device_core.specs.declared.edit.EditFault.{EditFault}
+use Rattle.device_core.specs.Edits.{writes_of}
+use Rattle.device_core.specs.Device.{State, DeviceState, Accepted, at_rest, accepted_as, stamped, first_in_row, writing, received}
+use Rattle.device_core.specs.Accepting.{Brings, left_by, IsLine, IsJoined, AcceptedAreJoined}
+use Rattle.device_core.proofs.Several.{is_drawn, is_written, written_ahead}
+use Rattle.device_core.proofs.Received.{received_joined}
+
+nothing_joined : (s : State) → IsJoined s (accepted_as (at_rest s) 0)
+nothing_joined s = record { brings = record { news = []; batch = refl; messages = refl }; lines = tt; own = refl; ahead = λ h. h }
+
+writes_joined : (s : State) (reading : ℕ) (ws : Result (List Write) EditFault) (a : Accepted) → writing s reading ws ≡ Ok a → IsJoined s a
+writes_joined s reading (Err fault) a h = absurd (cc)
+writes_joined s reading (Ok []) a h = let same : accepted_as (at_rest s) 0 ≡ a = cc in subst (IsJoined s) same (nothing_joined s)
+writes_joined s reading (Ok (w ∷ ws)) a h =
+    let x = is_written s reading w ws a h in
+    let d = is_drawn s.clock x.clock reading (length (w ∷ ws)) x.drawn in
+    subst (IsJoined s) x.is (record {
+      brings = record { news = stamped (first_in_row x.clock (length (w ∷ ws))) (w ∷ ws); batch = refl; messages = refl };
+      lines = tt;
+      own = ap (λ (t : Stamp). t.node) d.row ∙ d.own;
+      ahead = written_ahead s x.clock w ws d;
+    })
+
+messages_joined : (s : State) (ns : List Message) (reading : ℕ) (a : Accepted) → received s ns reading ≡ Ok a → IsJoined s a
+messages_joined s ns reading a h =
+    let taken = received_joined s ns reading a h in record {
+      brings = record { news = ns; batch = taken.pending; messages = taken.joined };
+      lines = subst (λ (l : List (List ℕ)). AllByRecursion IsLine l) (sym taken.none_made) tt;
+      own = taken.own;
+      ahead = taken.ahead;
+    }
+
+pub accepted_joined : AcceptedAreJoined
+accepted_joined = record { of_edits = λ s edit reading a h. writes_joined s reading (writes_of edit) a h; of_messages = messages_joined }
+
+-- a device that an accepted line left brings what the line brought
+pub brings_device : (old : List Message) (device : DeviceState) (count : ℕ) → Brings old (left_by (accepted_as device count)) → Brings old device
+brings_device old device count b = record { news = b.news; batch = b.batch; messages = b.messages }

@@ -1,0 +1,225 @@
+-- Several writes under timestamps in a row.
+use Rattle.std.proofs.Common.{◌≡◌, ◌≢◌, inl, inr, ℕ, zero, suc, ◌+◌, ◌-◌, ◌<◌, ◌≤◌, Bool, true, false, cond, List, [], ◌∷◌, ◌++◌, append_assoc, append-nil, Option, None, Some, Result, Ok, Err, length, map, refl, sym, ap, ◌∙◌, subst, arith}
+use Rattle.std.specs.Prelude.{max, nat_lt, ◌==◌, ◌/◌, option_map, slice_get}
+use Rattle.std.specs.Option.{option_or}
+use Rattle.std.specs.Ordering.{is_eq}
+use Rattle.std.specs.Cmp.{tied_itself}
+use Rattle.std.specs.List.{list_any, AllByRecursion}
+use Rattle.std.proofs.lemmas.Bool.{cases_Bool}
+use Rattle.std.proofs.lemmas.Bool.Decides.{nat_tests}
+use Rattle.std.proofs.lemmas.List.{length-append}
+use Rattle.field_values.specs.Names.{FieldNames, names_cmp}
+use Rattle.hybrid_clock.specs.declared.stamp.Stamp.{Stamp}
+use Rattle.hybrid_clock.specs.declared.clock.ClockFault.{ClockFault}
+use Rattle.hybrid_clock.specs.Stamp.{window}
+use Rattle.hybrid_clock.specs.Clock.{IsLater, draw, moved, first_counter, stands_at}
+use Rattle.field_merge.specs.declared.message.Message.{Message}
+use Rattle.field_merge.specs.Log.{has_stamp, has_field, by_stamp, placed, join_one, join, latest}
+use Rattle.field_merge.proofs.Ordered.{equal}
+use Rattle.field_merge.proofs.Orders.{names_total, names_exact}
+use Rattle.field_merge.proofs.Latest.{latest-cons}
+use Rattle.kept_messages.specs.Records.{record_of}
+use Rattle.kept_messages.specs.News.{new_in}
+use Rattle.kept_messages.proofs.Members.{all_join}
+use Rattle.device_core.specs.declared.edit.Write.{Write}
+use Rattle.device_core.specs.declared.edit.EditFault.TheVariants.{TooManyWrites}
+use Rattle.device_core.specs.declared.edit.LineRefusal.{LineRefusal}
+use Rattle.device_core.specs.declared.edit.LineRefusal.TheVariants.{Edit as OfEdit}
+use Rattle.device_core.specs.Device.{State, Accepted, IsUpTo, IsAhead, stamped, first_in_row, with_messages, accepted_as, written, writing}
+use Rattle.device_core.specs.Several.{counted_on, LeaveAlone, AreJoinedWrites, WritesAreJoined}
+use Rattle.device_core.proofs.Greatest.{ahead_later}
+use Rattle.device_core.proofs.ReadBack.{all_past, is_new, stands_last, moved_to}
+use Rattle.device_core.proofs.Stamping.{stamped_up_to}
+use Rattle.device_core.proofs.Writing.{writing_many, writing_some, first_is}
+
+-- ---- a clock that draws timestamps in a row
+
+-- the first of n timestamps in a row, of which `new` is the last
+pub record IsDrawn (clock new : Stamp) (n : ℕ) : Type 0 where
+  pub first : Stamp
+  pub row : new ≡ counted_on first (n - 1)
+  pub later : IsLater clock first
+  pub own : first.node ≡ clock.node
+
+first_later : (clock : Stamp) (reading : ℕ) → IsLater clock (stands_at clock.node (max clock.millis reading) (first_counter clock (max clock.millis reading)))
+first_later clock reading = go (clock.millis == max clock.millis reading) refl
+  where
+    go : (same : Bool) → (clock.millis == max clock.millis reading) ≡ same → IsLater clock (stands_at clock.node (max clock.millis reading) (cond same (clock.counter + 1) 0))
+    go true is = inr ((grind (arith, nat_tests)), omega arith)
+    go false is = inl (grind (arith, nat_tests))
+
+pub is_drawn : (clock new : Stamp) (reading n : ℕ) → draw clock reading n ≡ Ok new → IsDrawn clock new n
+unfolding draw
+is_drawn clock new reading n h = go (nat_lt (reading / 60_000) window) h
+  where
+    go : (within : Bool) → cond within (moved clock reading (max clock.millis reading) (first_counter clock (max clock.millis reading) + (n - 1))) (Err (ClockFault.Beyond reading)) ≡ Ok new → IsDrawn clock new n
+    go true k = record {
+      first = stands_at clock.node (max clock.millis reading) (first_counter clock (max clock.millis reading));
+      row = sym (moved_to clock new reading (max clock.millis reading) (first_counter clock (max clock.millis reading) + (n - 1)) k);
+      later = first_later clock reading;
+      own = refl;
+    }
+    go false k = absurd (cc)
+
+later_on : (clock first new : Stamp) (n : ℕ) → new ≡ counted_on first n → IsLater clock first → IsLater clock new
+later_on clock first new n row (inl p) = subst (IsLater clock) (sym row) (inl p)
+later_on clock first new n row (inr p) = subst (IsLater clock) (sym row) (inr (p.0, (let x = p.1 in omega arith)))
+
+-- ---- timestamps in a row, all later than those of the messages
+
+later_trans : (a b c : Stamp) → IsLater a b → IsLater b c → IsLater a c
+later_trans a b c (inl p) (inl q) = inl (omega arith)
+later_trans a b c (inl p) (inr q) = let e = q.0 in inl (omega arith)
+later_trans a b c (inr p) (inl q) = let e = p.0 in inl (omega arith)
+later_trans a b c (inr p) (inr q) = inr (p.0 ∙ q.0, (let x = p.1 in let y = q.1 in omega arith))
+
+-- each message is before the timestamp
+abbrev AreBefore : Stamp → List Message → Type 0
+AreBefore s = AllByRecursion (λ m. IsLater m.stamp s)
+
+before_next : (ms : List Message) (n : Message) (next : Stamp) → AreBefore n.stamp ms → IsLater n.stamp next → AreBefore next (ms ++ n ∷ [])
+before_next [] n next low later = (later, tt)
+before_next (m ∷ ms) n next low later = (later_trans m.stamp n.stamp next low.0 later, before_next ms n next low.1 later)
+
+record AreBehind (ms ns : List Message) : Type 0 where
+  joined : join ms ns ≡ ms ++ ns
+  new : new_in ms ns ≡ ns
+
+join_row : (ms : List Message) (s : Stamp) (ws : List Write) → AreBefore s ms → AreBehind ms (stamped s ws)
+join_row ms s [] low = record { joined = sym (append-nil ms); new = refl }
+join_row ms s (w ∷ ws) low =
+    let n : Message = record { stamp = s; field = w.field; value = w.value } in
+    let next : Stamp = record s { counter = s.counter + 1 } in
+    let ns : List Message = stamped next ws in
+    let unknown : list_any (has_stamp n.stamp) ms ≡ false = is_new ms n low in
+    let one : join_one ms n ≡ ms ++ n ∷ [] = ap (λ b. cond b ms (placed by_stamp ms n)) unknown ∙ stands_last ms n low in
+    let rest = join_row (ms ++ n ∷ []) next ws (before_next ms n next low (inr (refl, omega arith))) in record {
+      joined = ap (λ l. join l ns) one ∙ rest.joined ∙ append_assoc ms (n ∷ []) ns;
+      new = ap (λ b. cond b (new_in ms ns) (n ∷ new_in (join_one ms n) ns)) unknown ∙ ap (λ l. n ∷ new_in l ns) one ∙ ap (λ l. n ∷ l) rest.new;
+    }
+
+row_length : (s : Stamp) (ws : List Write) → length (stamped s ws) ≡ length ws
+row_length s [] = refl
+row_length s (w ∷ ws) = ap suc (row_length (record s { counter = s.counter + 1 }) ws)
+
+-- the message at each place
+row_at : (s : Stamp) (ws : List Write) (i : ℕ) (w : Write) → slice_get ws i ≡ Some w → slice_get (stamped s ws) i ≡ Some (record { stamp = counted_on s i; field = w.field; value = w.value })
+row_at s [] i w is = absurd (cc)
+row_at s (v ∷ ws) zero w is =
+    let same : v ≡ w = cc in
+    let counter : s.counter ≡ s.counter + 0 = omega arith in
+    ap (λ (u : Write). Some (record { stamp = s; field = u.field; value = u.value })) same ∙ ap (λ (k : ℕ). Some (record { stamp = record s { counter = k }; field = w.field; value = w.value })) counter
+row_at s (v ∷ ws) (suc i) w is =
+    let counter : (s.counter + 1) + i ≡ s.counter + suc i = omega arith in
+    row_at (record s { counter = s.counter + 1 }) ws i w is ∙ ap (λ (k : ℕ). Some (record { stamp = record s { counter = k }; field = w.field; value = w.value })) counter
+
+-- ---- the latest message of a field among messages that others follow
+
+-- none of the messages is one of the field
+abbrev AreOther : FieldNames → List Message → Type 0
+AreOther f = AllByRecursion (λ m. has_field f m ≡ false)
+
+none_latest : (f : FieldNames) (ns : List Message) → AreOther f ns → latest ns f ≡ None
+none_latest f [] other = refl
+none_latest f (n ∷ ns) other =
+    latest-cons n ns f ∙ ap (λ o. option_or o (cond (has_field f n) (Some n) None)) (none_latest f ns other.1) ∙ ap (λ b. cond b (Some n) None) other.0
+
+latest_stays : (f : FieldNames) (ms ns : List Message) → AreOther f ns → latest (ms ++ ns) f ≡ latest ms f
+latest_stays f [] ns other = none_latest f ns other
+latest_stays f (m ∷ ms) ns other =
+    latest-cons m (ms ++ ns) f ∙ ap (λ o. option_or o (cond (has_field f m) (Some m) None)) (latest_stays f ms ns other) ∙ sym (latest-cons m ms f)
+
+latest_is : (ms : List Message) (n : Message) (ns : List Message) → AreOther n.field ns → latest (ms ++ n ∷ ns) n.field ≡ Some n
+latest_is [] n ns other =
+    latest-cons n ns n.field ∙ ap (λ o. option_or o (cond (has_field n.field n) (Some n) None)) (none_latest n.field ns other)
+    ∙ ap (λ r. cond (is_eq r) (Some n) None) (tied_itself names_total n.field)
+latest_is (m ∷ ms) n ns other =
+    latest-cons m (ms ++ n ∷ ns) n.field ∙ ap (λ o. option_or o (cond (has_field n.field m) (Some m) None)) (latest_is ms n ns other)
+
+not_of : (f g : FieldNames) → g ≢ f → is_eq (names_cmp f g) ≡ false
+not_of f g other = elim (cases_Bool (is_eq (names_cmp f g))) [
+  | inl same ↦ absurd (other (sym (names_exact f g (equal _ same))))
+  | inr apart ↦ apart
+]
+
+are_other : (f : FieldNames) (s : Stamp) (ws : List Write) → LeaveAlone f ws → AreOther f (stamped s ws)
+are_other f s [] alone = tt
+are_other f s (w ∷ ws) alone = (not_of f w.field alone.0, are_other f (record s { counter = s.counter + 1 }) ws alone.1)
+
+last_value : (ms : List Message) (s : Stamp) (front back : List Write) (w : Write) → LeaveAlone w.field back → option_map (λ (m : Message). m.value) (latest (ms ++ stamped s (front ++ w ∷ back)) w.field) ≡ Some w.value
+last_value ms s [] back w alone =
+    let next : Stamp = record s { counter = s.counter + 1 } in
+    ap (option_map (λ (m : Message). m.value)) (latest_is ms (record { stamp = s; field = w.field; value = w.value }) (stamped next back) (are_other w.field next back alone))
+last_value ms s (v ∷ front) back w alone =
+    let n : Message = record { stamp = s; field = v.field; value = v.value } in
+    let next : Stamp = record s { counter = s.counter + 1 } in
+    ap (λ (l : List Message). option_map (λ (m : Message). m.value) (latest l w.field)) (sym (append_assoc ms (n ∷ []) (stamped next (front ++ w ∷ back))))
+    ∙ last_value (ms ++ n ∷ []) next front back w alone
+
+-- ---- what was written
+
+-- the clock drew this for the writes
+pub record IsWritten (s : State) (reading : ℕ) (ws : List Write) (accepted : Accepted) : Type 0 where
+  pub clock : Stamp
+  pub drawn : draw s.clock reading (length ws) ≡ Ok clock
+  pub is : accepted_as (with_messages s.messages (stamped (first_in_row clock (length ws)) ws) clock) (length ws) ≡ accepted
+
+pub is_written : (s : State) (reading : ℕ) (w : Write) (ws : List Write) (a : Accepted) → writing s reading (Ok (w ∷ ws)) ≡ Ok a → IsWritten s reading (w ∷ ws) a
+is_written s reading w ws a h = by (nat_lt 65_536 (length (w ∷ ws))) h
+  where
+    go : (d : Result Stamp ClockFault) → draw s.clock reading (length (w ∷ ws)) ≡ d → written s (w ∷ ws) d ≡ Ok a → IsWritten s reading (w ∷ ws) a
+    go (Ok clock) is k = record { clock = clock; drawn = is; is = cc }
+    go (Err fault) is k = absurd (cc)
+
+    by : (many : Bool) → cond many (Err (OfEdit (TooManyWrites (length (w ∷ ws))))) (written s (w ∷ ws) (draw s.clock reading (length (w ∷ ws)))) ≡ Ok a → IsWritten s reading (w ∷ ws) a
+    by true k = absurd (cc)
+    by false k = go (draw s.clock reading (length (w ∷ ws))) refl k
+
+-- the clock is not behind a message
+pub written_ahead : (s : State) (clock : Stamp) (w : Write) (ws : List Write) → IsDrawn s.clock clock (length (w ∷ ws)) → IsAhead s.clock s.messages
+    → IsAhead clock (join s.messages (stamped (first_in_row clock (length (w ∷ ws))) (w ∷ ws)))
+written_ahead s clock w ws d ahead =
+    let first : first_in_row clock (length (w ∷ ws)) ≡ d.first = first_is clock d.first (length (w ∷ ws)) d.row in
+    let time : d.first.millis ≡ clock.millis = ap (λ (t : Stamp). t.millis) (sym d.row) in
+    let counter : clock.counter ≡ d.first.counter + (length (w ∷ ws) - 1) = ap (λ (t : Stamp). t.counter) d.row in
+    let old : IsAhead clock s.messages = ahead_later s.clock clock s.messages (later_on s.clock d.first clock (length (w ∷ ws) - 1) d.row d.later) ahead in
+    let new : IsAhead clock (stamped d.first (w ∷ ws)) = stamped_up_to clock d.first (w ∷ ws) time (omega (arith, counter)) in
+    subst (λ (t : Stamp). IsAhead clock (join s.messages (stamped t (w ∷ ws)))) (sym first) (all_join (λ (m : Message). IsUpTo clock m.stamp) s.messages (stamped d.first (w ∷ ws)) old new)
+
+joined_writes : (s : State) (clock first : Stamp) (ws : List Write) → clock ≡ counted_on first (length ws - 1) → IsLater s.clock first → first.node ≡ s.clock.node → IsAhead s.clock s.messages
+    → AreJoinedWrites s ws (accepted_as (with_messages s.messages (stamped first ws) clock) (length ws))
+joined_writes s clock first ws row later own ahead =
+    let b = join_row s.messages first ws (all_past s.clock first s.messages ahead later) in record {
+      messages = stamped first ws;
+      first = first;
+      number = row_length first ws;
+      each = row_at first ws;
+      own = own;
+      later = later;
+      at_clock = row;
+      joined = refl;
+      behind = b.joined;
+      grown = ap length b.joined ∙ length-append s.messages (stamped first ws) ∙ ap (λ (k : ℕ). length s.messages + k) (row_length first ws);
+      written = λ front back w is alone.
+          ap (λ (l : List Message). option_map (λ (m : Message). m.value) (latest l w.field)) (b.joined ∙ ap (λ (l : List Write). s.messages ++ stamped first l) is)
+          ∙ last_value s.messages first front back w alone;
+      not_written = λ f alone. ap (λ (l : List Message). latest l f) b.joined ∙ latest_stays f s.messages (stamped first ws) (are_other f first ws alone);
+      pending = ap (map record_of) b.new;
+      none_made = refl;
+      counted = refl;
+    }
+
+pub writes_joined : WritesAreJoined
+writes_joined = record {
+  joined = λ s reading w ws a ahead h.
+      let x = is_written s reading w ws a h in
+      let d = is_drawn s.clock x.clock reading (length (w ∷ ws)) x.drawn in
+      let first : d.first ≡ first_in_row x.clock (length (w ∷ ws)) = sym (first_is x.clock d.first (length (w ∷ ws)) d.row) in
+      subst (AreJoinedWrites s (w ∷ ws)) x.is
+      (subst (λ (t : Stamp). AreJoinedWrites s (w ∷ ws) (accepted_as (with_messages s.messages (stamped t (w ∷ ws)) x.clock) (length (w ∷ ws)))) first
+      (joined_writes s x.clock d.first (w ∷ ws) d.row d.later d.own ahead));
+  accepted = λ s reading w ws clock few drawn. (_, (writing_some s reading (w ∷ ws) (omega arith) few ∙ ap (written s (w ∷ ws)) drawn, refl));
+  no_stamp = λ s reading w ws fault few drawn. writing_some s reading (w ∷ ws) (omega arith) few ∙ ap (written s (w ∷ ws)) drawn;
+  too_many = writing_many;
+  none = λ s reading. refl;
+}
