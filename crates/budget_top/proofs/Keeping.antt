@@ -16,7 +16,8 @@ use Rattle.device_core.specs.Device.{DeviceState}
 use Rattle.kept_messages.specs.Holding.{BatchesAreKept}
 use Rattle.kept_messages.specs.News.{new_in, NewOnesAreAdded}
 use Rattle.budget_top.specs.Seen.{HoldsSet, device_group}
-use Rattle.budget_top.specs.Handling.{Brings, Carries, CarriesEither}
+use Rattle.device_core.specs.Accepting.{Brings}
+use Rattle.budget_top.specs.Handling.{Carries, CarriesEither}
 
 -- ---- the new ones of some messages
 

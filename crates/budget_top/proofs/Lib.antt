@@ -14,6 +14,7 @@ pub mod Plain
 pub mod Serving
 pub mod Answering
 pub mod Obeying
+mod Obeyed
 pub mod Keeping
 pub mod Replying
 mod Parses

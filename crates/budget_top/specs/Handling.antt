@@ -1,15 +1,13 @@
 -- What one line does to a device and its keeper.
-use Rattle.std.specs.Prelude.{◌≡◌, ◌⊎◌, ℕ, List, map, Bool, Option, Result, Ok}
+use Rattle.std.specs.Prelude.{◌≡◌, ◌⊎◌, ℕ, List, Bool, Option, Result, Ok}
 use Rattle.budget_ports.specs.Contents.{Contents}
 use Rattle.budget_ports.specs.Exchanges.{Exchange, Adds}
 use Rattle.budget_ports.specs.Faults.{count_after}
 use Rattle.budget_ports.specs.declared.keeper.PortFault.{PortFault}
 use Rattle.budget_ports.specs.declared.keeper.PortFault.TheVariants.{Failed}
 use Rattle.field_merge.specs.declared.message.Message.{Message}
-use Rattle.field_merge.specs.Log.{join}
-use Rattle.kept_messages.specs.Records.{record_of, kept_set}
+use Rattle.kept_messages.specs.Records.{kept_set}
 use Rattle.device_core.specs.Device.{State, DeviceState, at_rest, begun}
-use Rattle.kept_messages.specs.News.{new_in}
 use Rattle.command_lines.specs.declared.command.Command.{Command}
 use Rattle.command_lines.specs.declared.reply.Reply.{Reply}
 use Rattle.command_lines.specs.Replies.{reply_text_of}
@@ -22,12 +20,6 @@ pub record IsHandled (done : State × Reply) (new : State) (text : List ℕ) (re
   pub state : new ≡ done.0
   pub is_text : text ≡ reply_text_of done.1
   pub is_bad : refused ≡ is_refused done.1
-
--- a device that had these messages has new ones, whose records are the ones that are not kept yet
-pub record Brings (old : List Message) (device : DeviceState) : Type 0 where
-  pub news : List Message
-  pub batch : device.batch ≡ map record_of (new_in old news)
-  pub messages : device.state.messages ≡ join old news
 
 -- a keeper that held these messages holds those now, whatever else it holds
 abbrev pub Carries : List Message → List Message → Contents → Contents → Type 0

@@ -19,3 +19,5 @@ pub mod Handling
 pub mod Standing
 pub mod DeviceRun
 pub mod DeviceSteps
+pub mod Ran
+pub mod Obeying

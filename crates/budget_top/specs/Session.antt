@@ -27,12 +27,12 @@ reply_to_refusal (Some reply) = reply
 
 -- what an accepted line leaves, with its reply; a refused one leaves all as it is
 abbrev pub settled : State → (Accepted → Reply) → Result Accepted LineRefusal → State × Reply
-settled s reply (Ok accepted) = (accepted.device.state, reply accepted)
+settled s reply (Ok accepted) = (accepted.state, reply accepted)
 settled s reply (Err refusal) = (s, reply_to_refusal (refused refusal))
 
 -- the reply to an edit that was accepted
 abbrev pub wrote_all : Accepted → Reply
-wrote_all accepted = wrote accepted.count accepted.device.made
+wrote_all accepted = wrote accepted.count accepted.made
 
 -- the reply to messages that were accepted
 abbrev pub added_all : Accepted → Reply

@@ -1,10 +1,12 @@
 //! One line of a device: what it asks is done, and what it made is kept before it is answered.
-ghost use Rattle.std.specs.Prelude.{◌≡◌, ◌≢◌, ◌⊎◌, ◌∷◌, [], List, Ok, IfOk, IfErr, OnOk, OnErr, IsErrOf, false};
+ghost use Rattle.std.specs.Prelude.{◌≡◌, ◌≢◌, ◌⊎◌, ◌∷◌, [], List, Ok, Err, IfOk, IfErr, IfSome, IsSome, IsUtf8, OnOk, OnErr, IsErrOf, false};
 ghost use Rattle.field_merge.specs.declared.message.Message.{Message};
 ghost use Rattle.field_merge.specs.Messages.{IsMessage};
 ghost use Rattle.device_core.specs.Edits.{IsEdit};
+ghost use Rattle.device_core.specs.Accepting.{Brings};
 ghost use Rattle.device_core.specs.Device.{edited, received};
 ghost use Rattle.command_lines.specs.Commands.{IsRead, IsCommand};
+ghost use Rattle.command_lines.specs.declared.command.CommandFault.TheVariants.{NoMemory as OutOfMemory};
 ghost use Rattle.budget_ports.specs.Faults.{count_after};
 ghost use Rattle.budget_ports.specs.Contents.{Contents};
 ghost use Rattle.budget_ports.specs.Keeper.{has_failed, IsAlone};
@@ -12,7 +14,7 @@ ghost use Rattle.budget_ports.specs.declared.keeper.PortFault.TheVariants.{Faile
 ghost use Rattle.budget_top.specs.Session.{asked_kept_line, settled, wrote_all, added_all, obeyed, is_refused};
 ghost use Rattle.budget_top.specs.Doing.{Target};
 ghost use Rattle.budget_top.specs.Seen.{device_group};
-ghost use Rattle.budget_top.specs.Handling.{IsHandled, IsAnswered, IsUnanswered, Brings, Carries, CarriesEither};
+ghost use Rattle.budget_top.specs.Handling.{IsHandled, IsAnswered, IsUnanswered, Carries, CarriesEither};
 
 use crate::begun::Begun;
 use budget_ports::{Keeper, Link, PortFault};
@@ -20,7 +22,7 @@ use command_lines::{
     Command, CommandFault, Reply, added_reply, faulty_reply, read_command, read_reply,
     refusal_reply, reply_text, wrote_reply,
 };
-use device_core::{Device, Edit};
+use device_core::{Device, Edit, accepted_are_joined};
 use field_merge::Message;
 use field_values::{NoMemory, Steps, Txt, TxtFault};
 use kept_messages::{batches_are_kept, new_ones_are_added};
@@ -40,6 +42,7 @@ pub struct Answer {
 fn ask(alloc: Global, line: &Begun) -> Result<Command, CommandFault>
     ensures read { IsRead (asked_kept_line line.now) result }
     ensures valid { IfOk result IsCommand }
+    ensures memory { result ≡ Err OutOfMemory → IfSome line.now IsUtf8 × IsSome line.now }
 {
     let Some(bytes) = line.bytes() else {
         return Err(CommandFault::BadCommand { word: 0 });
@@ -66,6 +69,7 @@ fn make<G: Ledger>(
     ensures live { OnOk result (device.new.spent ≡ false) }
     ensures brings { OnOk result (Brings device.old.state.messages device.new) }
 {
+    accepted_are_joined();
     match device.prepare(edit, reading, steps) {
         Ok(count) => wrote_reply(alloc, count, device.made()),
         Err(refusal) => refusal_reply(alloc, &refusal),
@@ -87,6 +91,7 @@ fn receive<G: Ledger>(
     ensures live { OnOk result (device.new.spent ≡ false) }
     ensures brings { OnOk result (Brings device.old.state.messages device.new) }
 {
+    accepted_are_joined();
     match device.incoming(&[message], reading, steps) {
         Ok(count) => added_reply(alloc, count),
         Err(refusal) => refusal_reply(alloc, &refusal),

@@ -1,8 +1,10 @@
 //! What holds of all command lines, and of all replies.
 ghost use Rattle.budget_top.specs.Written.{LinesAreWritten};
 ghost use Rattle.budget_top.specs.Replies.{RepliesAreCut};
+ghost use Rattle.budget_top.specs.Obeying.{LinesAreObeyed};
 
 use command_lines::replies_are_lines;
+use device_core::{accepted_are_joined, edits_read_back, received_are_joined};
 
 /// The command lines are the words that write one mode word and options, each at most once: an
 /// option as `--name=value`, or as `--name value` where the value has no hyphen in front.
@@ -17,4 +19,17 @@ pub fn replies_are_cut()
     ensures { RepliesAreCut }
 {
     replies_are_lines();
+    accepted_are_joined();
+}
+
+/// What a device does at a line. A write that is accepted leaves one message more, with the value that was
+/// written, which is the latest of its field, and answers `writes 1`. A message that is accepted has joined
+/// the others, and the answer tells by how many the set has grown. A line that only reads leaves all as it
+/// is, and gets its answer. A write or a message that is refused, and a line that is no command, leave all
+/// as it is; the reply tells the refusal, or the part of the line that is at fault.
+pub fn lines_are_obeyed()
+    ensures { LinesAreObeyed }
+{
+    edits_read_back();
+    received_are_joined();
 }

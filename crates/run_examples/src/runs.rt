@@ -1,7 +1,9 @@
 ghost use Rattle.std.specs.Prelude.{◌≡◌, ◌≤◌};
 
-use crate::run_in_memory;
-use budget_ports::{ListClock, MemoryKeeper, MemorySink, MemorySource, ScriptLink};
+use budget_ports::{
+    ListClock, MemoryDoor, MemoryKeeper, MemorySink, MemorySource, ScriptLink,
+};
+use budget_top::run_in_memory;
 use field_values::{Items, Steps, Txt};
 use std::alloc::Global;
 use std::collections::VecDeque;
@@ -60,7 +62,19 @@ fn failing<'a>(
     }
 }
 
-/// A run with a counter of steps that nobody reads.
+/// A run whose words are refused.
+fn refused<'a>(words: &'a [&'a str]) -> Row<'a> {
+    Row {
+        words,
+        input: &[FOOD],
+        source_fails: &[],
+        sink_fails: &[],
+        status: 2,
+        output: &[],
+    }
+}
+
+/// A run without a server and without connections, with a counter of steps that nobody reads.
 pub(crate) fn uncounted<G: Ledger>(
     blank: Blank,
     alloc: Global,
@@ -68,15 +82,18 @@ pub(crate) fn uncounted<G: Ledger>(
     source: &mut MemorySource,
     sink: &mut MemorySink,
     keeper: &mut MemoryKeeper,
-    link: &mut ScriptLink,
     clock: &mut ListClock,
-) -> u8
+) -> Result<u8, Fail>
     requires name { blank.name ≡ G.name }
     requires parts { blank.parts ≡ G.parts }
     requires some { 1 ≤ G.parts }
 {
+    let mut link = ScriptLink::new(alloc, VecDeque::new(alloc));
+    let mut door = MemoryDoor::new(alloc, Vec::new(alloc), Vec::new(alloc), 0)?;
     let mut steps = Steps::<G>::new(blank);
-    run_in_memory(alloc, words, source, sink, keeper, link, clock, &mut steps)
+    Ok(run_in_memory(
+        alloc, words, source, sink, keeper, &mut link, &mut door, clock, &mut steps,
+    ))
 }
 
 /// All parts, one behind the other.
@@ -105,7 +122,6 @@ fn outcome(rt: &HostRuntime, row: &Row<'_>) -> Result<(u8, Vec<u8>), Fail> {
     let mut source = MemorySource::with_faults(input, source_fails);
     let mut sink = MemorySink::with_faults(rt.alloc(), 1000, sink_fails)?;
     let mut keeper = MemoryKeeper::new(rt.alloc());
-    let mut link = ScriptLink::new(rt.alloc(), VecDeque::new(rt.alloc()));
     let mut clock = ListClock::new([0].to_vec(rt.alloc())?);
     let status = uncounted::<Brand>(
         Blank::new(1),
@@ -114,22 +130,13 @@ fn outcome(rt: &HostRuntime, row: &Row<'_>) -> Result<(u8, Vec<u8>), Fail> {
         &mut source,
         &mut sink,
         &mut keeper,
-        &mut link,
         &mut clock,
-    );
+    )?;
     Ok((status, sink.written().to_vec(rt.alloc())?))
 }
 
 #[test]
 fn rows(rt: HostRuntime) -> Result<(), Fail> {
-    let other_words = Row {
-        words: &["merge", "x"],
-        input: &[FOOD],
-        source_fails: &[],
-        sink_fails: &[],
-        status: 2,
-        output: &[],
-    };
     let both_bad = ["bad-line 1 columns\n", "bad-line 2 columns\n"];
     let rows = [
         merged(&[], 0, &[]),
@@ -139,6 +146,7 @@ fn rows(rt: HostRuntime) -> Result<(), Fail> {
         merged(&[X, Y], 0, &[X]),
         merged(&[Y, X], 0, &[Y]),
         merged(&["x\n"], 1, &["bad-line 1 columns\n"]),
+        merged(&["\n"], 1, &["bad-line 1 columns\n"]),
         merged(
             &[FOOD, "\n", "x"],
             1,
@@ -151,7 +159,10 @@ fn rows(rt: HostRuntime) -> Result<(), Fail> {
         // the second write, and the flush
         failing(&[], &[1], 5, &["bad-line 1 columns\n"]),
         failing(&[], &[2], 5, &both_bad),
-        other_words,
+        refused(&["merge", "x"]),
+        refused(&[]),
+        refused(&["device"]),
+        refused(&["merge", "--count", "0"]),
     ];
     for row in &rows {
         let (status, written) = outcome(&rt, row)?;

@@ -1,4 +1,4 @@
-use Rattle.budget_top.proofs.device_tests.outcome.Given as goal
+use Rattle.run_examples.proofs.runs.outcome.Given as goal
 
 -- the counter's ledger is the blank one's
 abbrev pub ghosts-uncounted : goal.ghosts-uncounted

@@ -1,10 +1,9 @@
-use crate::tests::{FOOD, joined, uncounted};
+use crate::runs::{FOOD, joined, uncounted};
 use budget_ports::{
-    Keeper, ListClock, MemoryKeeper, MemorySink, MemorySource, PortFault, Record, ScriptLink,
+    Keeper, ListClock, MemoryKeeper, MemorySink, MemorySource, PortFault, Record,
 };
 use field_values::{Items, Txt};
 use std::alloc::Global;
-use std::collections::VecDeque;
 use std::marker::Brand;
 use std::sync::ledger::Blank;
 use std::test::Fail;
@@ -75,7 +74,6 @@ fn outcome(
     let sink_fails = row.sink_fails.to_vec(rt.alloc())?;
     let mut source = MemorySource::with_faults(input, source_fails);
     let mut sink = MemorySink::with_faults(rt.alloc(), 1000, sink_fails)?;
-    let mut link = ScriptLink::new(rt.alloc(), VecDeque::new(rt.alloc()));
     let words = words(rt.alloc())?;
     let mut clock = ListClock::new([1_704_448_800_000].to_vec(rt.alloc())?);
     let status = uncounted::<Brand>(
@@ -85,9 +83,8 @@ fn outcome(
         &mut source,
         &mut sink,
         keeper,
-        &mut link,
         &mut clock,
-    );
+    )?;
     Ok((status, sink.written().to_vec(rt.alloc())?))
 }
 

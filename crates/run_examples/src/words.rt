@@ -1,5 +1,4 @@
-use crate::planning::plan;
-use crate::words::{Plan, WordFault};
+use budget_top::{Plan, WordFault, plan};
 use field_values::{Items, Txt};
 use std::alloc::Global;
 use std::str;
@@ -74,7 +73,8 @@ fn parts_of(alloc: Global, plan: &Plan) -> Result<String, Fail> {
 /// What a line asks for.
 fn shown(alloc: Global, line: &str) -> Result<String, Fail> {
     match planned(alloc, line)? {
-        Ok(plan) => {
+        Ok(made) => {
+            let plan = made.copy()?;
             let mode = plan.mode;
             let parts = parts_of(alloc, &plan)?;
             let listen = plan.listen.as_str();
