@@ -27,3 +27,4 @@ pub mod Spelled
 pub mod Hyphens
 pub mod Refusing
 pub mod LineWriting
+pub mod Valid

@@ -1,5 +1,6 @@
 -- The replies of a device as lines.
 use Rattle.std.proofs.Common.{◌≡◌, ℕ, List, [], ◌∷◌, ◌++◌, refl, ap, sym, ◌∙◌, subst, append_assoc, append-nil, Option, None, Some, Result, Ok, Err}
+use Rattle.field_merge.specs.Messages.{AreMessages}
 use Rattle.device_core.specs.declared.edit.LineRefusal.{LineRefusal}
 use Rattle.device_core.specs.Device.{State, Accepted, edited, received}
 use Rattle.device_core.specs.Accepting.{AcceptedAreJoined}
@@ -10,6 +11,7 @@ use Rattle.command_lines.specs.Replies.{refused, reply_lines, reply_text_of}
 use Rattle.command_lines.specs.ReplyLines.{RepliesAreLines, IsReply}
 use Rattle.budget_top.specs.Lines.{pieces, all_but_last, last_of}
 use Rattle.budget_top.specs.Session.{asked, obeyed, settled, wrote_all, added_all, reply_to_refusal}
+use Rattle.budget_top.specs.Valid.{StatesStayValid}
 use Rattle.budget_top.specs.Course.{step, replies}
 use Rattle.budget_top.specs.Replies.{RepliesAreCut, lines_of_replies}
 use Rattle.budget_top.proofs.Cutting.{onto, pieces_some, pieces-append, but_last-append, last_of-append}
@@ -25,14 +27,14 @@ module _ (law : RepliesAreLines) (joined : AcceptedAreJoined) where
   settled_reply s reply (Ok done) all = all done refl
   settled_reply s reply (Err refusal) all = refused_reply refusal (refused refusal) refl
 
-  obeyed_reply : (s : State) (reading : ℕ) (asks : Result Command ℕ) → IsReply (obeyed s reading asks).1
-  obeyed_reply s reading (Err index) = law.faults index
-  obeyed_reply s reading (Ok (EditOf edit)) = settled_reply s wrote_all (edited s edit reading) (λ done is. law.edits done.count done.made (joined.of_edits s edit reading done is).lines)
-  obeyed_reply s reading (Ok (Receive message)) = settled_reply s added_all (received s (message ∷ []) reading) (λ done is. law.received done.count)
-  obeyed_reply s reading (Ok Fields) = law.answers s.messages Fields
-  obeyed_reply s reading (Ok (Messages since)) = law.answers s.messages (Messages since)
-  obeyed_reply s reading (Ok (Value dataset row column)) = law.answers s.messages (Value dataset row column)
-  obeyed_reply s reading (Ok Trie) = law.answers s.messages Trie
+  obeyed_reply : (s : State) (reading : ℕ) (asks : Result Command ℕ) → AreMessages s.messages → IsReply (obeyed s reading asks).1
+  obeyed_reply s reading (Err index) valid = law.faults index
+  obeyed_reply s reading (Ok (EditOf edit)) valid = settled_reply s wrote_all (edited s edit reading) (λ done is. law.edits done.count done.made (joined.of_edits s edit reading done is).lines)
+  obeyed_reply s reading (Ok (Receive message)) valid = settled_reply s added_all (received s (message ∷ []) reading) (λ done is. law.received done.count)
+  obeyed_reply s reading (Ok Fields) valid = law.answers s.messages Fields valid
+  obeyed_reply s reading (Ok (Messages since)) valid = law.answers s.messages (Messages since) valid
+  obeyed_reply s reading (Ok (Value dataset row column)) valid = law.answers s.messages (Value dataset row column) valid
+  obeyed_reply s reading (Ok Trie) valid = law.answers s.messages Trie valid
 
 -- ---- one reply behind the other
 
@@ -45,9 +47,10 @@ cut_behind text more ls is =
     ∙ ap (λ p. ls ++ onto p (pieces more)) (last_of-append ls [] [])
     ∙ ap (λ ps. ls ++ ps) (pieces_some more)
 
-pub replies_cut : RepliesAreLines → AcceptedAreJoined → RepliesAreCut
-replies_cut law joined t r [] = refl
-replies_cut law joined t r (i ∷ is) =
-    cut_behind (reply_text_of (step t r i).1) (replies t (step t r i).0 is) (reply_lines (step t r i).1) (law.cut (step t r i).1 (obeyed_reply law joined r.state i.given.reading (asked i.line)))
-    ∙ ap (λ ls. reply_lines (step t r i).1 ++ ls) (replies_cut law joined t (step t r i).0 is)
+pub replies_cut : RepliesAreLines → AcceptedAreJoined → StatesStayValid → RepliesAreCut
+replies_cut law joined stay t r [] valid = refl
+replies_cut law joined stay t r (i ∷ is) valid =
+    cut_behind (reply_text_of (step t r i).1) (replies t (step t r i).0 is) (reply_lines (step t r i).1)
+    (law.cut (step t r i).1 (obeyed_reply law joined r.state i.given.reading (asked i.line) valid.messages))
+    ∙ ap (λ ls. reply_lines (step t r i).1 ++ ls) (replies_cut law joined stay t (step t r i).0 is (stay.obeyed r.state i.given.reading i.line valid))
     ∙ sym (append_assoc (reply_lines (step t r i).1) (lines_of_replies t (step t r i).0 is) ([] ∷ []))

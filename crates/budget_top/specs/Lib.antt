@@ -21,3 +21,4 @@ pub mod DeviceRun
 pub mod DeviceSteps
 pub mod Ran
 pub mod Obeying
+pub mod Valid

@@ -2,8 +2,9 @@
 ghost use Rattle.budget_top.specs.Written.{LinesAreWritten};
 ghost use Rattle.budget_top.specs.Replies.{RepliesAreCut};
 ghost use Rattle.budget_top.specs.Obeying.{LinesAreObeyed};
+ghost use Rattle.budget_top.specs.Valid.{StatesStayValid};
 
-use command_lines::replies_are_lines;
+use command_lines::{lines_write_back, replies_are_lines};
 use device_core::{accepted_are_joined, edits_read_back, received_are_joined};
 
 /// The command lines are the words that write one mode word and options, each at most once: an
@@ -12,7 +13,7 @@ pub fn lines_are_written()
     ensures { LinesAreWritten }
 {}
 
-/// Whoever cuts what a device has written at its line feeds finds one reply behind the other, each as
+/// Where the device's state is valid, as it always is (`states_stay_valid`): whoever cuts what it has written at its line feeds finds one reply behind the other, each as
 /// `ok N` and N lines, or as the one line of a refusal. So a text in a reply never looks like the end
 /// of it.
 pub fn replies_are_cut()
@@ -20,6 +21,7 @@ pub fn replies_are_cut()
 {
     replies_are_lines();
     accepted_are_joined();
+    states_stay_valid();
 }
 
 /// What a device does at a line. A write that is accepted leaves one message more, with the value that was
@@ -32,4 +34,12 @@ pub fn lines_are_obeyed()
 {
     edits_read_back();
     received_are_joined();
+}
+
+/// A device that begins with a node and valid messages has a valid state: its messages are valid, and so is the
+/// timestamp at which its clock stands. No line leaves it another one.
+pub fn states_stay_valid()
+    ensures { StatesStayValid }
+{
+    lines_write_back();
 }

@@ -22,6 +22,6 @@ mod write;
 
 pub use dispatch::{refusal_status, run};
 pub use in_memory::run_in_memory;
-pub use laws::{lines_are_obeyed, lines_are_written, replies_are_cut};
+pub use laws::{lines_are_obeyed, lines_are_written, replies_are_cut, states_stay_valid};
 pub use planning::plan;
 pub use words::{Mode, Plan, WordFault};

@@ -17,15 +17,20 @@ use Rattle.field_merge.specs.declared.message.Message.{Message}
 use Rattle.field_merge.specs.Joining.{HasNone, HaveSame, IsLatest, IsLatestOrNone, ListsLatest}
 use Rattle.field_merge.specs.Laws.{LatestIsLatest}
 use Rattle.field_merge.specs.Log.{IsRising, fields, has_field, is_after, latest, messages_after}
-use Rattle.field_merge.specs.Messages.{message_line}
+use Rattle.field_merge.specs.Messages.{message_line, AreMessages}
 use Rattle.field_merge.proofs.Fields.{fields_in_order, find-fields}
 use Rattle.field_merge.proofs.Joining.{same_found, stamp_of}
 use Rattle.field_merge.proofs.Latest.{has_its_own, latest_there}
 use Rattle.field_merge.proofs.Members.{all_of, all_weaker, found_in, here, some_passes, there}
 use Rattle.field_merge.proofs.Ordered.{equal, found_by_key, has, same}
 use Rattle.field_merge.proofs.Orders.{names_exact, names_total, stamps_exact, stamps_total}
+use Rattle.minute_trie.specs.Held.{IsMap}
+use Rattle.minute_trie.specs.Json.{trie_text}
+use Rattle.minute_trie.specs.Laws.{OrderIsFree, TriesAreMaps, TextsReadBack}
+use Rattle.minute_trie.specs.Trie.{trie_of, ArePairs}
+use Rattle.kept_messages.specs.Pairs.{pairs_of}
 use Rattle.command_lines.specs.declared.reply.Reply.TheVariants.{Done}
-use Rattle.command_lines.specs.Answers.{AnswersTell, ListsLater}
+use Rattle.command_lines.specs.Answers.{AnswersTell, ListsLater, TellsTrie}
 use Rattle.command_lines.specs.Readings.{shown}
 
 -- ---- the latest message of a field
@@ -141,10 +146,24 @@ only_later ms told since s h =
 
 -- ---- the answers
 
-pub they_tell : LatestIsLatest → AnswersTell
-they_tell law = record {
+-- the trie of valid messages is one of pairs
+pairs_are : TriesAreMaps → (ms : List Message) → AreMessages ms → ArePairs (pairs_of ms)
+pairs_are maps [] valid = tt
+pairs_are maps (m ∷ ms) valid = (maps.of_stamp m.stamp valid.0.stamp, pairs_are maps ms valid.1)
+
+trie_told : TriesAreMaps → TextsReadBack → OrderIsFree → (ms : List Message) → AreMessages ms → TellsTrie ms (trie_text (trie_of (pairs_of ms)))
+trie_told maps texts order ms valid =
+    let is : IsMap 16 (trie_of (pairs_of ms)) = maps.of_pairs (pairs_of ms) (pairs_are maps ms valid) in
+    record {
+      right = texts.right (trie_of (pairs_of ms)) is;
+      same = λ pairs permuted. texts.same (trie_of (pairs_of ms)) is ∙ sym (order.same pairs (pairs_of ms) permuted);
+    }
+
+pub they_tell : LatestIsLatest → TriesAreMaps → TextsReadBack → OrderIsFree → AnswersTell
+they_tell law maps texts order = record {
   value = λ ms d r c m s is. ap (λ o. Done (shown (option_map (λ (m : Message). m.value) o) ∷ [])) (only_latest law ms (field_of d r c) m s is);
   none = λ ms d r c no. ap (λ o. Done (shown (option_map (λ (m : Message). m.value) o) ∷ [])) (no_latest ms (field_of d r c) no);
   fields = λ ms listed h. ap (λ ns. Done (map message_line ns)) (only_listed ms listed h);
   messages = λ ms told since s h. ap (λ ns. Done (map message_line ns)) (only_later ms told since s h);
+  trie = λ ms valid. (trie_text (trie_of (pairs_of ms)), refl, trie_told maps texts order ms valid);
 }

@@ -23,7 +23,8 @@ use Rattle.field_merge.proofs.EscapeLemmas.{bad_escape-plain}
 use Rattle.field_merge.proofs.LineLemmas.{parts-at, reading-columns}
 use Rattle.command_lines.specs.declared.command.Command.{Command}
 use Rattle.command_lines.specs.declared.command.Command.TheVariants.{Receive}
-use Rattle.command_lines.specs.Commands.{Wanted, word, no_more, misfit, is_name, of_stamp, name_word, receive_words, unescaped_for, command_of, of_words, command, longest_line}
+use Rattle.command_lines.specs.Forms.{Wanted, word, no_more, may_end, some_texts, some_shares, misfit, is_name, of_stamp, name_word, behind, unescaped_for, command_of}
+use Rattle.command_lines.specs.Commands.{receive_words, of_words, command, longest_line}
 use Rattle.command_lines.specs.Written.{receive_line, ReceivesMessageLines}
 
 -- ---- a line has no bad escape exactly where no part has one
@@ -188,6 +189,7 @@ Wants n misfit = Unit {0}
 Wants n (no_more made) = n ≡ 0
 Wants zero (word next) = ⊥
 Wants (suc n) (word next) = (text : List ℕ) → Wants n (next text)
+Wants n wanted = ⊥
 
 wants_stamp : (n : ℕ) (next : Stamp → Wanted) (read : Result Stamp StampFault) → ((s : Stamp) → Wants n (next s)) → Wants n (of_stamp next read)
 wants_stamp n next (Ok s) h = h s
@@ -207,7 +209,14 @@ wants_word (Some at) n next w h = tt
 other_number : (ws : List (List ℕ)) (n : ℕ) (wanted : Wanted) (last : ℕ) → Wants n wanted → length ws ≢ n → result_ok (command_of wanted last ws) ≡ None
 other_number ws n misfit last h other = refl
 other_number [] n (no_more made) last h other = absurd (other (sym h))
-other_number (w ∷ ws) n (no_more made) last h other = refl
+other_number (w ∷ ws) n (no_more made) last h other =
+    elim (bad_escape w) as (λ bad. result_ok (command_of (unescaped_for (behind (no_more made)) w bad) (last + 1) ws) ≡ None) [
+      | None ↦ refl
+      | Some at ↦ refl
+    ]
+other_number ws n (may_end made next) last h other = absurd h
+other_number ws n (some_texts texts made) last h other = absurd h
+other_number ws n (some_shares shares made) last h other = absurd h
 other_number [] n (word next) last h other = refl
 other_number (w ∷ ws) zero (word next) last h other = absurd h
 other_number (w ∷ ws) (suc n) (word next) last h other =

@@ -195,7 +195,7 @@ pieces-ended (line ∷ lines) h =
 pub are_lines : OnOneLine → RepliesAreLines
 are_lines law = record {
   cut = λ reply h. pieces-ended (reply_lines reply) (lines_are reply h);
-  answers = answer_is law;
+  answers = λ messages command valid. answer_is law messages command;
   edits = λ writes made h. (counted (codes "writes ") writes refl, made_are made h);
   received = λ count. (counted (codes "added ") count refl, tt);
   faults = λ index. code (codes "bad-command") refl;

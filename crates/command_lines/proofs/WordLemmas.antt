@@ -8,22 +8,31 @@ use Rattle.std.proofs.lemmas.List.Sums.{count_by-le-length}
 use Rattle.field_values.specs.declared.name.NameFault.{NameFault}
 use Rattle.field_values.specs.Names.{IsName, field_of, names_fault}
 use Rattle.field_values.proofs.NameLemmas.{names_fault-none}
+use Rattle.field_merge.specs.Escapes.{bad_escape}
 use Rattle.field_merge.specs.Lines.{parts}
 use Rattle.command_lines.specs.declared.command.Command.{Command}
 use Rattle.command_lines.specs.declared.command.CommandFault.{CommandFault}
-use Rattle.command_lines.specs.Commands.{no_more, command_of, IsCommandFault, IsRead}
+use Rattle.command_lines.specs.Commands.{IsCommandFault, IsRead}
+use Rattle.command_lines.specs.Forms.{no_more, unescaped_for, behind, command_of}
+
+surplus_word : (c : Command) (last : ℕ) (w : List ℕ) (ws : List (List ℕ)) → command_of (no_more c) last (w ∷ ws) ≡ Err (last + 1)
+surplus_word c last w ws =
+    elim (bad_escape w) as (λ bad. command_of (unescaped_for (behind (no_more c)) w bad) (last + 1) ws ≡ Err (last + 1)) [
+      | None ↦ refl
+      | Some at ↦ refl
+    ]
 
 surplus_front : (c : Command) (last x : ℕ) (ps : List (List ℕ)) → command_of (no_more c) last (onto_first x ps) ≡ Err (last + 1)
-surplus_front c last x [] = refl
-surplus_front c last x (p ∷ ps) = refl
+surplus_front c last x [] = surplus_word c last (x ∷ []) []
+surplus_front c last x (p ∷ ps) = surplus_word c last (x ∷ p) ps
 
 surplus_at : (c : Command) (last x : ℕ) (b : Bool) (ps : List (List ℕ)) → command_of (no_more c) last (cond b ([] ∷ ps) (onto_first x ps)) ≡ Err (last + 1)
-surplus_at c last x true ps = refl
+surplus_at c last x true ps = surplus_word c last [] ps
 surplus_at c last x false ps = surplus_front c last x ps
 
 -- what is left of a line has a word, which is one too many behind the last
 pub surplus : (c : Command) (last : ℕ) (text : List ℕ) → command_of (no_more c) last (parts text) ≡ Err (last + 1)
-surplus c last [] = refl
+surplus c last [] = surplus_word c last [] []
 surplus c last (x ∷ xs) = surplus_at c last x (eqb x 9) (parts xs)
 
 -- the fault with which a `?` leaves a function is what the call gave

@@ -1,7 +1,8 @@
 -- What the answers of the lines that only read tell.
-use Rattle.std.specs.Prelude.{◌≡◌, ◌↔◌, ℕ, List, [], ◌∷◌, map, codes, true}
+use Rattle.std.specs.Prelude.{◌≡◌, ◌↔◌, ℕ, List, [], ◌∷◌, map, codes, None, true}
 use Rattle.std.specs.Cmp.Lexicographic.{slice_cmp}
 use Rattle.std.specs.List.{Contains}
+use Rattle.std.specs.List.Sorted.{IsPermutation}
 use Rattle.std.specs.Ordering.{is_gt, nat_cmp}
 use Rattle.field_values.specs.Names.{field_of}
 use Rattle.field_values.specs.Value.{value_text}
@@ -10,8 +11,10 @@ use Rattle.field_merge.specs.declared.message.Message.{Message}
 use Rattle.field_merge.specs.Escapes.{escaped}
 use Rattle.field_merge.specs.Joining.{HasNone, IsLatest, ListsLatest}
 use Rattle.field_merge.specs.Log.{IsRising}
-use Rattle.field_merge.specs.Messages.{message_line}
-use Rattle.command_lines.specs.declared.command.Command.TheVariants.{Fields, Messages, Value}
+use Rattle.field_merge.specs.Messages.{message_line, AreMessages}
+use Rattle.minute_trie.specs.Trie.{Pair, stamp_pair, trie_of}
+use Rattle.minute_trie.specs.Faults.{fault_of_text, map_of_text}
+use Rattle.command_lines.specs.declared.command.Command.TheVariants.{Fields, Messages, Value, Trie}
 use Rattle.command_lines.specs.declared.reply.Reply.TheVariants.{Done}
 use Rattle.command_lines.specs.Readings.{answer}
 
@@ -20,7 +23,12 @@ pub record ListsLater (since : List ℕ) (ms told : List Message) : Type 0 where
   pub rising : IsRising told
   pub exactly : (m : Message) → Contains told m ↔ (Contains ms m × (is_gt (slice_cmp nat_cmp (stamp_text m.stamp) since) ≡ true))
 
--- what the lines that only read are answered, but for the trie
+-- the text is that of a trie, and it is read as the trie of the messages: of their timestamps' pairs, in whichever order
+pub record TellsTrie (ms : List Message) (text : List ℕ) : Type 0 where
+  pub right : fault_of_text text ≡ None
+  pub same : (pairs : List Pair) → IsPermutation pairs (map (λ m. stamp_pair m.stamp) ms) → map_of_text text ≡ trie_of pairs
+
+-- what the lines that only read are answered
 pub record AnswersTell : Type 0 where
   -- `value` of a field that a message has: the value of its latest message, escaped
   pub value : (ms : List Message) (dataset row column : List ℕ) (m : Message) → IsRising ms → IsLatest ms (field_of dataset row column) m → answer ms (Value dataset row column) ≡ Done (escaped (value_text m.value) ∷ [])
@@ -30,3 +38,5 @@ pub record AnswersTell : Type 0 where
   pub fields : (ms listed : List Message) → ListsLatest ms listed → answer ms Fields ≡ Done (map message_line listed)
   -- `messages`: the line of each message with a timestamp whose text is greater, by timestamp
   pub messages : (ms told : List Message) (since : List ℕ) → IsRising ms → ListsLater since ms told → answer ms (Messages since) ≡ Done (map message_line told)
+  -- `trie`: the text of the trie of the messages
+  pub trie : (ms : List Message) → AreMessages ms → (text : List ℕ) × (answer ms Trie ≡ Done (text ∷ [])) × TellsTrie ms text

@@ -1,13 +1,8 @@
 -- The lines of a device: which words each has, and what it commands.
-use Rattle.std.specs.Prelude.{◌≡◌, ℕ, ◌+◌, List, [], ◌∷◌, length, Bool, nat_lt, if◌then◌else◌, codes, Option, None, Some, is_none, Result, Ok, Err}
+use Rattle.std.specs.Prelude.{◌≡◌, ℕ, List, [], ◌∷◌, length, Bool, nat_lt, if◌then◌else◌, codes, Result, Ok, Err}
 use Rattle.std.specs.Str.{bytes_eq}
-use Rattle.field_values.specs.declared.name.NamePart.TheVariants.{Dataset}
-use Rattle.field_values.specs.Names.{field_of, name_fault}
+use Rattle.field_values.specs.Names.{field_of}
 use Rattle.field_values.specs.Value.{value_of}
-use Rattle.hybrid_clock.specs.declared.stamp.Stamp.{Stamp}
-use Rattle.hybrid_clock.specs.declared.stamp.StampFault.{StampFault}
-use Rattle.hybrid_clock.specs.Reading.{read_stamp}
-use Rattle.field_merge.specs.Escapes.{unescaped, bad_escape}
 use Rattle.field_merge.specs.Lines.{parts}
 use Rattle.field_merge.specs.Messages.{IsMessage, message_of}
 use Rattle.device_core.specs.declared.edit.Edit.TheVariants.{Book}
@@ -17,30 +12,7 @@ use Rattle.command_lines.specs.declared.command.Command.{Command}
 use Rattle.command_lines.specs.declared.command.Command.TheVariants.{Edit, Receive, Fields, Messages, Value, Trie}
 use Rattle.command_lines.specs.declared.command.CommandFault.{CommandFault}
 use Rattle.command_lines.specs.declared.command.CommandFault.TheVariants.{BadCommand, NoMemory}
-
--- What a line wants behind the words that were read. Either no more words, and then it makes this command.
--- Or a word, whose text says what is wanted next. Or the last word was not of its form.
-pub data Wanted : Type 0 where
-  no_more : Command → Wanted
-  word : (List ℕ → Wanted) → Wanted
-  misfit : Wanted
-
--- what is wanted behind a word that was read as a timestamp, or was none
-abbrev pub of_stamp : (Stamp → Wanted) → Result Stamp StampFault → Wanted
-of_stamp next (Ok stamp) = next stamp
-of_stamp next (Err fault) = misfit
-
--- a word that is a timestamp's text
-abbrev pub stamp_word : (Stamp → Wanted) → Wanted
-stamp_word next = word (λ text. of_stamp next (read_stamp text))
-
--- whether a text is a name; the part of the field is told with a fault, and decides nothing
-abbrev pub is_name : List ℕ → Bool
-is_name text = is_none (name_fault Dataset text)
-
--- a word that is a name of a field
-abbrev pub name_word : (List ℕ → Wanted) → Wanted
-name_word next = word (λ text. if is_name text then next text else misfit)
+use Rattle.command_lines.specs.Forms.{Wanted, word, no_more, misfit, stamp_word, name_word, command_of}
 
 -- the words of each line, behind its name. `set`: a field's three names, which the edit judges, and the text of a value
 abbrev pub set_words : Wanted
@@ -68,30 +40,29 @@ value_words = word (λ dataset. word (λ row. word (λ column. no_more (Value da
 abbrev pub trie_words : Wanted
 trie_words = no_more Trie
 
+-- a line: its name, and the words that it wants behind it
+abbrev pub LineForm : Type 0
+LineForm = List ℕ × Wanted
+
+-- the words of the line with this name, or else these
+abbrev pub words_in : List LineForm → List ℕ → Wanted → Wanted
+words_in [] name others = others
+words_in (line ∷ lines) name others = if bytes_eq name line.0 then line.1 else words_in lines name others
+
+-- the lines about messages and fields
+abbrev pub field_lines : List LineForm
+field_lines =
+    (codes "set", set_words)
+    ∷ (codes "receive", receive_words)
+    ∷ (codes "fields", fields_words)
+    ∷ (codes "messages", messages_words)
+    ∷ (codes "value", value_words)
+    ∷ (codes "trie", trie_words)
+    ∷ []
+
 -- the words that a line with this name wants
 abbrev pub line_words : List ℕ → Wanted
-line_words name =
-    if bytes_eq name (codes "set") then set_words
-    else (if bytes_eq name (codes "receive") then receive_words
-    else (if bytes_eq name (codes "fields") then fields_words
-    else (if bytes_eq name (codes "messages") then messages_words
-    else (if bytes_eq name (codes "value") then value_words
-    else (if bytes_eq name (codes "trie") then trie_words
-    else misfit)))))
-
--- what is wanted behind a word as it is written: one with a bad escape is of no form
-abbrev pub unescaped_for : (List ℕ → Wanted) → List ℕ → Option ℕ → Wanted
-unescaped_for next written None = next (unescaped written)
-unescaped_for next written (Some at) = misfit
-
--- the command of the words behind the one with the index `last`, or the index of the first word that is not of its form,
--- where a missing word stands behind the others
-abbrev pub command_of : Wanted → ℕ → List (List ℕ) → Result Command ℕ
-command_of misfit last words = Err last
-command_of (no_more command) last [] = Ok command
-command_of (no_more command) last (w ∷ ws) = Err (last + 1)
-command_of (word next) last [] = Err (last + 1)
-command_of (word next) last (w ∷ ws) = command_of (unescaped_for next w (bad_escape w)) (last + 1) ws
+line_words name = words_in field_lines name misfit
 
 -- the first word names the line
 abbrev pub of_words : List (List ℕ) → Result Command ℕ
@@ -125,3 +96,9 @@ abbrev pub IsCommand : Command → Type 0
 IsCommand (Edit edit) = IsEdit edit
 IsCommand (Receive message) = IsMessage message
 IsCommand _ = Unit {0}
+
+-- a command that holds a text, which takes memory
+abbrev pub HoldsText : Command → Type 0
+HoldsText Fields = ⊥
+HoldsText Trie = ⊥
+HoldsText _ = Unit {0}

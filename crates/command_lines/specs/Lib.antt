@@ -1,3 +1,5 @@
+pub mod Forms
+pub mod FormLaws
 pub mod Commands
 pub mod Unread
 pub mod Replies

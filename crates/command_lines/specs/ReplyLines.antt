@@ -2,6 +2,7 @@
 use Rattle.std.specs.Prelude.{◌≡◌, ◌≢◌, ◌==◌, ℕ, List, [], ◌∷◌, ◌++◌, All, Some}
 use Rattle.std.specs.List.{AllByRecursion, slice_split}
 use Rattle.field_merge.specs.declared.message.Message.{Message}
+use Rattle.field_merge.specs.Messages.{AreMessages}
 use Rattle.device_core.specs.declared.edit.LineRefusal.{LineRefusal}
 use Rattle.command_lines.specs.declared.command.Command.{Command}
 use Rattle.command_lines.specs.declared.reply.Reply.{Reply}
@@ -23,11 +24,11 @@ IsReply (Done lines) = AreLines lines
 IsReply (Refused number code detail) = IsLine code
 
 -- The text of a reply is cut by its line feeds into its lines, and nothing stands behind the last.
--- The answers of lines that only read are such replies, and so are those to edits whose ids are lines, to messages,
--- to lines that are no command, and to refusals.
+-- The answers of lines that only read are such replies, where the messages are valid, and so are the replies to edits
+-- whose ids are lines, to messages, to lines that are no command, and to refusals.
 pub record RepliesAreLines : Type 0 where
   pub cut : (reply : Reply) → IsReply reply → slice_split (λ b. b == 10) (reply_text_of reply) ≡ reply_lines reply ++ [] ∷ []
-  pub answers : (messages : List Message) (command : Command) → IsReply (answer messages command)
+  pub answers : (messages : List Message) (command : Command) → AreMessages messages → IsReply (answer messages command)
   pub edits : (writes : ℕ) (made : List (List ℕ)) → AreLines made → IsReply (wrote writes made)
   pub received : (count : ℕ) → IsReply (added count)
   pub faults : (index : ℕ) → IsReply (faulty index)

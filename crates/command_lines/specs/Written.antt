@@ -38,6 +38,6 @@ ReceivesMessageLines = (line : List ℕ) (m : Message) → length (receive_line 
 abbrev pub CommandsReadBack : Type 0
 CommandsReadBack = (c : Command) → IsCommand c → length (command_line c) ≤ longest_line → command (command_line c) ≡ Ok c
 
--- a line that is read as a command is the line of the command, but for the bytes 0 and LF that stand in it without their escape
+-- what a line is read as is a valid command, and the line is that of the command, but for the bytes 0 and LF that stand in it without their escape
 abbrev pub LinesWriteBack : Type 0
-LinesWriteBack = (line : List ℕ) (c : Command) → command line ≡ Ok c → command_line c ≡ flat_map raw_escaped line
+LinesWriteBack = (line : List ℕ) (c : Command) → command line ≡ Ok c → IsCommand c × (command_line c ≡ flat_map raw_escaped line)

@@ -1,8 +1,9 @@
 //! The commands of lines.
-ghost use Rattle.std.specs.Prelude.{◌≡◌, ◌<◌, IfOk};
+ghost use Rattle.std.specs.Prelude.{◌≡◌, ◌<◌, IfOk, IfErr, OnErr, false};
+ghost use Rattle.field_merge.specs.Lines.{parts};
 ghost use Rattle.command_lines.specs.declared.command.CommandFault.TheVariants.{NoMemory as OutOfMemory};
-ghost use Rattle.command_lines.specs.Commands.{set_words, receive_words, fields_words, messages_words, value_words, trie_words, line_words, command, command_of, IsRead, IsCommand};
-ghost use Rattle.command_lines.specs.Unread.{command_of_unread};
+ghost use Rattle.command_lines.specs.Commands.{set_words, receive_words, fields_words, messages_words, value_words, trie_words, line_words, is_too_long, command, IsRead, IsCommand, HoldsText};
+ghost use Rattle.command_lines.specs.Unread.{command_of_unread, IsFaultOf, ReadsTextIn};
 
 use crate::words::{Words, cut_word};
 use device_core::{BookEdit, Edit};
@@ -25,6 +26,37 @@ pub enum Command {
     Value { dataset: Txt, row: Txt, column: Txt },
     /// `trie`: the JSON text of the trie of all messages.
     Trie,
+}
+
+impl Command {
+    /// An equal command.
+    pub fn copy(&self) -> Result<Command, NoMemory>
+        ensures value { IfOk result (λ command. command ≡ self.now) }
+
+        // A command without texts takes no memory, so it is always copied.
+        ensures memory { OnErr result (HoldsText self.now) }
+    {
+        match self {
+            Command::Edit(edit) => Ok(Command::Edit(edit.copy()?)),
+            Command::Receive { message } => Ok(Command::Receive {
+                message: message.copy()?,
+            }),
+            Command::Fields => Ok(Command::Fields),
+            Command::Messages { since } => Ok(Command::Messages {
+                since: since.copy()?,
+            }),
+            Command::Value {
+                dataset,
+                row,
+                column,
+            } => Ok(Command::Value {
+                dataset: dataset.copy()?,
+                row: row.copy()?,
+                column: column.copy()?,
+            }),
+            Command::Trie => Ok(Command::Trie),
+        }
+    }
 }
 
 /// Why a line is no command.
@@ -54,6 +86,7 @@ pub const LONGEST_LINE: usize = 1_048_576;
 fn set(alloc: Global, words: &mut Words<'_>) -> Result<Command, CommandFault>
     ensures read { IsRead (command_of_unread set_words words.old) result }
     ensures valid { IfOk result IsCommand }
+    ensures memory { IfErr result (IsFaultOf set_words words.old) }
 {
     let dataset = words.text(alloc)?;
     let row = words.text(alloc)?;
@@ -73,6 +106,7 @@ fn set(alloc: Global, words: &mut Words<'_>) -> Result<Command, CommandFault>
 fn receive(alloc: Global, words: &mut Words<'_>) -> Result<Command, CommandFault>
     ensures read { IsRead (command_of_unread receive_words words.old) result }
     ensures valid { IfOk result IsCommand }
+    ensures memory { IfErr result (IsFaultOf receive_words words.old) }
 {
     let stamp = words.stamp(alloc)?;
     let dataset = words.name(alloc)?;
@@ -101,6 +135,7 @@ fn receive(alloc: Global, words: &mut Words<'_>) -> Result<Command, CommandFault
 fn fields(words: &Words<'_>) -> Result<Command, CommandFault>
     ensures read { IsRead (command_of_unread fields_words words.now) result }
     ensures valid { IfOk result IsCommand }
+    ensures memory { IfErr result (IsFaultOf fields_words words.now) }
 {
     words.end()?;
     Ok(Command::Fields)
@@ -110,6 +145,7 @@ fn fields(words: &Words<'_>) -> Result<Command, CommandFault>
 fn messages(alloc: Global, words: &mut Words<'_>) -> Result<Command, CommandFault>
     ensures read { IsRead (command_of_unread messages_words words.old) result }
     ensures valid { IfOk result IsCommand }
+    ensures memory { IfErr result (IsFaultOf messages_words words.old) }
 {
     let since = words.text(alloc)?;
     words.end()?;
@@ -120,6 +156,7 @@ fn messages(alloc: Global, words: &mut Words<'_>) -> Result<Command, CommandFaul
 fn value(alloc: Global, words: &mut Words<'_>) -> Result<Command, CommandFault>
     ensures read { IsRead (command_of_unread value_words words.old) result }
     ensures valid { IfOk result IsCommand }
+    ensures memory { IfErr result (IsFaultOf value_words words.old) }
 {
     let dataset = words.text(alloc)?;
     let row = words.text(alloc)?;
@@ -136,6 +173,7 @@ fn value(alloc: Global, words: &mut Words<'_>) -> Result<Command, CommandFault>
 fn trie(words: &Words<'_>) -> Result<Command, CommandFault>
     ensures read { IsRead (command_of_unread trie_words words.now) result }
     ensures valid { IfOk result IsCommand }
+    ensures memory { IfErr result (IsFaultOf trie_words words.now) }
 {
     words.end()?;
     Ok(Command::Trie)
@@ -146,6 +184,7 @@ fn command_of(alloc: Global, name: &str, words: &mut Words<'_>) -> Result<Comman
     requires { words.old.last ≡ 0 }
     ensures read { IsRead (command_of_unread (line_words name.now) words.old) result }
     ensures valid { IfOk result IsCommand }
+    ensures memory { IfErr result (IsFaultOf (line_words name.now) words.old) }
 {
     match name {
         "set" => set(alloc, words),
@@ -166,6 +205,9 @@ fn command_of(alloc: Global, name: &str, words: &mut Words<'_>) -> Result<Comman
 pub fn read_command(alloc: Global, line: &Txt) -> Result<Command, CommandFault>
     ensures read { IsRead (command line.now) result }
     ensures valid { IfOk result IsCommand }
+
+    // Memory runs out only where the line is not too long, its name is that of a line with words, and the next word has no bad escape.
+    ensures memory { IfErr result (λ fault. fault ≡ OutOfMemory → (is_too_long line.now ≡ false) × ReadsTextIn (parts line.now)) }
 {
     if line.bytes().len() > LONGEST_LINE {
         return Err(CommandFault::BadCommand { word: 0 });

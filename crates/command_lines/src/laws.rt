@@ -1,15 +1,16 @@
 //! Facts about lines and replies, which a proof can call for.
 ghost use Rattle.command_lines.specs.Answers.{AnswersTell};
 ghost use Rattle.command_lines.specs.FirstBad.{FirstBadIsTold};
+ghost use Rattle.command_lines.specs.FormLaws.{FormsAreRead};
 ghost use Rattle.command_lines.specs.ReplyLines.{RepliesAreLines};
 ghost use Rattle.command_lines.specs.Written.{CommandsReadBack, LinesWriteBack, ReceivesMessageLines};
 
 use field_merge::{latest_message, message_lines};
-use field_values::{texts_write_back, values_read_back};
-use hybrid_clock::{read_writes_back, text_reads_back};
+use minute_trie::{order_free, reads_back, tries_are_maps};
 
 /// A law: a reader who cuts the text of a reply at its line feeds finds the lines of the reply, if no
-/// text of it has a line feed. And no text of a reply of this crate has one, unless a row's id has one.
+/// text of it has a line feed. And no text of a reply of this crate has one, where it answers of valid
+/// messages, and no row's id that it names has one.
 pub fn replies_are_lines()
     ensures { RepliesAreLines }
 {
@@ -20,20 +21,14 @@ pub fn replies_are_lines()
 /// A law: the line of a valid command is read as the command, unless the line is too long.
 pub fn commands_read_back()
     ensures { CommandsReadBack }
-{
-    values_read_back();
-    text_reads_back();
-}
+{}
 
-/// A law: a line that is read as a command is the line of that command, but for the bytes 0 and LF that stand in it without
-/// their escape. So each word of it counts, none has a bad escape, and lines that differ in anything else are read as
+/// A law: what a line is read as is a valid command, and the line is that of the command, but for the bytes 0 and LF that
+/// stand in it without their escape. So each word of it counts, none has a bad escape, and lines that differ in anything else are read as
 /// different commands.
 pub fn lines_write_back()
     ensures { LinesWriteBack }
-{
-    texts_write_back();
-    read_writes_back();
-}
+{}
 
 /// A law: a line behind `receive` and a TAB commands to receive a message exactly where it is read as that message, unless
 /// the whole is too long. So a device takes the message lines that `merge` takes, up to that length.
@@ -46,16 +41,24 @@ pub fn receives_message_lines()
 /// word stands at it, one is missing there.
 pub fn first_bad_is_told()
     ensures { FirstBadIsTold }
-{
-    text_reads_back();
-}
+{}
 
 /// A law: what lines that only read are answered. `value` tells the value of the latest message of the field, escaped, and
 /// `none` where no message is one of the field. `fields` tells the line of the latest message of each field, by
 /// dataset, row and column. `messages` tells the line of each message whose timestamp's text is greater than the text, by
-/// timestamp.
+/// timestamp. `trie` tells a text that is read as the trie of the messages' timestamps, in whichever order they came.
 pub fn answers_tell()
     ensures { AnswersTell }
 {
     latest_message();
+    order_free();
+    reads_back();
+    tries_are_maps();
 }
+
+/// A law: what words that repeat, or may be left out, are read as. Where texts are wanted, words are read as a command
+/// exactly where they are those of one text or more, and so where shares are wanted, each an amount and an id or a
+/// hyphen. Where the words may end, no words are read as the command, and any others as where a word is wanted.
+pub fn forms_are_read()
+    ensures { FormsAreRead }
+{}

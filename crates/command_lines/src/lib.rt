@@ -12,10 +12,7 @@ mod words;
 pub use answer::read_reply;
 pub use command::{Command, CommandFault, LONGEST_LINE, read_command};
 pub use laws::{
-    answers_tell, commands_read_back, first_bad_is_told, lines_write_back, receives_message_lines,
-    replies_are_lines,
+    answers_tell, commands_read_back, first_bad_is_told, forms_are_read, lines_write_back,
+    receives_message_lines, replies_are_lines,
 };
 pub use reply::{Reply, added_reply, faulty_reply, refusal_reply, reply_text, wrote_reply};
-
-#[cfg(test)]
-mod tests;

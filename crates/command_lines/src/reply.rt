@@ -21,6 +21,28 @@ pub enum Reply {
     Refused { number: u8, code: Txt, detail: Txt },
 }
 
+impl Reply {
+    /// An equal reply.
+    pub fn copy(&self, alloc: Global) -> Result<Reply, NoMemory>
+        ensures { IfOk result (λ reply. reply ≡ self.now) }
+    {
+        match self {
+            Reply::Done { lines } => Ok(Reply::Done {
+                lines: lines.copy(alloc)?,
+            }),
+            Reply::Refused {
+                number,
+                code,
+                detail,
+            } => Ok(Reply::Refused {
+                number: *number,
+                code: code.copy()?,
+                detail: detail.copy()?,
+            }),
+        }
+    }
+}
+
 /// A refusal with this code and detail.
 fn refusal(alloc: Global, number: u8, code: &str, detail: Txt) -> Result<Reply, NoMemory>
     ensures { IfOk result (λ r. r ≡ Refused number code.now detail) }

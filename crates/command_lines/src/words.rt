@@ -1,13 +1,14 @@
 //! The words of a line, read one after the other.
-ghost use Rattle.std.specs.Prelude.{◌≡◌, ◌+◌, ◌<◌, ◌^◌, ◌∷◌, [], IfOk, IfErr, OnOk, IfNone, IfSome, List, ℕ, length};
+ghost use Rattle.std.specs.Prelude.{◌≡◌, ◌≢◌, ◌+◌, ◌<◌, ◌^◌, ◌∷◌, [], IfOk, IfErr, OnOk, IfNone, IfSome, List, ℕ, length};
 ghost use Rattle.std.specs.Option.{option_copied};
 ghost use Rattle.field_values.specs.Names.{IsName};
 ghost use Rattle.field_merge.specs.Lines.{parts};
 ghost use Rattle.hybrid_clock.specs.Stamp.{IsStamp};
 ghost use Rattle.hybrid_clock.specs.declared.stamp.Stamp.{Stamp};
 ghost use Rattle.command_lines.specs.declared.command.Command.{Command};
-ghost use Rattle.command_lines.specs.Commands.{Wanted, word, no_more, stamp_word, name_word, IsCommandFault};
-ghost use Rattle.command_lines.specs.Unread.{words_of, command_of_unread};
+ghost use Rattle.command_lines.specs.Commands.{IsCommandFault};
+ghost use Rattle.command_lines.specs.Forms.{Wanted, word, no_more, stamp_word, name_word};
+ghost use Rattle.command_lines.specs.Unread.{words_of, command_of_unread, HasText};
 
 use crate::command::CommandFault;
 use field_merge::{bad_escape, cut_part, unescape};
@@ -91,6 +92,8 @@ impl<'a> Words<'a> {
     pub(crate) fn text(&mut self, alloc: Global) -> Result<Txt, CommandFault>
         ensures ok { IfOk result (λ text. (next : List ℕ → Wanted) → command_of_unread (word next) self.old ≡ command_of_unread (next text) self.new) }
         ensures err { IfErr result (λ fault. (next : List ℕ → Wanted) → IsCommandFault (command_of_unread (word next) self.old) fault) }
+        ensures there { OnOk result (HasText self.old.words) }
+        ensures memory { IfErr result (λ fault. fault ≡ CommandFault.NoMemory → HasText self.old.words) }
     {
         let Some(written) = self.next() else {
             return Err(self.behind_last());
@@ -108,6 +111,8 @@ impl<'a> Words<'a> {
         ensures ok { IfOk result (λ stamp. (next : Stamp → Wanted) → command_of_unread (stamp_word next) self.old ≡ command_of_unread (next stamp) self.new) }
         ensures valid { IfOk result IsStamp }
         ensures err { IfErr result (λ fault. (next : Stamp → Wanted) → IsCommandFault (command_of_unread (stamp_word next) self.old) fault) }
+        ensures there { OnOk result (HasText self.old.words) }
+        ensures memory { IfErr result (λ fault. fault ≡ CommandFault.NoMemory → HasText self.old.words) }
     {
         let text = self.text(alloc)?;
         match Stamp::parse(text.bytes()) {
@@ -122,6 +127,7 @@ impl<'a> Words<'a> {
         ensures ok { IfOk result (λ name. (next : List ℕ → Wanted) → command_of_unread (name_word next) self.old ≡ command_of_unread (next name) self.new) }
         ensures good { IfOk result IsName }
         ensures err { IfErr result (λ fault. (next : List ℕ → Wanted) → IsCommandFault (command_of_unread (name_word next) self.old) fault) }
+        ensures memory { IfErr result (λ fault. fault ≡ CommandFault.NoMemory → HasText self.old.words) }
     {
         let name = self.text(alloc)?;
         // The part is told with a fault, and only whether there is one matters here.
@@ -135,6 +141,7 @@ impl<'a> Words<'a> {
     pub(crate) fn end(&self) -> Result<(), CommandFault>
         ensures ok { OnOk result ((command : Command) → command_of_unread (no_more command) self.now ≡ Ok command) }
         ensures err { IfErr result (λ fault. (command : Command) → IsCommandFault (command_of_unread (no_more command) self.now) fault) }
+        ensures memory { IfErr result (λ fault. fault ≢ CommandFault.NoMemory) }
     {
         match self.rest {
             Some(_) => Err(self.behind_last()),

@@ -2,4 +2,4 @@ use Rattle.command_lines.proofs.WrittenLemmas.{read_back}
 use Rattle.command_lines.proofs.laws.commands_read_back.Goals as goal
 
 pub returns : goal.returns
-returns c = read_back c.values_read_back.ensures c.text_reads_back.ensures
+returns c = read_back

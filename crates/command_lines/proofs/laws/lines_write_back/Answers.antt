@@ -2,4 +2,4 @@ use Rattle.command_lines.proofs.RawLemmas.{write_back}
 use Rattle.command_lines.proofs.laws.lines_write_back.Goals as goal
 
 pub returns : goal.returns
-returns c = write_back c.texts_write_back.ensures c.read_writes_back.ensures
+returns c = write_back

@@ -1,12 +1,11 @@
-//! Expected values are written out by hand from the rules, and none comes from the crate's own output.
+//! Lines and replies of `command_lines`. Expected values are written out by hand from the rules.
 ghost use Rattle.std.specs.Prelude.{◌≡◌, IfOk, false};
-ghost use Rattle.command_lines.specs.Readings.{IsReading};
 
-use crate::{
+use budget_ports::Record;
+use command_lines::{
     Command, CommandFault, Reply, added_reply, faulty_reply, read_command, read_reply,
     refusal_reply, reply_text, wrote_reply,
 };
-use budget_ports::Record;
 use device_core::{Device, EditFault, LineRefusal};
 use field_values::{Items, NoMemory, Txt};
 use hybrid_clock::{ClockFault, Node};
@@ -122,48 +121,50 @@ fn refusal_text(alloc: Global, refusal: &LineRefusal) -> Result<Txt, Fail> {
     text_of(alloc, refusal_reply(alloc, refusal))
 }
 
-/// The text of the reply to an edit with this id, which is no name.
-fn bad_id_text(alloc: Global, id: &str) -> Result<Txt, Fail> {
-    let id = Txt::from_text(alloc, id)?;
-    refusal_text(alloc, &LineRefusal::Edit(EditFault::BadId { id }))
-}
+/// Ids that are no names, and the replies to edits that are refused for them.
+const BAD_IDS: [(&str, &str); 2] = [
+    ("", "refused E1 bad-id\n"),
+    ("a b\t\\", "refused E1 bad-id a b\\t\\\\\n"),
+];
+
+/// Refusals of a clock, and their replies.
+const CLOCK_FAULTS: [(ClockFault, &str); 3] = [
+    (
+        ClockFault::Drift {
+            logical: 301_001,
+            reading: 1000,
+        },
+        "refused E26 clock-drift 301001 1000\n",
+    ),
+    (
+        ClockFault::Overflow { counter: 65_536 },
+        "refused E27 clock-overflow 65536\n",
+    ),
+    (
+        ClockFault::Beyond {
+            reading: 2_582_803_260_000,
+        },
+        "refused E28 clock-beyond 2582803260000\n",
+    ),
+];
 
 #[test]
-fn refused_edits_are_told(rt: HostRuntime) -> Result<(), Fail> {
+fn refusals_are_told(rt: HostRuntime) -> Result<(), Fail> {
     let alloc = rt.alloc();
-    let empty = bad_id_text(alloc, "")?;
-    assert_eq!(rt; empty.as_str(), "refused E1 bad-id\n");
-    let escaped = bad_id_text(alloc, "a b\t\\")?;
-    assert_eq!(rt; escaped.as_str(), "refused E1 bad-id a b\\t\\\\\n");
+    for (id, text) in BAD_IDS {
+        let id = Txt::from_text(alloc, id)?;
+        let told = refusal_text(alloc, &LineRefusal::Edit(EditFault::BadId { id }))?;
+        assert_eq!(rt; told.as_str(), text);
+    }
+    for (fault, text) in CLOCK_FAULTS {
+        let told = refusal_text(alloc, &LineRefusal::Clock(fault))?;
+        assert_eq!(rt; told.as_str(), text);
+    }
     let many = LineRefusal::Edit(EditFault::TooManyWrites { n: 65_537 });
     assert_eq!(rt;
         refusal_text(alloc, &many)?.as_str(),
         "refused E18 too-many-writes 65537\n"
     );
-    Ok(())
-}
-
-/// The text of the reply to a timestamp that the clock refused.
-fn clock_text(alloc: Global, fault: ClockFault) -> Result<Txt, Fail> {
-    refusal_text(alloc, &LineRefusal::Clock(fault))
-}
-
-#[test]
-fn refused_timestamps_are_told(rt: HostRuntime) -> Result<(), Fail> {
-    let alloc = rt.alloc();
-    let drift = ClockFault::Drift {
-        logical: 301_001,
-        reading: 1000,
-    };
-    let drift = clock_text(alloc, drift)?;
-    assert_eq!(rt; drift.as_str(), "refused E26 clock-drift 301001 1000\n");
-    let overflow = clock_text(alloc, ClockFault::Overflow { counter: 65_536 })?;
-    assert_eq!(rt; overflow.as_str(), "refused E27 clock-overflow 65536\n");
-    let beyond = ClockFault::Beyond {
-        reading: 2_582_803_260_000,
-    };
-    let beyond = clock_text(alloc, beyond)?;
-    assert_eq!(rt; beyond.as_str(), "refused E28 clock-beyond 2582803260000\n");
     Ok(())
 }
 
@@ -205,72 +206,50 @@ fn device(alloc: Global) -> Result<Device, Fail>
     Ok(device)
 }
 
-/// The text of that device's reply to a line that only reads.
-fn answered(alloc: Global, command: &Command) -> Result<Txt, Fail>
-    requires { IsReading command.now }
-{
-    let device = device(alloc)?;
-    text_of(alloc, read_reply(alloc, &device, command))
-}
-
-/// The reply to `messages SINCE`.
-fn messages(alloc: Global, since: &str) -> Result<Txt, Fail> {
-    let since = Txt::from_text(alloc, since)?;
-    answered(alloc, &Command::Messages { since })
-}
-
-/// The reply to `value categories ROW name`.
-fn name_of(alloc: Global, row: &str) -> Result<Txt, Fail> {
-    let dataset = Txt::from_text(alloc, "categories")?;
-    let row = Txt::from_text(alloc, row)?;
-    let column = Txt::from_text(alloc, "name")?;
-    let command = Command::Value {
-        dataset,
-        row,
-        column,
-    };
-    answered(alloc, &command)
-}
-
-#[test]
-fn fields_and_trie_are_answered(rt: HostRuntime) -> Result<(), Fail> {
-    let alloc = rt.alloc();
-    let fields = answered(alloc, &Command::Fields)?;
-    assert_eq!(rt;
-        fields.as_str(),
-        "ok 1\n2024-01-05T10:00:01.000Z-0000-00000000000000bb\tcategories\tfood\tname\tS:c\\td\n"
-    );
-    let trie = answered(alloc, &Command::Trie)?;
-    assert_eq!(rt; trie.as_str(), TRIE);
-    Ok(())
-}
-
-#[test]
-fn messages_are_answered(rt: HostRuntime) -> Result<(), Fail> {
-    let alloc = rt.alloc();
-    let all = messages(alloc, "")?;
-    assert_eq!(rt;
-        all.as_str(),
+/// Lines that only read, and the replies of that device, of which `trie` has its own.
+const ANSWERS: [(&str, &str); 6] = [
+    (
+        "fields",
+        "ok 1\n2024-01-05T10:00:01.000Z-0000-00000000000000bb\tcategories\tfood\tname\tS:c\\td\n",
+    ),
+    (
+        "messages>",
         "ok 2\n\
          2024-01-05T10:00:00.000Z-0000-00000000000000aa\tcategories\tfood\tname\tS:a\\\\b\n\
-         2024-01-05T10:00:01.000Z-0000-00000000000000bb\tcategories\tfood\tname\tS:c\\td\n"
-    );
-    let later = messages(alloc, FIRST.0)?;
-    assert_eq!(rt;
-        later.as_str(),
-        "ok 1\n2024-01-05T10:00:01.000Z-0000-00000000000000bb\tcategories\tfood\tname\tS:c\\td\n"
-    );
-    let none = messages(alloc, "3")?;
-    assert_eq!(rt; none.as_str(), "ok 0\n");
-    Ok(())
+         2024-01-05T10:00:01.000Z-0000-00000000000000bb\tcategories\tfood\tname\tS:c\\td\n",
+    ),
+    (
+        "messages>2024-01-05T10:00:00.000Z-0000-00000000000000aa",
+        "ok 1\n2024-01-05T10:00:01.000Z-0000-00000000000000bb\tcategories\tfood\tname\tS:c\\td\n",
+    ),
+    ("messages>3", "ok 0\n"),
+    ("value>categories>food>name", "ok 1\nS:c\\td\n"),
+    ("value>categories>rent>name", "ok 1\nnone\n"),
+];
+
+/// The text of that device's reply to a line that only reads, by copies of the command and of the
+/// reply; nothing to another line.
+fn answered(alloc: Global, line: &str) -> Result<Option<Txt>, Fail> {
+    let device = device(alloc)?;
+    let line = with_tabs(alloc, line)?;
+    let command = read_command(alloc, &line)?.copy()?;
+    match command {
+        Command::Edit(_) | Command::Receive { .. } => Ok(None),
+        command => {
+            let reply = read_reply(alloc, &device, &command)?.copy(alloc)?;
+            Ok(Some(reply_text(alloc, &reply)?))
+        }
+    }
 }
 
 #[test]
-fn values_are_answered(rt: HostRuntime) -> Result<(), Fail> {
+fn lines_are_answered(rt: HostRuntime) -> Result<(), Fail> {
     let alloc = rt.alloc();
-    let food = name_of(alloc, "food")?;
-    assert_eq!(rt; food.as_str(), "ok 1\nS:c\\td\n");
-    let rent = name_of(alloc, "rent")?;
-    assert_eq!(rt; rent.as_str(), "ok 1\nnone\n");
+    for (line, text) in ANSWERS {
+        let told = answered(alloc, line)?;
+        assert_eq!(rt; told.as_ref().map(|told| told.as_str()), Some(text), "at {line}");
+    }
+    let trie = answered(alloc, "trie")?;
+    assert_eq!(rt; trie.as_ref().map(|told| told.as_str()), Some(TRIE));
     Ok(())
 }
