@@ -66,15 +66,7 @@ fn without_run(rt: &HostRuntime, fault: WordFault) -> ExitCode
 
 /// Does what the words ask for over the objects that it is handed, and gives the status. The ledger
 /// under the counter of steps is still blank.
-fn status_over<
-    G: Ledger,
-    S: Source,
-    W: Sink,
-    K: Keeper,
-    L: Link,
-    D: Door,
-    C: WallClock,
->(
+fn status_over<G: Ledger, S: Source, W: Sink, K: Keeper, L: Link, D: Door, C: WallClock>(
     alloc: Global,
     words: &Items<Txt>,
     source: &mut S,

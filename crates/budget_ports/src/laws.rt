@@ -5,5 +5,4 @@ ghost use Rattle.budget_ports.specs.Laws.{CountsRise};
 /// stands still; any other call leaves it as it was.
 pub fn risen()
     ensures { CountsRise }
-{
-}
+{}

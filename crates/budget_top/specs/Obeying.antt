@@ -55,18 +55,15 @@ pub record LinesAreObeyed : Type 0 where
   pub refused_writes : (target : Target) (r : Running) (i : Input) (dataset row column : List ℕ) (value : Value) (refusal : LineRefusal) →
       Says i.line (Edit (Book (Set dataset row column value))) →
       edited r.state (Book (Set dataset row column value)) i.given.reading ≡ Err refusal → Refuses r refusal (step target r i).0 (step target r i).1
-
   -- a message of another device
   pub messages : (target : Target) (r : Running) (i : Input) (message : Message) (accepted : Accepted) → Says i.line (Receive message) →
       received r.state (message ∷ []) i.given.reading ≡ Ok accepted →
       TakesIn r message i.given.reading accepted (step target r i).0 (step target r i).1
   pub refused_messages : (target : Target) (r : Running) (i : Input) (message : Message) (refusal : LineRefusal) → Says i.line (Receive message) →
       received r.state (message ∷ []) i.given.reading ≡ Err refusal → Refuses r refusal (step target r i).0 (step target r i).1
-
   -- a line that only reads
   pub readings : (target : Target) (r : Running) (i : Input) (said : Command) → Says i.line said → IsReading said →
       step target r i ≡ (r, answer r.state.messages said)
-
   -- a line that is no command
   pub faults : (target : Target) (r : Running) (i : Input) (part : ℕ) → IsNone i.line part →
       step target r i ≡ (r, Refused 30 (codes "bad-command") (decimal part))

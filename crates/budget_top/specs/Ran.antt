@@ -65,12 +65,10 @@ pub record Ran (asked : List (List ℕ)) (status : ℕ) (old now : Outside) : Ty
   -- words
   pub words : status ≡ 2 → IsErr (planned asked)
   pub refused : IsErr (planned asked) → (status ≡ 2) ⊎ (status ≡ 7)
-
   -- modes
   pub merge : planned_mode asked ≡ Some Merge → MergeRun status old.left now.left old.seen.taken now.seen.taken
   pub device : (plan : Plan) (node : List ℕ) → planned asked ≡ Ok plan → plan.mode ≡ Device → plan.node ≡ Some node →
       DeviceRun node (target_of plan) status old.left now.left old.sink_faults now.sink_faults old.seen now.seen
-
   -- causes
   pub source : now.source_faults ≡ count_after (status == 4) old.source_faults
   pub sink : status ≢ 3 → now.sink_faults ≡ count_after (status == 5) old.sink_faults

@@ -29,7 +29,5 @@ pub fn run_in_memory<G: Ledger>(
     ensures merge_alone { planned_mode words.now ≡ Some Mode.Merge → (keeper.new ≡ keeper.old) × (clock.new ≡ clock.old) }
     ensures apart { (link.new ≡ link.old) × (door.new ≡ door.old) }
 {
-    run(
-        alloc, words, source, sink, keeper, link, door, clock, steps,
-    )
+    run(alloc, words, source, sink, keeper, link, door, clock, steps)
 }

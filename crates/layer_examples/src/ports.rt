@@ -195,13 +195,7 @@ fn door(alloc: Global, calls: &[u64]) -> Result<MemoryDoor, Fail> {
     connections.push(Items::new(b"money".to_vec(alloc)?))?;
     connections.push(Items::new(b"ab".to_vec(alloc)?))?;
     let pieces = [1, 3].to_vec(alloc)?;
-    Ok(MemoryDoor::with_faults(
-        alloc,
-        connections,
-        pieces,
-        4,
-        calls.to_vec(alloc)?,
-    )?)
+    Ok(MemoryDoor::with_faults(alloc, connections, pieces, 4, calls.to_vec(alloc)?)?)
 }
 
 /// A connection comes in pieces, after a failed call too; the next one begins with its first piece,

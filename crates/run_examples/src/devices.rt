@@ -1,7 +1,5 @@
 use crate::runs::{FOOD, joined, uncounted};
-use budget_ports::{
-    Keeper, ListClock, MemoryKeeper, MemorySink, MemorySource, PortFault, Record,
-};
+use budget_ports::{Keeper, ListClock, MemoryKeeper, MemorySink, MemorySource, PortFault, Record};
 use field_values::{Items, Txt};
 use std::alloc::Global;
 use std::marker::Brand;

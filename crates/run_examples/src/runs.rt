@@ -1,8 +1,6 @@
 ghost use Rattle.std.specs.Prelude.{◌≡◌, ◌≤◌};
 
-use budget_ports::{
-    ListClock, MemoryDoor, MemoryKeeper, MemorySink, MemorySource, ScriptLink,
-};
+use budget_ports::{ListClock, MemoryDoor, MemoryKeeper, MemorySink, MemorySource, ScriptLink};
 use budget_top::run_in_memory;
 use field_values::{Items, Steps, Txt};
 use std::alloc::Global;

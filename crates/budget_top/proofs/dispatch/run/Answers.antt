@@ -20,7 +20,7 @@ returns-in-Device-Some-clause-ran g c = record {
   refused = search rules;
   merge = search rules;
   device = λ plan node is mode has.
-    device_along _ c.in-Ok.plan plan c.in-Device-Some.node node _ _ _ _ _ _ _ c.in-Ok.ensures.ok c.in-Device-Some.is-1 is has (c.run_device.ensures.run (target_of c.in-Ok.plan));
+      device_along _ c.in-Ok.plan plan c.in-Device-Some.node node _ _ _ _ _ _ _ c.in-Ok.ensures.ok c.in-Device-Some.is-1 is has (c.run_device.ensures.run (target_of c.in-Ok.plan));
   source = search rules;
   sink = search rules;
   keeper = λ mode named ends. c.run_device.ensures.keeper;
