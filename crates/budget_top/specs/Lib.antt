@@ -18,3 +18,5 @@ pub mod Standing
 pub mod DeviceRun
 pub mod DeviceSteps
 pub mod Valid
+pub mod CutLines
+pub mod Merging
