@@ -28,3 +28,6 @@ pub mod Hyphens
 pub mod Refusing
 pub mod LineWriting
 pub mod Valid
+pub mod CutLines
+pub mod Judged
+pub mod Merging

@@ -22,3 +22,5 @@ pub mod DeviceSteps
 pub mod Ran
 pub mod Obeying
 pub mod Valid
+pub mod CutLines
+pub mod Merging

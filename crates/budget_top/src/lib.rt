@@ -22,6 +22,9 @@ mod write;
 
 pub use dispatch::{refusal_status, run};
 pub use in_memory::run_in_memory;
-pub use laws::{lines_are_obeyed, lines_are_written, replies_are_cut, states_stay_valid};
+pub use laws::{
+    lines_are_cut, lines_are_obeyed, lines_are_written, merges_agree, replies_are_cut,
+    states_stay_valid,
+};
 pub use planning::plan;
 pub use words::{Mode, Plan, WordFault};
