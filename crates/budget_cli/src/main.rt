@@ -1,27 +1,26 @@
 //! The program: its words, the standard streams, the clock of the system and a keeper in memory.
 #![tactic(auto)]
 
-ghost use Rattle.std.specs.Prelude.{◌≡◌, ◌≢◌, ◌==◌, ◌⊎◌, ◌≤◌, ℕ, List, IsErr, None, Some, Ok};
+ghost use Rattle.std.specs.Prelude.{◌≡◌, ◌≤◌, IsErr, Some};
 ghost use Rattle.std.specs.Process.{exit_status};
-ghost use Rattle.budget_ports.specs.Contents.{nothing};
-ghost use Rattle.budget_ports.specs.Faults.{count_after};
-ghost use Rattle.budget_ports.specs.KeeperState.{KeeperState, holds};
 ghost use Rattle.budget_top.specs.Words.{planned, planned_mode, refusal_status};
-ghost use Rattle.budget_top.specs.MergeRun.{MergeRun};
-ghost use Rattle.budget_top.specs.DeviceRun.{DeviceRun};
-ghost use Rattle.budget_top.specs.Seen.{seen};
-ghost use Rattle.budget_top.specs.declared.words.Mode.TheVariants.{Merge, Device};
-ghost use Rattle.budget_top.specs.declared.words.Plan.{Plan};
+ghost use Rattle.budget_top.specs.Ran.{outside, Ran};
+ghost use Rattle.budget_top.specs.declared.words.Mode.TheVariants.{Merge};
 
+mod closed_door;
+mod closed_link;
+mod ports;
 mod stdin_source;
 mod stdout_sink;
 mod system_clock;
 #[cfg(test)]
 mod tests;
 
-use budget_ports::{MemoryKeeper, Sink, Source};
+use budget_ports::{Door, Keeper, Link, Sink, Source, WallClock};
 use budget_top::{WordFault, plan, refusal_status, run};
 use field_values::{Items, Steps, Txt};
+use ports::Ports;
+use std::alloc::Global;
 use std::env;
 use std::io::{BufWriter, ErrorKind};
 use std::marker::Brand;
@@ -29,7 +28,6 @@ use std::process::ExitCode;
 use std::sync::ledger::{Blank, Ledger};
 use stdin_source::StdinSource;
 use stdout_sink::StdoutSink;
-use system_clock::SystemClock;
 
 /// The words of the command line, without the program's name. Words that are not UTF-8 are none
 /// that a run knows.
@@ -66,40 +64,30 @@ fn without_run(rt: &HostRuntime, fault: WordFault) -> ExitCode
     ExitCode::from(refusal_status(fault))
 }
 
-/// Does what the words ask for over a source and a sink, with the clock of the system and a keeper in
-/// memory, and gives the status. The ledger under the counter of steps is still blank.
-fn status_over<G: Ledger, S: Source, W: Sink>(
-    rt: &HostRuntime,
+/// Does what the words ask for over the objects that it is handed, and gives the status. The ledger
+/// under the counter of steps is still blank.
+fn status_over<G: Ledger, S: Source, W: Sink, K: Keeper, L: Link, D: Door, C: WallClock>(
+    alloc: Global,
     words: &Items<Txt>,
     source: &mut S,
     sink: &mut W,
+    keeper: &mut K,
+    link: &mut L,
+    door: &mut D,
+    clock: &mut C,
     blank: Blank,
 ) -> u8
     requires name { blank.name ≡ G.name }
     requires parts { blank.parts ≡ G.parts }
     requires some { 1 ≤ G.parts }
-    ensures words { result ≡ 2 → IsErr (planned words.now) }
-    ensures refused { IsErr (planned words.now) → (result ≡ 2) ⊎ (result ≡ 7) }
-    ensures untouched { IsErr (planned words.now) → (source.new ≡ source.old) × (sink.new ≡ sink.old) }
-    ensures merge { planned_mode words.now ≡ Some Merge → MergeRun result (S.left source.old) (S.left source.new) (W.taken sink.old) (W.taken sink.new) }
-
-    // The keeper holds nothing at first, and holds from one line to the next what the device keeps.
-    ensures device { (plan : Plan) (node : List ℕ) → planned words.now ≡ Ok plan → plan.mode ≡ Device → plan.node ≡ Some node → (keeper : KeeperState) × DeviceRun node result (S.left source.old) (S.left source.new) (W.faults sink.old) (W.faults sink.new) (seen (W.taken sink.old) None (Unit {0}) nothing (λ k. k ≡ nothing)) (seen (W.taken sink.new) None (Unit {0}) keeper.contents (holds keeper)) }
-    ensures source { S.faults source.new ≡ count_after (result == 4) (S.faults source.old) }
-    ensures sink { result ≢ 3 → W.faults sink.new ≡ count_after (result == 5) (W.faults sink.old) }
+    ensures ran { Ran words.now result (outside (S.left source.old) (S.faults source.old) (W.taken sink.old) (W.faults sink.old) (K.tells keeper.old) (K.contents keeper.old) (K.left keeper.old) (K.faults keeper.old) (L.exchanges link.old) (L.faults link.old) (D.waiting door.old) (D.outs door.old) (D.faults door.old) (C.readings clock.old)) (outside (S.left source.new) (S.faults source.new) (W.taken sink.new) (W.faults sink.new) (K.tells keeper.new) (K.contents keeper.new) (K.left keeper.new) (K.faults keeper.new) (L.exchanges link.new) (L.faults link.new) (D.waiting door.new) (D.outs door.new) (D.faults door.new) (C.readings clock.new)) }
+    ensures untouched { IsErr (planned words.now) → (source.new ≡ source.old) × (sink.new ≡ sink.old) × (keeper.new ≡ keeper.old) × (clock.new ≡ clock.old) }
+    ensures merge_alone { planned_mode words.now ≡ Some Merge → (keeper.new ≡ keeper.old) × (clock.new ≡ clock.old) }
+    ensures apart { (link.new ≡ link.old) × (door.new ≡ door.old) }
 {
-    let alloc = rt.alloc();
-    let mut keeper = MemoryKeeper::new(alloc);
-    let mut clock = SystemClock::new(rt);
     let mut steps = Steps::<G>::new(blank);
     run(
-        alloc,
-        words,
-        source,
-        sink,
-        &mut keeper,
-        &mut clock,
-        &mut steps,
+        alloc, words, source, sink, keeper, link, door, clock, &mut steps,
     )
 }
 
@@ -119,5 +107,16 @@ fn main(rt: HostRuntime) -> ExitCode {
     };
     let mut source = StdinSource::new(rt.stdin());
     let mut sink = StdoutSink::new(writer);
-    ExitCode::from(status_over::<Brand, _, _>(&rt, &words, &mut source, &mut sink, Blank::new(1)))
+    let mut ports = Ports::new(alloc, &rt);
+    ExitCode::from(status_over::<Brand, _, _, _, _, _, _>(
+        alloc,
+        &words,
+        &mut source,
+        &mut sink,
+        &mut ports.keeper,
+        &mut ports.link,
+        &mut ports.door,
+        &mut ports.clock,
+        Blank::new(1),
+    ))
 }

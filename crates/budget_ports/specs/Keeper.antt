@@ -22,9 +22,9 @@ abbrev pub Rise : List Record → Type 0
 Rise [] = Unit {0}
 Rise (r ∷ rs) = (0 < length r.key) × AllByRecursion (λ s. text_cmp r.key s.key ≡ Less) rs × Rise rs
 
--- a stop leaves what it could leave before, or the new contents
-abbrev pub Commits : (Contents → Type 0) → (Contents → Type 0) → Contents → Type 0
-Commits old new done = (k : Contents) → new k → old k ⊎ (k ≡ done)
+-- a stop leaves what it could leave before, or, of a keeper that told, the new contents
+abbrev pub Commits : Type 0 → (Contents → Type 0) → (Contents → Type 0) → Contents → Type 0
+Commits told old new done = (k : Contents) → new k → old k ⊎ (told × (k ≡ done))
 
 -- a stop leaves nothing that it could not leave before
 abbrev pub LeavesNoMore : (Contents → Type 0) → (Contents → Type 0) → Type 0
@@ -33,3 +33,11 @@ LeavesNoMore old new = (k : Contents) → new k → old k
 -- a stop leaves this alone
 abbrev pub Only : Contents → (Contents → Type 0) → Type 0
 Only now left = (k : Contents) → left k → k ≡ now
+
+-- a keeper of which a stop may leave anything tells
+abbrev pub IsKnown : Type 0 → (Contents → Type 0) → Type 0
+IsKnown tells left = (k : Contents) → left k → tells
+
+-- the same, and a stop leaves its contents alone
+abbrev pub IsAlone : Type 0 → Contents → (Contents → Type 0) → Type 0
+IsAlone tells now left = (k : Contents) → left k → tells × (k ≡ now)

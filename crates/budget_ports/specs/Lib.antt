@@ -6,3 +6,8 @@ pub mod Contents
 pub mod Keeper
 pub mod KeeperState
 pub mod Undoing
+pub mod Exchanges
+pub mod Script
+pub mod Connections
+pub mod MemoryDoor
+pub mod Laws

@@ -3,7 +3,7 @@ ghost use Rattle.std.specs.Prelude.{◌≡◌, ℕ, IfOk, OnOk, OnErr};
 ghost use Rattle.std.specs.FinMap as map;
 ghost use Rattle.budget_ports.specs.Faults.{count_after};
 ghost use Rattle.budget_ports.specs.Contents.{Contents, records_after, appended, with_text};
-ghost use Rattle.budget_ports.specs.Keeper.{has_failed, Commits, LeavesNoMore, Only, Rise, HaveKeys};
+ghost use Rattle.budget_ports.specs.Keeper.{has_failed, Commits, IsAlone, IsKnown, LeavesNoMore, Rise, HaveKeys};
 ghost use Rattle.budget_ports.specs.declared.keeper.PortFault.TheVariants.{Failed as HasFailed, NoMemory as OutOfMemory};
 
 use crate::stream::Failed;
@@ -65,10 +65,13 @@ impl Copied for Record {
 /// Where records are kept, in groups and under keys, and texts, under names.
 ///
 /// A key stands once in a group, and a record is added under a key of at least one byte alone. A
-/// keeper that tells has known contents and goes on to tell; no call changes them but an `append` or a
-/// `put` that answers `Ok`, and after each call they are among what a stop may leave. Whether a keeper
-/// tells or not, its failures are counted, and a stop after a call leaves nothing but what could be
-/// left before it, or the contents with all that the call has committed.
+/// keeper that tells has known contents: no call changes them but an `append` or a `put` that answers
+/// `Ok`, and after each call they are among what a stop may leave. It may cease to tell at any call,
+/// and then it does not tell again. Whether a keeper tells or
+/// not, its failures are counted, and a stop after a call leaves nothing but what could be left before
+/// it, or the contents of a keeper that told with all that the call has committed. After a call that
+/// answers `Ok` a keeper of which a stop may leave anything tells, and after a change that is what it
+/// holds alone.
 pub trait Keeper {
     /// Whether the keeper tells: its contents are then what the clauses say.
     ghost tells: { Self → Type 0 };
@@ -89,11 +92,10 @@ pub trait Keeper {
     fn append(&mut self, group: &Txt, batch: &[Record]) -> Result<(), PortFault>
         requires { HaveKeys batch.now }
         ensures told { tells self.new → tells self.old }
-        ensures still { tells self.old → tells self.new }
         ensures ok { tells self.new → OnOk result (contents self.new ≡ appended (contents self.old) group.now batch.now) }
         ensures err { tells self.new → OnErr result (contents self.new ≡ contents self.old) }
-        ensures left { Commits (left self.old) (left self.new) (appended (contents self.old) group.now batch.now) }
-        ensures alone { tells self.new → OnOk result (Only (contents self.new) (left self.new)) }
+        ensures left { Commits (tells self.old) (left self.old) (left self.new) (appended (contents self.old) group.now batch.now) }
+        ensures alone { OnOk result (IsAlone (tells self.new) (contents self.new) (left self.new)) }
         ensures here { tells self.new → left self.new (contents self.new) }
         ensures count { faults self.new ≡ count_after (has_failed result) (faults self.old) };
 
@@ -103,11 +105,11 @@ pub trait Keeper {
     /// records of the group are given, where each has a key of at least one byte.
     fn since(&mut self, group: &Txt, after: &Txt) -> Result<Items<Record>, PortFault>
         ensures told { tells self.new → tells self.old }
-        ensures still { tells self.old → tells self.new }
         ensures records { tells self.new → IfOk result (λ rs. rs ≡ records_after (contents self.old) group.now after.now) }
         ensures rise { IfOk result Rise }
         ensures same { tells self.new → contents self.new ≡ contents self.old }
         ensures left { LeavesNoMore (left self.old) (left self.new) }
+        ensures known { OnOk result (IsKnown (tells self.new) (left self.new)) }
         ensures here { tells self.new → left self.new (contents self.new) }
         ensures count { faults self.new ≡ count_after (has_failed result) (faults self.old) };
 
@@ -116,31 +118,30 @@ pub trait Keeper {
     /// It is one commit, as `append` is.
     fn put(&mut self, name: &Txt, text: &Txt) -> Result<(), PortFault>
         ensures told { tells self.new → tells self.old }
-        ensures still { tells self.old → tells self.new }
         ensures ok { tells self.new → OnOk result (contents self.new ≡ with_text (contents self.old) name.now text.now) }
         ensures err { tells self.new → OnErr result (contents self.new ≡ contents self.old) }
-        ensures left { Commits (left self.old) (left self.new) (with_text (contents self.old) name.now text.now) }
-        ensures alone { tells self.new → OnOk result (Only (contents self.new) (left self.new)) }
+        ensures left { Commits (tells self.old) (left self.old) (left self.new) (with_text (contents self.old) name.now text.now) }
+        ensures alone { OnOk result (IsAlone (tells self.new) (contents self.new) (left self.new)) }
         ensures here { tells self.new → left self.new (contents self.new) }
         ensures count { faults self.new ≡ count_after (has_failed result) (faults self.old) };
 
     /// The text under a name, if there is one.
     fn get(&mut self, name: &Txt) -> Result<Option<Txt>, PortFault>
         ensures told { tells self.new → tells self.old }
-        ensures still { tells self.old → tells self.new }
         ensures text { tells self.new → IfOk result (λ text. text ≡ map.get (contents self.old).texts name.now) }
         ensures same { tells self.new → contents self.new ≡ contents self.old }
         ensures left { LeavesNoMore (left self.old) (left self.new) }
+        ensures known { OnOk result (IsKnown (tells self.new) (left self.new)) }
         ensures here { tells self.new → left self.new (contents self.new) }
         ensures count { faults self.new ≡ count_after (has_failed result) (faults self.old) };
 
     /// The names that have a text, byte by byte in order.
     fn names(&mut self) -> Result<Items<Txt>, PortFault>
         ensures told { tells self.new → tells self.old }
-        ensures still { tells self.old → tells self.new }
         ensures names { tells self.new → IfOk result (λ names. names ≡ map.keys (contents self.old).texts) }
         ensures same { tells self.new → contents self.new ≡ contents self.old }
         ensures left { LeavesNoMore (left self.old) (left self.new) }
+        ensures known { OnOk result (IsKnown (tells self.new) (left self.new)) }
         ensures here { tells self.new → left self.new (contents self.new) }
         ensures count { faults self.new ≡ count_after (has_failed result) (faults self.old) };
 }

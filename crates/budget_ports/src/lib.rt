@@ -5,20 +5,27 @@
 
 mod calls;
 mod clock;
+mod door;
 mod keeper;
-#[cfg(test)]
-mod keeper_tests;
+mod laws;
+mod link;
+mod memory_door;
 mod memory_keeper;
 mod memory_sink;
 mod memory_source;
 mod records;
+mod room;
+mod script_link;
 mod stream;
-#[cfg(test)]
-mod tests;
 
 pub use clock::{ListClock, WallClock};
+pub use door::Door;
 pub use keeper::{Keeper, PortFault, Record};
+pub use laws::risen;
+pub use link::Link;
+pub use memory_door::MemoryDoor;
 pub use memory_keeper::MemoryKeeper;
 pub use memory_sink::MemorySink;
 pub use memory_source::MemorySource;
+pub use script_link::ScriptLink;
 pub use stream::{Failed, Sink, Source};

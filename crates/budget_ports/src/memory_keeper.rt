@@ -4,7 +4,7 @@ ghost use Rattle.std.specs.FinMap as map;
 ghost use Rattle.budget_ports.specs.Faults.{count_after};
 ghost use Rattle.budget_ports.specs.Calls.{no_calls, is_listed};
 ghost use Rattle.budget_ports.specs.Contents.{nothing, records_after, appended, with_text};
-ghost use Rattle.budget_ports.specs.Keeper.{has_failed, Commits, LeavesNoMore, Only, Rise, HaveKeys};
+ghost use Rattle.budget_ports.specs.Keeper.{has_failed, Commits, IsAlone, LeavesNoMore, Rise, HaveKeys};
 ghost use Rattle.budget_ports.specs.KeeperState.{counted, holds};
 ghost use Rattle.budget_ports.specs.declared.keeper.PortFault.TheVariants.{Failed as HasFailed};
 
@@ -73,8 +73,8 @@ impl Keeper for MemoryKeeper {
         // what each keeper promises
         ensures ok { OnOk result (self.new.contents ≡ appended self.old.contents group.now batch.now) }
         ensures err { OnErr result (self.new.contents ≡ self.old.contents) }
-        ensures left { Commits (holds self.old) (holds self.new) (appended self.old.contents group.now batch.now) }
-        ensures alone { OnOk result (Only self.new.contents (holds self.new)) }
+        ensures left { Commits (Unit {0}) (holds self.old) (holds self.new) (appended self.old.contents group.now batch.now) }
+        ensures alone { OnOk result (IsAlone (Unit {0}) self.new.contents (holds self.new)) }
         ensures here { holds self.new self.new.contents }
         ensures count { self.new.calls.faults ≡ count_after (has_failed result) self.old.calls.faults }
 
@@ -110,8 +110,8 @@ impl Keeper for MemoryKeeper {
         // what each keeper promises
         ensures ok { OnOk result (self.new.contents ≡ with_text self.old.contents name.now text.now) }
         ensures err { OnErr result (self.new.contents ≡ self.old.contents) }
-        ensures left { Commits (holds self.old) (holds self.new) (with_text self.old.contents name.now text.now) }
-        ensures alone { OnOk result (Only self.new.contents (holds self.new)) }
+        ensures left { Commits (Unit {0}) (holds self.old) (holds self.new) (with_text self.old.contents name.now text.now) }
+        ensures alone { OnOk result (IsAlone (Unit {0}) self.new.contents (holds self.new)) }
         ensures here { holds self.new self.new.contents }
         ensures count { self.new.calls.faults ≡ count_after (has_failed result) self.old.calls.faults }
 

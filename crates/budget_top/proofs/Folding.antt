@@ -1,20 +1,23 @@
 -- A device's lines, one after the other.
 use Rattle.std.proofs.Common.{◌≡◌, ℕ, List, [], ◌∷◌, ◌++◌, refl, ap, ◌∙◌, sym, subst, append_assoc, append-nil, Bool, true, false, ◌||◌, Option, None, Some}
+use Rattle.budget_ports.specs.Exchanges.{Exchange, Adds}
+use Rattle.budget_ports.specs.Faults.{count_after}
 use Rattle.budget_ports.specs.Readings.{Readings, Takes, TakesAll, rest_of}
-use Rattle.device_core.specs.Device.{State}
 use Rattle.command_lines.specs.Replies.{reply_text_of}
-use Rattle.budget_top.specs.Session.{Input, step, after, replies, some_refused, is_refused}
+use Rattle.budget_top.specs.Session.{asked, is_refused}
+use Rattle.budget_top.specs.Doing.{Target, Running, IsWhole, Finds, fails_link}
+use Rattle.budget_top.specs.Course.{Input, step, after, replies, some_refused, talks, AreWhole, AreFound, link_faults_after}
 use Rattle.budget_top.specs.Standing.{lines_of, readings_of}
 
-pub after-last : (s : State) (is : List Input) (i : Input) → after s (is ++ i ∷ []) ≡ (step (after s is) i).0
-after-last s [] i = refl
-after-last s (j ∷ is) i = after-last (step s j).0 is i
+pub after-last : (t : Target) (r : Running) (is : List Input) (i : Input) → after t r (is ++ i ∷ []) ≡ (step t (after t r is) i).0
+after-last t r [] i = refl
+after-last t r (j ∷ is) i = after-last t (step t r j).0 is i
 
-pub replies-last : (s : State) (is : List Input) (i : Input) → replies s (is ++ i ∷ []) ≡ replies s is ++ reply_text_of (step (after s is) i).1
-replies-last s [] i = append-nil (reply_text_of (step s i).1)
-replies-last s (j ∷ is) i =
-    ap (λ t. reply_text_of (step s j).1 ++ t) (replies-last (step s j).0 is i)
-    ∙ sym (append_assoc (reply_text_of (step s j).1) (replies (step s j).0 is) (reply_text_of (step (after (step s j).0 is) i).1))
+pub replies-last : (t : Target) (r : Running) (is : List Input) (i : Input) → replies t r (is ++ i ∷ []) ≡ replies t r is ++ reply_text_of (step t (after t r is) i).1
+replies-last t r [] i = append-nil (reply_text_of (step t r i).1)
+replies-last t r (j ∷ is) i =
+    ap (λ x. reply_text_of (step t r j).1 ++ x) (replies-last t (step t r j).0 is i)
+    ∙ sym (append_assoc (reply_text_of (step t r j).1) (replies t (step t r j).0 is) (reply_text_of (step t (after t (step t r j).0 is) i).1))
 
 or_assoc : (a b c : Bool) → ((a || b) || c) ≡ (a || (b || c))
 or_assoc true b c = refl
@@ -24,19 +27,36 @@ or_false : (a : Bool) → (a || false) ≡ a
 or_false true = refl
 or_false false = refl
 
-pub refused-last : (s : State) (is : List Input) (i : Input) → some_refused s (is ++ i ∷ []) ≡ (some_refused s is || is_refused (step (after s is) i).1)
-refused-last s [] i = or_false (is_refused (step s i).1)
-refused-last s (j ∷ is) i =
-    ap (λ b. is_refused (step s j).1 || b) (refused-last (step s j).0 is i)
-    ∙ sym (or_assoc (is_refused (step s j).1) (some_refused (step s j).0 is) (is_refused (step (after (step s j).0 is) i).1))
+pub refused-last : (t : Target) (r : Running) (is : List Input) (i : Input) → some_refused t r (is ++ i ∷ []) ≡ (some_refused t r is || is_refused (step t (after t r is) i).1)
+refused-last t r [] i = or_false (is_refused (step t r i).1)
+refused-last t r (j ∷ is) i =
+    ap (λ b. is_refused (step t r j).1 || b) (refused-last t (step t r j).0 is i)
+    ∙ sym (or_assoc (is_refused (step t r j).1) (some_refused t (step t r j).0 is) (is_refused (step t (after t (step t r j).0 is) i).1))
 
 pub lines-last : (is : List Input) (i : Input) → lines_of (is ++ i ∷ []) ≡ lines_of is ++ i.line ∷ []
 lines-last [] i = refl
 lines-last (j ∷ is) i = ap (λ ls. j.line ∷ ls) (lines-last is i)
 
-pub readings-last : (is : List Input) (i : Input) → readings_of (is ++ i ∷ []) ≡ readings_of is ++ i.reading ∷ []
+pub readings-last : (is : List Input) (i : Input) → readings_of (is ++ i ∷ []) ≡ readings_of is ++ i.given.reading ∷ []
 readings-last [] i = refl
-readings-last (j ∷ is) i = ap (λ rs. j.reading ∷ rs) (readings-last is i)
+readings-last (j ∷ is) i = ap (λ rs. j.given.reading ∷ rs) (readings-last is i)
+
+pub talks-last : (is : List Input) (i : Input) → talks (is ++ i ∷ []) ≡ talks is ++ i.given.talk
+talks-last [] i = append-nil i.given.talk
+talks-last (j ∷ is) i = ap (λ xs. j.given.talk ++ xs) (talks-last is i) ∙ sym (append_assoc j.given.talk (talks is) i.given.talk)
+
+pub whole-last : (t : Target) (r : Running) (is : List Input) (i : Input) → AreWhole t r is → IsWhole t (after t r is).state i.given (asked i.line) → AreWhole t r (is ++ i ∷ [])
+whole-last t r [] i all one = (one, tt)
+whole-last t r (j ∷ is) i all one = (all.0, whole-last t (step t r j).0 is i all.1 one)
+
+pub found-last : (t : Target) (r : Running) (is : List Input) (i : Input) → AreFound t r is → Finds i.given (asked i.line) (after t r is).synced → AreFound t r (is ++ i ∷ [])
+found-last t r [] i all one = (one, tt)
+found-last t r (j ∷ is) i all one = (all.0, found-last t (step t r j).0 is i all.1 one)
+
+pub faults-last : (t : Target) (r : Running) (n : ℕ) (is : List Input) (i : Input)
+    → link_faults_after t r n (is ++ i ∷ []) ≡ count_after (fails_link (asked i.line) (step t (after t r is) i).1) (link_faults_after t r n is)
+faults-last t r n [] i = refl
+faults-last t r n (j ∷ is) i = faults-last t (step t r j).0 (count_after (fails_link (asked j.line) (step t r j).1) n) is i
 
 all_then : (a b c : Readings) (xs ys : List ℕ) → TakesAll a b xs → TakesAll b c ys → TakesAll a c (xs ++ ys)
 all_then a b c [] ys h k = subst (λ (r : Readings). TakesAll r c ys) h k
@@ -51,3 +71,13 @@ takes_then (Some a) (Some b) (Some c) xs ys h k = all_then a b c xs ys h k
 pub takes_none : (a : Option Readings) → Takes a a []
 takes_none None = tt
 takes_none (Some r) = refl
+
+pub adds_none : (a : Option (List Exchange)) → Adds a a []
+adds_none None = tt
+adds_none (Some xs) = sym (append-nil xs)
+
+pub adds_then : (a b c : Option (List Exchange)) (xs ys : List Exchange) → Adds a b xs → Adds b c ys → Adds a c (xs ++ ys)
+adds_then None b c xs ys h k = tt
+adds_then (Some a) None c xs ys h k = absurd h
+adds_then (Some a) (Some b) None xs ys h k = absurd k
+adds_then (Some a) (Some b) (Some c) xs ys h k = k ∙ ap (λ l. l ++ ys) h ∙ append_assoc a xs ys

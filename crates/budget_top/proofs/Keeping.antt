@@ -7,7 +7,7 @@ use Rattle.std.specs.Ordering.{is_lt}
 use Rattle.std.specs.declared.cmp.Ordering.{Ordering}
 use Rattle.budget_ports.specs.declared.keeper.Record.{Record}
 use Rattle.budget_ports.specs.Contents.{Contents, Text, appended}
-use Rattle.budget_ports.specs.Keeper.{Commits, Only}
+use Rattle.budget_ports.specs.Keeper.{Commits, IsAlone}
 use Rattle.field_merge.specs.declared.message.Message.{Message}
 use Rattle.field_merge.specs.Messages.{IsMessage, AreMessages}
 use Rattle.field_merge.specs.Log.{has_stamp, by_stamp, placed, join_one, join}
@@ -15,8 +15,9 @@ use Rattle.kept_messages.specs.Records.{record_of}
 use Rattle.device_core.specs.Device.{DeviceState}
 use Rattle.kept_messages.specs.Holding.{BatchesAreKept}
 use Rattle.kept_messages.specs.News.{new_in, NewOnesAreAdded}
-use Rattle.budget_top.specs.Seen.{Holds, device_group}
-use Rattle.budget_top.specs.Handling.{Brings, Carries, CarriesEither}
+use Rattle.budget_top.specs.Seen.{HoldsSet, device_group}
+use Rattle.device_core.specs.Accepting.{Brings}
+use Rattle.budget_top.specs.Handling.{Carries, CarriesEither}
 
 -- ---- the new ones of some messages
 
@@ -80,8 +81,8 @@ kept_all law old device before valid b = λ entry h.
     let new : AreMessages ns = all_new IsMessage old b.news (subst AreMessages b.messages valid) in
     let records : map record_of (new_in old ns) ≡ device.batch = ap (map record_of) (new_new old b.news) ∙ sym b.batch in
     let messages : join old ns ≡ device.state.messages = join_new old b.news ∙ sym b.messages in
-    subst (λ (ms : List Message). Holds entry (appended before device_group device.batch) ms) messages
-    (subst (λ (rs : List Record). Holds entry (appended before device_group rs) (join old ns)) records (law device_group entry before old ns new h))
+    subst (λ (ms : List Message). HoldsSet entry (appended before device_group device.batch) ms) messages
+    (subst (λ (rs : List Record). HoldsSet entry (appended before device_group rs) (join old ns)) records (law device_group entry before old ns new h))
 
 -- the same of what was appended
 pub carries : BatchesAreKept → (old : List Message) (device : DeviceState) (group : Text) (batch : List Record) (before now : Contents)
@@ -103,19 +104,19 @@ carries_none law old device before valid none b = carries law old device device_
 
 -- nothing was kept
 pub either_old : (old new : List Message) (before now : Contents) → now ≡ before → CarriesEither old new before now
-either_old old new before now same = λ entry h. record { messages = old; holds = subst (λ (k : Contents). Holds entry k old) (sym same) h; which = inl refl }
+either_old old new before now same = λ entry h. record { messages = old; holds = subst (λ (k : Contents). HoldsSet entry k old) (sym same) h; which = inl refl }
 
 -- all was kept
 pub either_new : (old new : List Message) (before now : Contents) → Carries old new before now → CarriesEither old new before now
 either_new old new before now c = λ entry h. record { messages = new; holds = c entry h; which = inr refl }
 
 -- what a stop may leave
-pub stops_kept : BatchesAreKept → (old : List Message) (device : DeviceState) (group : Text) (batch : List Record) (before c : Contents) (left new_left : Contents → Type 0)
-    → AreMessages device.state.messages → group ≡ device_group → batch ≡ device.batch → Only before left → Commits left new_left (appended before group batch) → new_left c
-    → Brings old device → CarriesEither old device.state.messages before c
-stops_kept law old device group batch before c left new_left valid named all only commits h b = elim (commits c h) [
-  | inl there ↦ either_old old device.state.messages before c (only c there)
-  | inr done ↦ either_new old device.state.messages before c (carries law old device group batch before c valid named all done b)
+pub stops_kept : BatchesAreKept → (old : List Message) (device : DeviceState) (group : Text) (batch : List Record) (told : Type 0) (before c : Contents) (left new_left : Contents → Type 0)
+    → AreMessages device.state.messages → group ≡ device_group → batch ≡ device.batch → IsAlone told before left → Commits told left new_left (appended before group batch) → new_left c
+    → Brings old device → told × CarriesEither old device.state.messages before c
+stops_kept law old device group batch told before c left new_left valid named all only commits h b = elim (commits c h) [
+  | inl there ↦ let is = only c there in (is.0, either_old old device.state.messages before c is.1)
+  | inr done ↦ (done.0, either_new old device.state.messages before c (carries law old device group batch before c valid named all done.1 b))
 ]
 
 -- what is to be kept is new

@@ -10,9 +10,11 @@ pub mod Running
 pub mod Judging
 pub mod Finding
 pub mod Folding
+pub mod Plain
 pub mod Serving
 pub mod Answering
 pub mod Obeying
+mod Obeyed
 pub mod Keeping
 pub mod Replying
 mod Parses
@@ -26,3 +28,6 @@ pub mod Hyphens
 pub mod Refusing
 pub mod LineWriting
 pub mod Valid
+pub mod CutLines
+pub mod Judged
+pub mod Merging

@@ -1,6 +1,7 @@
 -- A run whose words are refused.
-use Rattle.std.proofs.Common.{◌≡◌, ℕ, ◌⊎◌, inl, inr, List, Option, Some, refl, sym, subst, true≢false}
-use Rattle.std.specs.Prelude.{IsErr, Result, Ok, Err}
+use Rattle.std.proofs.Common.{◌≡◌, ℕ, ◌⊎◌, inl, inr, List, Option, Some, refl, sym, subst, true≢false, arith}
+use Rattle.std.specs.Prelude.{IsErr, IsTrue, ◌==◌, Result, Ok, Err}
+use Rattle.std.specs.List.{list_any}
 use Rattle.std.specs.Option.{option_map}
 use Rattle.std.specs.Result.{result_ok}
 use Rattle.budget_top.specs.declared.words.Mode.TheVariants.{Merge}
@@ -9,6 +10,9 @@ use Rattle.budget_top.specs.declared.words.WordFault.{WordFault}
 use Rattle.budget_top.specs.declared.words.WordFault.TheVariants.{Words, Mode as BadMode, NodeMissing, Node as BadNode, Count, Token, Name, NoMemory}
 use Rattle.budget_top.specs.Words.{planned, planned_mode, IsWordFault, refusal_status}
 use Rattle.budget_top.specs.MergeRun.{MergeRun}
+use Rattle.budget_top.specs.Doing.{Target}
+use Rattle.budget_top.specs.Seen.{Seen}
+use Rattle.budget_top.specs.DeviceRun.{device_statuses, Unopened, Opened, DeviceRun, target_of}
 use Rattle.budget_top.proofs.Running.{run_untouched}
 
 -- the words are at fault, or memory ran out
@@ -35,3 +39,23 @@ refused_merge words fault left taken h e =
       | inl p ↦ absurd (no_mode (planned words) p e)
       | inr seven ↦ subst (λ s. MergeRun s left left taken taken) (sym seven) (run_untouched left taken)
     ]
+
+-- ---- the mode `device`
+
+-- no run of a device says that its words are refused
+pub device_not_refused : (node : List ℕ) (target : Target) (status : ℕ) (left new_left : Option (List ℕ)) (faults new_faults : ℕ) (old now : Seen) → DeviceRun node target status left new_left faults new_faults old now → status ≡ 2 → ⊥
+device_not_refused node target status left new_left faults new_faults old now h two = by h.opening
+  where
+    by : Unopened status left new_left faults new_faults old now ⊎ Opened node target status left new_left old now → ⊥
+    by (inl u) = elim u.how [ inl bad ↦ omega (arith, two, bad.0) | inr stop ↦ elim stop.0 [ inl six ↦ omega (arith, two, six) | inr seven ↦ omega (arith, two, seven) ] ]
+    by (inr o) = let P : ℕ → Type 0 = λ n. IsTrue (list_any (λ s. n == s) device_statuses) in true≢false (sym (subst P two o.answered.known))
+
+-- one plan is asked for, so one node
+pub device_along : (asked : Result Plan WordFault) (a b : Plan) (m n : List ℕ) (status : ℕ) (left new_left : Option (List ℕ)) (faults new_faults : ℕ) (old now : Seen)
+    → asked ≡ Ok a → a.node ≡ Some m → asked ≡ Ok b → b.node ≡ Some n → DeviceRun m (target_of a) status left new_left faults new_faults old now → DeviceRun n (target_of b) status left new_left faults new_faults old now
+device_along asked a b m n status left new_left faults new_faults old now is has is_too has_too h =
+    let same : a ≡ b = cc in
+    let nodes : m ≡ n = cc in
+    let P : Plan → Type 0 = λ p. DeviceRun m (target_of p) status left new_left faults new_faults old now in
+    let Q : List ℕ → Type 0 = λ x. DeviceRun x (target_of b) status left new_left faults new_faults old now in
+    subst Q nodes (subst P same h)

@@ -1,20 +1,19 @@
 -- Where a device's run stands after one more line, and how it breaks off.
-use Rattle.std.proofs.Common.{◌≡◌, ◌≢◌, ℕ, ◌+◌, ◌-◌, take, drop, List, [], ◌∷◌, ◌++◌, length, refl, ap, ◌∙◌, sym, subst, append_assoc, append-nil, Bool, true, false, ◌||◌, cond, nat_lt, Option, None, Some, Result, Err, inl, inr, ◌⊎◌, arith}
+use Rattle.std.proofs.Common.{◌≡◌, ℕ, ◌+◌, ◌-◌, take, drop, List, [], ◌∷◌, ◌++◌, length, refl, ap, ◌∙◌, sym, subst, append_assoc, append-nil, Bool, true, false, ◌||◌, cond, nat_lt, Option, None, Some, Result, Err, arith}
 use Rattle.std.proofs.KnownBytes.{Appends-trans}
 use Rattle.std.specs.Str.{is_utf8}
 use Rattle.std.specs.Io.KnownBytes.{Appends}
 use Rattle.budget_ports.specs.Contents.{Contents}
-use Rattle.budget_ports.specs.Keeper.{Only}
+use Rattle.budget_ports.specs.Exchanges.{Exchange, Adds}
+use Rattle.budget_ports.specs.Faults.{count_after}
+use Rattle.budget_ports.specs.Keeper.{IsAlone}
 use Rattle.budget_ports.specs.Readings.{Takes}
 use Rattle.budget_ports.specs.declared.keeper.PortFault.{PortFault}
 use Rattle.budget_ports.specs.declared.keeper.PortFault.TheVariants.{Failed, NoMemory}
-use Rattle.field_merge.specs.declared.message.Message.{Message}
 use Rattle.field_merge.specs.Lines.{parts}
 use Rattle.device_core.specs.Device.{State}
 use Rattle.command_lines.specs.declared.command.Command.{Command}
-use Rattle.command_lines.specs.declared.reply.Reply.{Reply}
 use Rattle.command_lines.specs.Commands.{of_words}
-use Rattle.command_lines.specs.Replies.{reply_text_of}
 use Rattle.budget_top.specs.declared.session.Session.{Session}
 use Rattle.budget_top.specs.declared.stop.DeviceStop.{DeviceStop}
 use Rattle.budget_top.specs.declared.stop.DeviceStop.TheVariants.{Run, Keeper}
@@ -23,18 +22,20 @@ use Rattle.budget_top.specs.Lines.{IsWithinLine, whole_lines, last_piece, all_li
 use Rattle.budget_top.specs.KeptLine.{kept_line, kept_line_with}
 use Rattle.command_lines.specs.Commands.{longest_line}
 use Rattle.budget_top.specs.Fronts.{AppendsFront}
-use Rattle.budget_top.specs.Session.{Input, asked, asked_kept_line, obeyed, step, after, replies, some_refused, is_refused}
+use Rattle.budget_top.specs.Session.{asked, asked_kept_line}
+use Rattle.budget_top.specs.Doing.{Given, Running, done, Finds, fails_link, HasStayed}
+use Rattle.budget_top.specs.Course.{Input, step, replies, some_refused, talks}
 use Rattle.budget_top.specs.Seen.{Seen, Holds}
-use Rattle.budget_top.specs.Handling.{IsHandled, Carries, CarriesEither, HoldsEither}
+use Rattle.budget_top.specs.Handling.{IsAnswered, IsUnanswered}
 use Rattle.budget_top.specs.Stops.{stop_of}
-use Rattle.budget_top.specs.Standing.{Entry, lines_of, readings_of, AreFirst, Halts, Cuts}
+use Rattle.budget_top.specs.Standing.{Entry, Talked, reached, lines_of, readings_of, AreFirst, Halts, Cuts}
 use Rattle.budget_top.specs.DeviceSteps.{Stands, Ended, BreaksAs}
 use Rattle.budget_top.proofs.Cutting.{FirstEnd, whole_lines-within, last_piece-within, whole_lines-end, last_piece-end, whole_lines-append}
 use Rattle.budget_top.proofs.Standing.{appends_as, kept_line-append}
 use Rattle.budget_top.proofs.Ending.{one_begun}
 use Rattle.budget_top.proofs.Feeding.{all_taken, taken_line}
 use Rattle.budget_top.proofs.Writing.{whole_rest}
-use Rattle.budget_top.proofs.Folding.{after-last, replies-last, refused-last, lines-last, readings-last, takes_then}
+use Rattle.budget_top.proofs.Folding.{after-last, replies-last, refused-last, lines-last, readings-last, talks-last, whole-last, found-last, faults-last, takes_then, adds_then}
 
 -- what a line asks
 
@@ -51,25 +52,9 @@ asked-kept_line line =
       | false ↦ λ short. refl
     ] refl
 
--- what is made of the line that has begun
-abbrev pub done : Session → ℕ → State × Reply
-done session reading = obeyed session.device.state reading (asked_kept_line session.line)
-
 -- that line as an input
-abbrev pub in_hand : List ℕ → ℕ → Input
-in_hand read reading = record { reading = reading; line = last_piece read }
-
--- what a keeper holds
-
-holds_as : (entry now : Contents) (ms ns : List Message) → ms ≡ ns → Holds entry now ms → Holds entry now ns
-holds_as entry now ms ns same h = let P : List Message → Type 0 = λ xs. Holds entry now xs in subst P same h
-
-either_as : (entry now : Contents) (a b c d : List Message) → a ≡ c → b ≡ d → HoldsEither entry now a b → HoldsEither entry now c d
-either_as entry now a b c d old new h = record { messages = h.messages; holds = h.holds; which = by h.which }
-  where
-    by : (h.messages ≡ a) ⊎ (h.messages ≡ b) → (h.messages ≡ c) ⊎ (h.messages ≡ d)
-    by (inl is) = inl (is ∙ old)
-    by (inr is) = inr (is ∙ new)
+abbrev pub in_hand : List ℕ → Given → Input
+in_hand read given = record { given = given; line = last_piece read }
 
 -- one line more
 
@@ -77,110 +62,166 @@ module _ (e : Entry) (read : List ℕ) (old : Session) (before now : Seen) (s : 
   abbrev had : List Input
   had = s.handled.inputs
 
-  abbrev have : List Input
-  have = had ++ in_hand read reading ∷ []
+  abbrev here : Running
+  here = reached e had
 
-  as_step : done old reading ≡ step (after e.start had) (in_hand read reading)
-  as_step =
-      ap (λ (t : State). obeyed t reading (asked_kept_line old.line)) s.state
-      ∙ ap (λ l. obeyed (after e.start had) reading (asked_kept_line l)) s.line
-      ∙ ap (λ a. obeyed (after e.start had) reading a) (asked-kept_line (last_piece read))
+  abbrev asks : Result Command ℕ
+  asks = asked (last_piece read)
 
-  state_now : (done old reading).0 ≡ after e.start have
-  state_now = ap (λ (d : State × Reply). d.0) as_step ∙ sym (after-last e.start had (in_hand read reading))
+  asks_so : asked_kept_line old.line ≡ asks
+  asks_so = ap asked_kept_line s.line ∙ asked-kept_line (last_piece read)
 
-  reply_now : (done old reading).1 ≡ (step (after e.start had) (in_hand read reading)).1
-  reply_now = ap (λ (d : State × Reply). d.1) as_step
+  abbrev have : Given → List Input
+  have given = had ++ in_hand read given ∷ []
 
-  lines_now : lines_of have ≡ whole_lines (read ++ 10 ∷ [])
-  lines_now = lines-last had (in_hand read reading) ∙ ap (λ ls. ls ++ last_piece read ∷ []) s.handled.lines ∙ sym (whole_lines-end read)
+  lines_now : (given : Given) → lines_of (have given) ≡ whole_lines (read ++ 10 ∷ [])
+  lines_now given = lines-last had (in_hand read given) ∙ ap (λ ls. ls ++ last_piece read ∷ []) s.handled.lines ∙ sym (whole_lines-end read)
 
-  first_now : AreFirst (lines_of have) (whole_lines (read ++ 10 ∷ []))
-  first_now = ([], append-nil (lines_of have) ∙ lines_now)
+  first_now : (given : Given) → AreFirst (lines_of (have given)) (whole_lines (read ++ 10 ∷ []))
+  first_now given = ([], append-nil (lines_of (have given)) ∙ lines_now given)
 
-  took_now : Takes e.readings now.readings (readings_of have)
-  took_now =
+  took_now : (given : Given) → given.reading ≡ reading → Takes e.readings now.readings (readings_of (have given))
+  took_now given same =
       let P : List ℕ → Type 0 = λ rs. Takes e.readings now.readings rs in
-      subst P (sym (readings-last had (in_hand read reading))) (takes_then e.readings before.readings now.readings (readings_of had) (reading ∷ []) s.handled.took took)
+      subst P (ap (λ n. readings_of had ++ n ∷ []) (sym same) ∙ sym (readings-last had (in_hand read given)))
+      (takes_then e.readings before.readings now.readings (readings_of had) (reading ∷ []) s.handled.took took)
 
-  held : now.tells → Holds e.contents before.contents old.device.state.messages
-  held t = holds_as e.contents before.contents _ _ (ap (λ (x : State). x.messages) (sym s.state)) (s.handled.keeper (told t))
+  talked_now : (given : Given) → Adds before.exchanges now.exchanges given.talk → Adds e.exchanges now.exchanges (talks (have given))
+  talked_now given said =
+      let P : List Exchange → Type 0 = λ xs. Adds e.exchanges now.exchanges xs in
+      subst P (sym (talks-last had (in_hand read given))) (adds_then e.exchanges before.exchanges now.exchanges (talks had) given.talk s.handled.talk.talked said)
 
-  holds_now : now.tells → (c : Contents) → Carries old.device.state.messages (done old reading).0.messages before.contents c → Holds e.contents c (after e.start have).messages
-  holds_now t c carries = holds_as e.contents c _ _ (ap (λ (x : State). x.messages) state_now) (carries e.contents (held t))
+  -- what the answer says, of the run
+  abbrev Answered : State → List ℕ → Bool → Type 0
+  Answered new text refused =
+      IsAnswered e.target reading asks here.state new text refused before.exchanges now.exchanges before.link_faults now.link_faults now.tells before.contents now.contents
 
-  either_now : now.tells → (c : Contents) → CarriesEither old.device.state.messages (done old reading).0.messages before.contents c → HoldsEither e.contents c (after e.start had).messages (after e.start have).messages
-  either_now t c carries =
-      either_as e.contents c _ _ _ _ (ap (λ (x : State). x.messages) s.state) (ap (λ (x : State). x.messages) state_now) (carries e.contents (held t))
+  answered_here : (new : State) (text : List ℕ) (refused : Bool)
+      → IsAnswered e.target reading (asked_kept_line old.line) old.device.state new text refused before.exchanges now.exchanges before.link_faults now.link_faults now.tells before.contents now.contents
+      → Answered new text refused
+  answered_here new text refused a =
+      let P : State → Type 0 = λ x.
+      IsAnswered e.target reading (asked_kept_line old.line) x new text refused before.exchanges now.exchanges before.link_faults now.link_faults now.tells before.contents now.contents in
+      let Q : Result Command ℕ → Type 0 = λ c.
+      IsAnswered e.target reading c here.state new text refused before.exchanges now.exchanges before.link_faults now.link_faults now.tells before.contents now.contents in
+      subst Q asks_so (subst P s.state a)
+
+  keeps_now : (new : State) (text : List ℕ) (refused : Bool) (a : Answered new text refused) → now.tells
+      → Holds e.target e.contents now.contents (done e.target here a.given asks).0 × Finds a.given asks here.synced
+  keeps_now new text refused a t = a.keeper t e.contents here refl (s.handled.keeper (told t))
+
+  holds_now : (new : State) (text : List ℕ) (refused : Bool) (a : Answered new text refused) → now.tells → Holds e.target e.contents now.contents (reached e (have a.given))
+  holds_now new text refused a t =
+      let P : Running → Type 0 = λ r. Holds e.target e.contents now.contents r in
+      subst P (sym (after-last e.target e.start had (in_hand read a.given))) (keeps_now new text refused a t).0
+
+  talk_now : (new : State) (text : List ℕ) (refused : Bool) (a : Answered new text refused) → Talked e (have a.given) now
+  talk_now new text refused a = record {
+    talked = talked_now a.given a.talked;
+    whole = whole-last e.target e.start had (in_hand read a.given) s.handled.talk.whole a.whole;
+    failed =
+        a.failed ∙ ap (λ n. count_after (fails_link asks (step e.target here (in_hand read a.given)).1) n) s.handled.talk.failed
+        ∙ sym (faults-last e.target e.start e.link_faults had (in_hand read a.given));
+    found = λ t. found-last e.target e.start had (in_hand read a.given) (s.handled.talk.found (told t)) (keeps_now new text refused a t).1;
+  }
 
   -- the line was answered
-  pub stands_end : (new : Session) (text : List ℕ) (refused : Bool) → IsHandled (done old reading) new.device.state text refused → new.line ≡ Some [] → new.bad ≡ (old.bad || refused)
-      → Appends before.taken now.taken text → (now.tells → Carries old.device.state.messages (done old reading).0.messages before.contents now.contents) → Stands e (read ++ 10 ∷ []) new now
-  stands_end new text refused handled_line line bad written carries = record {
+  stands_here : (new : Session) (text : List ℕ) (refused : Bool) (a : Answered new.device.state text refused) → new.line ≡ Some [] → new.bad ≡ (old.bad || refused)
+      → Appends before.taken now.taken text → Stands e (read ++ 10 ∷ []) new now
+  stands_here new text refused a line bad written = record {
     handled = record {
-      inputs = have;
-      lines = lines_now;
-      took = took_now;
+      inputs = have a.given;
+      lines = lines_now a.given;
+      took = took_now a.given a.took;
       written =
           appends_as e.taken now.taken _ _
-          (ap (λ t. replies e.start had ++ t) (handled_line.is_text ∙ ap reply_text_of reply_now) ∙ sym (replies-last e.start had (in_hand read reading)))
-          (Appends-trans e.taken before.taken now.taken (replies e.start had) text s.handled.written written);
-      keeper = λ t. holds_now t now.contents (carries t);
+          (ap (λ t. replies e.target e.start had ++ t) a.handled.is_text ∙ sym (replies-last e.target e.start had (in_hand read a.given)))
+          (Appends-trans e.taken before.taken now.taken (replies e.target e.start had) text s.handled.written written);
+      talk = talk_now new.device.state text refused a;
+      keeper = holds_now new.device.state text refused a;
     };
     line = line ∙ ap kept_line (sym (last_piece-end read));
-    state = handled_line.state ∙ state_now;
+    state = a.handled.state ∙ ap (λ (r : Running). r.state) (sym (after-last e.target e.start had (in_hand read a.given)));
     bad =
-        bad ∙ ap (λ b. b || refused) s.bad ∙ ap (λ b. some_refused e.start had || b) (handled_line.is_bad ∙ ap is_refused reply_now)
-        ∙ sym (refused-last e.start had (in_hand read reading));
+        bad ∙ ap (λ b. b || refused) s.bad ∙ ap (λ b. some_refused e.target e.start had || b) a.handled.is_bad
+        ∙ sym (refused-last e.target e.start had (in_hand read a.given));
   }
+
+  pub stands_end : (new : Session) (text : List ℕ) (refused : Bool)
+      → IsAnswered e.target reading (asked_kept_line old.line) old.device.state new.device.state text refused before.exchanges now.exchanges before.link_faults now.link_faults now.tells before.contents now.contents
+      → new.line ≡ Some [] → new.bad ≡ (old.bad || refused) → Appends before.taken now.taken text → Stands e (read ++ 10 ∷ []) new now
+  stands_end new text refused a line bad written = stands_here new text refused (answered_here new.device.state text refused a) line bad written
 
   -- the line got no reply
-  halts_end : now.taken ≡ before.taken → (now.tells → now.contents ≡ before.contents)
-      → (now.tells → Only before.contents before.left → (c : Contents) → now.left c → CarriesEither old.device.state.messages (done old reading).0.messages before.contents c)
-      → Halts e (Only before.contents before.left) (whole_lines (read ++ 10 ∷ [])) now
-  halts_end taken same stops = record {
-    inputs = had;
-    in_hand = in_hand read reading ∷ [];
-    one = omega arith;
-    first = first_now;
-    took = took_now;
-    written = let P : Option (List ℕ) → Type 0 = λ t. Appends e.taken t (replies e.start had) in subst P (sym taken) s.handled.written;
-    keeper = λ t. let P : Contents → Type 0 = λ k. Holds e.contents k (after e.start had).messages in subst P (sym (same t)) (s.handled.keeper (told t));
-    stops = λ t alone c left. either_now t c (stops t alone c left);
-  }
+  abbrev Unanswered : PortFault → Type 0
+  Unanswered fault =
+      IsUnanswered e.target fault reading asks here.state before.exchanges now.exchanges before.link_faults now.link_faults (IsAlone before.tells before.contents before.left) before.tells now.tells
+      before.contents now.contents now.left
 
-  -- the line made something new
-  new_end : (done old reading).0.messages ≢ old.device.state.messages → (after e.start have).messages ≢ (after e.start had).messages
-  new_end new same = new (ap (λ (x : State). x.messages) state_now ∙ same ∙ ap (λ (x : State). x.messages) (sym s.state))
+  halts_end : (fault : PortFault) (u : Unanswered fault) → now.taken ≡ before.taken → Halts e (IsAlone before.tells before.contents before.left) (whole_lines (read ++ 10 ∷ [])) now
+  halts_end fault u taken =
+      let stayed = u.stayed here refl in
+      record {
+        inputs = had;
+        in_hand = in_hand read u.given ∷ [];
+        one = omega arith;
+        first = first_now u.given;
+        took = took_now u.given u.took;
+        written = let P : Option (List ℕ) → Type 0 = λ t. Appends e.taken t (replies e.target e.start had) in subst P (sym taken) s.handled.written;
+        talked = talked_now u.given u.talked;
+        whole = s.handled.talk.whole;
+        found = λ t. s.handled.talk.found (told t);
+        kept = stayed.0;
+        stays = let P : ℕ → Type 0 = λ n. HasStayed e.target here u.given asks stayed.0 n now.link_faults in subst P s.handled.talk.failed stayed.1;
+        keeper = λ t. stayed.2 t e.contents (s.handled.keeper (told t));
+        stops = λ alone c left. let it = u.stops alone c left in it.1 e.contents here refl (s.handled.keeper it.0);
+      }
 
   -- memory ran out or the keeper failed, and the line got no reply
-  pub breaks_end : (fault : PortFault) (stop : DeviceStop) → stop ≡ stop_of fault → now.taken ≡ before.taken → (now.tells → now.contents ≡ before.contents)
-      → (now.tells → Only before.contents before.left → (c : Contents) → now.left c → CarriesEither old.device.state.messages (done old reading).0.messages before.contents c)
-      → (fault ≡ Failed → (done old reading).0.messages ≢ old.device.state.messages) → BreaksAs stop e (Only before.contents before.left) (whole_lines (read ++ 10 ∷ [])) now
+  breaks_here : (fault : PortFault) (stop : DeviceStop) → stop ≡ stop_of fault → now.taken ≡ before.taken → Unanswered fault → BreaksAs stop e (IsAlone before.tells before.contents before.left) (whole_lines (read ++ 10 ∷ [])) now
   unfolding halts_end
-  breaks_end fault stop is taken same stops new =
-      let P : DeviceStop → Type 0 = λ x. BreaksAs x e (Only before.contents before.left) (whole_lines (read ++ 10 ∷ [])) now in
-      subst P (sym is) (by fault new)
+  breaks_here fault stop is taken u =
+      let P : DeviceStop → Type 0 = λ x. BreaksAs x e (IsAlone before.tells before.contents before.left) (whole_lines (read ++ 10 ∷ [])) now in
+      subst P (sym is) (by fault u)
     where
-      by : (f : PortFault) → (f ≡ Failed → (done old reading).0.messages ≢ old.device.state.messages) → BreaksAs (stop_of f) e (Only before.contents before.left) (whole_lines (read ++ 10 ∷ [])) now
-      by Failed new = record { halts = halts_end taken same stops; new = new_end (new refl) }
-      by NoMemory new = halts_end taken same stops
+      by : (f : PortFault) → Unanswered f → BreaksAs (stop_of f) e (IsAlone before.tells before.contents before.left) (whole_lines (read ++ 10 ∷ [])) now
+      by Failed u = record { halts = halts_end Failed u taken; new = u.new refl here refl }
+      by NoMemory u = halts_end NoMemory u taken
+
+  pub breaks_end : (fault : PortFault) (stop : DeviceStop) → stop ≡ stop_of fault → now.taken ≡ before.taken
+      → IsUnanswered e.target fault reading (asked_kept_line old.line) old.device.state before.exchanges now.exchanges before.link_faults now.link_faults (IsAlone before.tells before.contents before.left)
+      before.tells now.tells before.contents now.contents now.left
+      → BreaksAs stop e (IsAlone before.tells before.contents before.left) (whole_lines (read ++ 10 ∷ [])) now
+  breaks_end fault stop is taken u =
+      let P : State → Type 0 = λ x.
+      IsUnanswered e.target fault reading (asked_kept_line old.line) x before.exchanges now.exchanges before.link_faults now.link_faults (IsAlone before.tells before.contents before.left) before.tells now.tells
+      before.contents now.contents now.left in
+      let Q : Result Command ℕ → Type 0 = λ c.
+      IsUnanswered e.target fault reading c here.state before.exchanges now.exchanges before.link_faults now.link_faults (IsAlone before.tells before.contents before.left) before.tells now.tells
+      before.contents now.contents now.left in
+      breaks_here fault stop is taken (subst Q asks_so (subst P s.state u))
 
   -- the reply was cut
-  pub cuts_end : (new : State) (text : List ℕ) (refused : Bool) → IsHandled (done old reading) new text refused → AppendsFront before.taken now.taken text
-      → (now.tells → Carries old.device.state.messages (done old reading).0.messages before.contents now.contents)
-      → (now.tells → Only before.contents before.left → Only now.contents now.left) → Cuts e (Only before.contents before.left) (whole_lines (read ++ 10 ∷ [])) now
-  cuts_end new text refused handled_line written carries alone = record {
+  cuts_here : (new : State) (text : List ℕ) (refused : Bool) → Answered new text refused → AppendsFront before.taken now.taken text
+      → (IsAlone before.tells before.contents before.left → IsAlone now.tells now.contents now.left) → Cuts e (IsAlone before.tells before.contents before.left) (whole_lines (read ++ 10 ∷ [])) now
+  cuts_here new text refused a written alone = record {
     inputs = had;
-    last = in_hand read reading;
+    last = in_hand read a.given;
     part = written.front;
-    of = (written.of.0, written.of.1 ∙ handled_line.is_text ∙ ap reply_text_of reply_now);
-    first = first_now;
-    took = took_now;
-    written = Appends-trans e.taken before.taken now.taken (replies e.start had) written.front s.handled.written written.written;
-    keeper = λ t. holds_now t now.contents (carries t);
+    of = (written.of.0, written.of.1 ∙ a.handled.is_text);
+    first = first_now a.given;
+    took = took_now a.given a.took;
+    written = Appends-trans e.taken before.taken now.taken (replies e.target e.start had) written.front s.handled.written written.written;
+    talk = talk_now new text refused a;
+    keeper = holds_now new text refused a;
     stops = alone;
   }
+
+  pub cuts_end : (new : State) (text : List ℕ) (refused : Bool)
+      → IsAnswered e.target reading (asked_kept_line old.line) old.device.state new text refused before.exchanges now.exchanges before.link_faults now.link_faults now.tells before.contents now.contents
+      → AppendsFront before.taken now.taken text
+      → (IsAlone before.tells before.contents before.left → IsAlone now.tells now.contents now.left) → Cuts e (IsAlone before.tells before.contents before.left) (whole_lines (read ++ 10 ∷ [])) now
+  cuts_end new text refused a written alone = cuts_here new text refused (answered_here new text refused a) written alone
 
 -- bytes within a line
 pub stands_within : (e : Entry) (read bytes : List ℕ) (old new : Session) (now : Seen) → IsWithinLine bytes → new.device ≡ old.device → new.bad ≡ old.bad → new.line ≡ kept_line_with old.line bytes → Stands e read old now → Stands e (read ++ bytes) new now
@@ -190,6 +231,7 @@ stands_within e read bytes old new now within device bad line s = record {
     lines = s.handled.lines ∙ sym (whole_lines-within read bytes within);
     took = s.handled.took;
     written = s.handled.written;
+    talk = s.handled.talk;
     keeper = s.handled.keeper;
   };
   line = line ∙ ap (λ k. kept_line_with k bytes) s.line ∙ kept_line-append (last_piece read) bytes ∙ ap kept_line (sym (last_piece-within read bytes within));
@@ -198,11 +240,9 @@ stands_within e read bytes old new now within device bad line s = record {
 }
 
 -- it broke off between two lines
-pub halts_between : (e : Entry) (read : List ℕ) (old : Session) (now : Seen) → Stands e read old now → Halts e (Only now.contents now.left) (whole_lines read) now
+pub halts_between : (e : Entry) (read : List ℕ) (old : Session) (now : Seen) → Stands e read old now → Halts e (IsAlone now.tells now.contents now.left) (whole_lines read) now
 halts_between e read old now s =
     let all : s.handled.inputs ≡ s.handled.inputs ++ [] = sym (append-nil s.handled.inputs) in
-    let here : now.tells → (c : Contents) → Holds e.contents c (after e.start s.handled.inputs).messages → HoldsEither e.contents c (after e.start s.handled.inputs).messages (after e.start (s.handled.inputs ++ [])).messages =
-    λ t c h. record { messages = (after e.start s.handled.inputs).messages; holds = h; which = inl refl } in
     record {
       inputs = s.handled.inputs;
       in_hand = [];
@@ -210,10 +250,16 @@ halts_between e read old now s =
       first = ([], append-nil _ ∙ ap lines_of (sym all) ∙ s.handled.lines);
       took = let P : List Input → Type 0 = λ is. Takes e.readings now.readings (readings_of is) in subst P all s.handled.took;
       written = s.handled.written;
+      talked = let P : List Input → Type 0 = λ is. Adds e.exchanges now.exchanges (talks is) in subst P all s.handled.talk.talked;
+      whole = s.handled.talk.whole;
+      found = s.handled.talk.found;
+      kept = reached e s.handled.inputs;
+      stays = (refl, s.handled.talk.failed);
       keeper = s.handled.keeper;
-      stops = λ t alone c left.
-          let P : Contents → Type 0 = λ d. Holds e.contents d (after e.start s.handled.inputs).messages in
-          here t c (subst P (sym (alone c left)) (s.handled.keeper t));
+      stops = λ alone c left.
+          let P : Contents → Type 0 = λ d. Holds e.target e.contents d (reached e s.handled.inputs) in
+          let is = alone c left in
+          record { left = reached e s.handled.inputs; holds = subst P (sym is.1) (s.handled.keeper is.0); which = refl };
     }
 
 -- what was due goes on
@@ -222,23 +268,23 @@ first_more : (xs ys zs : List (List ℕ)) → AreFirst xs ys → AreFirst ys zs 
 first_more xs ys zs h k = (h.0 ++ k.0, sym (append_assoc xs h.0 k.0) ∙ ap (λ ls. ls ++ k.0) h.1 ∙ k.1)
 
 halts_more : (e : Entry) (alone : Type 0) (due more : List (List ℕ)) (now : Seen) → AreFirst due more → Halts e alone due now → Halts e alone more now
-halts_more e alone due more now first h = record { inputs = h.inputs; in_hand = h.in_hand; one = h.one; first = first_more _ due more h.first first; took = h.took; written = h.written; keeper = h.keeper; stops = h.stops }
+halts_more e alone due more now first h = record { inputs = h.inputs; in_hand = h.in_hand; one = h.one; first = first_more _ due more h.first first; took = h.took; written = h.written; talked = h.talked; whole = h.whole; found = h.found; kept = h.kept; stays = h.stays; keeper = h.keeper; stops = h.stops }
 
 pub breaks_more : (stop : DeviceStop) (e : Entry) (alone : Type 0) (due more : List (List ℕ)) (now : Seen) → AreFirst due more → BreaksAs stop e alone due now → BreaksAs stop e alone more now
 unfolding halts_more
 breaks_more (Run Memory) e alone due more now first h = halts_more e alone due more now first h
 breaks_more Keeper e alone due more now first h = record { halts = halts_more e alone due more now first h.halts; new = h.new }
-breaks_more (Run Sink) e alone due more now first h = record { inputs = h.inputs; last = h.last; part = h.part; of = h.of; first = first_more _ due more h.first first; took = h.took; written = h.written; keeper = h.keeper; stops = h.stops }
+breaks_more (Run Sink) e alone due more now first h = record { inputs = h.inputs; last = h.last; part = h.part; of = h.of; first = first_more _ due more h.first first; took = h.took; written = h.written; talk = h.talk; keeper = h.keeper; stops = h.stops }
 
 -- what a stop could leave is known from further before
-halts_from : (e : Entry) (alone before : Type 0) (due : List (List ℕ)) (now : Seen) → (now.tells → before → alone) → Halts e alone due now → Halts e before due now
-halts_from e alone before due now f h = record { inputs = h.inputs; in_hand = h.in_hand; one = h.one; first = h.first; took = h.took; written = h.written; keeper = h.keeper; stops = λ t b. h.stops t (f t b) }
+halts_from : (e : Entry) (alone before : Type 0) (due : List (List ℕ)) (now : Seen) → (before → alone) → Halts e alone due now → Halts e before due now
+halts_from e alone before due now f h = record { inputs = h.inputs; in_hand = h.in_hand; one = h.one; first = h.first; took = h.took; written = h.written; talked = h.talked; whole = h.whole; found = h.found; kept = h.kept; stays = h.stays; keeper = h.keeper; stops = λ b. h.stops (f b) }
 
-pub breaks_from : (stop : DeviceStop) (e : Entry) (alone before : Type 0) (due : List (List ℕ)) (now : Seen) → (now.tells → before → alone) → BreaksAs stop e alone due now → BreaksAs stop e before due now
+pub breaks_from : (stop : DeviceStop) (e : Entry) (alone before : Type 0) (due : List (List ℕ)) (now : Seen) → (before → alone) → BreaksAs stop e alone due now → BreaksAs stop e before due now
 unfolding halts_from
 breaks_from (Run Memory) e alone before due now f h = halts_from e alone before due now f h
 breaks_from Keeper e alone before due now f h = record { halts = halts_from e alone before due now f h.halts; new = h.new }
-breaks_from (Run Sink) e alone before due now f h = record { inputs = h.inputs; last = h.last; part = h.part; of = h.of; first = h.first; took = h.took; written = h.written; keeper = h.keeper; stops = λ t b. h.stops t (f t b) }
+breaks_from (Run Sink) e alone before due now f h = record { inputs = h.inputs; last = h.last; part = h.part; of = h.of; first = h.first; took = h.took; written = h.written; talk = h.talk; keeper = h.keeper; stops = λ b. h.stops (f b) }
 
 -- the whole lines of the first bytes come first
 pub first_lines : (xs ys : List ℕ) → AreFirst (whole_lines xs) (whole_lines (xs ++ ys))
@@ -279,13 +325,13 @@ pub ended_now : (e : Entry) (read : List ℕ) (old : Session) (now : Seen) → o
 ended_now e read old now none s =
     let all : whole_lines read ≡ all_lines read = sym (append-nil (whole_lines read)) ∙ ap (λ l. whole_lines read ++ line_if_some l) (sym (no_bytes (last_piece read) (sym s.line ∙ none))) in
     record {
-      handled = record { inputs = s.handled.inputs; lines = s.handled.lines ∙ all; took = s.handled.took; written = s.handled.written; keeper = s.handled.keeper };
+      handled = record { inputs = s.handled.inputs; lines = s.handled.lines ∙ all; took = s.handled.took; written = s.handled.written; talk = s.handled.talk; keeper = s.handled.keeper };
       bad = s.bad;
     }
 
 pub ended_last : (e : Entry) (read : List ℕ) (old new : Session) (before now : Seen) → (old.line ≡ Some [] → ⊥) → Stands e read old before → Stands e (read ++ 10 ∷ []) new now → Ended e read new now
 ended_last e read old new before now some s t = record {
-  handled = record { inputs = t.handled.inputs; lines = t.handled.lines ∙ sym (one_begun read old.line s.line some); took = t.handled.took; written = t.handled.written; keeper = t.handled.keeper };
+  handled = record { inputs = t.handled.inputs; lines = t.handled.lines ∙ sym (one_begun read old.line s.line some); took = t.handled.took; written = t.handled.written; talk = t.handled.talk; keeper = t.handled.keeper };
   bad = t.bad;
 }
 

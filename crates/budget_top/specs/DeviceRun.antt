@@ -2,42 +2,62 @@
 use Rattle.std.specs.Prelude.{◌≡◌, ◌⊎◌, ℕ, ◌<◌, ◌≤◌, ◌==◌, Bool, true, false, List, [], ◌∷◌, ◌++◌, length, take, codes, Option, Ok, Err, IsTrue}
 use Rattle.std.specs.List.{list_any}
 use Rattle.std.specs.Fmt.{decimal}
+use Rattle.std.specs.FinMap.{get}
 use Rattle.std.specs.Io.KnownBytes.{Appends, IsAtEnd}
 use Rattle.budget_ports.specs.Faults.{risen}
-use Rattle.budget_ports.specs.Keeper.{Only, LeavesNoMore}
+use Rattle.budget_ports.specs.Contents.{Contents}
+use Rattle.budget_ports.specs.Keeper.{IsAlone, LeavesNoMore}
 use Rattle.field_merge.specs.declared.message.Message.{Message}
 use Rattle.kept_messages.specs.Records.{kept_set}
-use Rattle.device_core.specs.Device.{State, begun}
+use Rattle.device_core.specs.Device.{begun}
+use Rattle.budget_top.specs.declared.words.Plan.{Plan}
 use Rattle.budget_top.specs.Lines.{whole_lines, all_lines}
 use Rattle.budget_top.specs.Limits.{most_input, HasRead, AreDue}
 use Rattle.budget_top.specs.Fronts.{AppendsFront}
-use Rattle.budget_top.specs.Session.{some_refused}
+use Rattle.budget_top.specs.Doing.{Target, Running, synced_name}
+use Rattle.budget_top.specs.Course.{some_refused}
 use Rattle.budget_top.specs.Seen.{device_records, Seen}
 use Rattle.budget_top.specs.Standing.{Entry, Handles, Halts, FailsToKeep, Cuts}
 
--- a run with these things told began in this state
-abbrev pub entry : Seen → State → Entry
-entry old start = record { taken = old.taken; readings = old.readings; contents = old.contents; start = start }
+-- the target of a plan
+abbrev pub target_of : Plan → Target
+target_of plan = record { token = plan.token; file = plan.file; group = plan.group }
+
+-- a device of this node begins with the messages of its group, and with what is kept of the last sync with the target
+abbrev pub beginning : List ℕ → Target → List Message → Contents → Running
+beginning node target first contents = record { state = begun node first; synced = get contents.texts (synced_name target) }
+
+-- a run with these things told began with this target, and stood here
+abbrev pub entry : Seen → Target → Running → Entry
+entry old target start = record {
+  taken = old.taken;
+  readings = old.readings;
+  exchanges = old.exchanges;
+  link_faults = old.link_faults;
+  contents = old.contents;
+  target = target;
+  start = start;
+}
 
 -- all was read, all lines were handled, and one was refused or none. A stop leaves what the keeper holds
 pub record HandlesAll (has_bad : Bool) (new_left : Option (List ℕ)) (e : Entry) (alone : Type 0) (read : List ℕ) (now : Seen) : Type 0 where
   pub within : length read ≤ most_input
   pub at_end : IsAtEnd new_left
   pub handled : Handles e (all_lines read) now
-  pub bad : some_refused e.start handled.inputs ≡ has_bad
-  pub stops : now.tells → alone → Only now.contents now.left
+  pub bad : some_refused e.target e.start handled.inputs ≡ has_bad
+  pub stops : alone → IsAlone now.tells now.contents now.left
 
 -- the source failed: the whole lines were handled
 pub record HandlesTaken (e : Entry) (alone : Type 0) (read : List ℕ) (now : Seen) : Type 0 where
   pub within : length read ≤ most_input
   pub handled : Handles e (whole_lines read) now
-  pub stops : now.tells → alone → Only now.contents now.left
+  pub stops : alone → IsAlone now.tells now.contents now.left
 
 -- a byte past the limit came: the whole lines before that place were handled
 pub record HandlesLimit (e : Entry) (alone : Type 0) (read : List ℕ) (now : Seen) : Type 0 where
   pub past : most_input < length read
   pub handled : Handles e (whole_lines (take most_input read)) now
-  pub stops : now.tells → alone → Only now.contents now.left
+  pub stops : alone → IsAlone now.tells now.contents now.left
 
 -- the statuses of a run whose group was opened
 abbrev pub device_statuses : List ℕ
@@ -78,18 +98,20 @@ pub record BadRecord (faults new_faults : ℕ) (old now : Seen) : Type 0 where
 pub record Unopened (status : ℕ) (left new_left : Option (List ℕ)) (faults new_faults : ℕ) (old now : Seen) : Type 0 where
   pub source : new_left ≡ left
   pub readings : now.readings ≡ old.readings
+  pub exchanges : now.exchanges ≡ old.exchanges
+  pub link_faults : now.link_faults ≡ old.link_faults
   pub contents : now.tells → now.contents ≡ old.contents
   pub stops : LeavesNoMore old.left now.left
   pub how : (status ≡ 3) × BadRecord faults new_faults old now ⊎ ((status ≡ 6) ⊎ (status ≡ 7)) × (now.taken ≡ old.taken)
 
 -- the group was opened, and keeps these messages
-pub record Opened (node : List ℕ) (status : ℕ) (left new_left : Option (List ℕ)) (old now : Seen) : Type 0 where
+pub record Opened (node : List ℕ) (target : Target) (status : ℕ) (left new_left : Option (List ℕ)) (old now : Seen) : Type 0 where
   pub first : List Message
   pub has : now.tells → kept_set (device_records old.contents) ≡ Ok first
-  pub answered : HasAnswered status left new_left (entry old (begun node first)) (Only old.contents old.left) now
+  pub had : (c : Contents) → now.left c → kept_set (device_records old.contents) ≡ Ok first
+  pub answered : HasAnswered status left new_left (entry old target (beginning node target first old.contents)) (IsAlone old.tells old.contents old.left) now
 
--- a run of the device of this node, where the sink had failed so often before it, and has so often after it. The keeper tells after it where it told before
-pub record DeviceRun (node : List ℕ) (status : ℕ) (left new_left : Option (List ℕ)) (faults new_faults : ℕ) (old now : Seen) : Type 0 where
+-- a run of the device of this node, which syncs with this target, where the sink had failed so often before it, and has so often after it
+pub record DeviceRun (node : List ℕ) (target : Target) (status : ℕ) (left new_left : Option (List ℕ)) (faults new_faults : ℕ) (old now : Seen) : Type 0 where
   pub told : now.tells → old.tells
-  pub still : old.tells → now.tells
-  pub opening : Unopened status left new_left faults new_faults old now ⊎ Opened node status left new_left old now
+  pub opening : Unopened status left new_left faults new_faults old now ⊎ Opened node target status left new_left old now

@@ -9,9 +9,9 @@ use Rattle.budget_top.specs.declared.input.End.TheVariants.{AtEnd, SourceFailed,
 use Rattle.budget_top.specs.Lines.{whole_lines, last_piece, all_lines}
 use Rattle.budget_top.specs.Limits.{most_input}
 use Rattle.budget_top.specs.KeptLine.{kept_line}
-use Rattle.budget_top.specs.Session.{after, some_refused}
+use Rattle.budget_top.specs.Course.{some_refused}
 use Rattle.budget_top.specs.Seen.{device_group, Seen}
-use Rattle.budget_top.specs.Standing.{Entry, Handles, Halts, FailsToKeep, Cuts}
+use Rattle.budget_top.specs.Standing.{Entry, reached, Handles, Halts, FailsToKeep, Cuts}
 
 -- no line is in hand: all that was made is kept, and the group is the device's
 pub record IsReady (session : Session) : Type 0 where
@@ -23,13 +23,13 @@ pub record IsReady (session : Session) : Type 0 where
 pub record Stands (e : Entry) (read : List ℕ) (session : Session) (now : Seen) : Type 0 where
   pub handled : Handles e (whole_lines read) now
   pub line : session.line ≡ kept_line (last_piece read)
-  pub state : session.device.state ≡ after e.start handled.inputs
-  pub bad : session.bad ≡ some_refused e.start handled.inputs
+  pub state : session.device.state ≡ (reached e handled.inputs).state
+  pub bad : session.bad ≡ some_refused e.target e.start handled.inputs
 
 -- these bytes were read to their end, and all lines handled
 pub record Ended (e : Entry) (read : List ℕ) (session : Session) (now : Seen) : Type 0 where
   pub handled : Handles e (all_lines read) now
-  pub bad : session.bad ≡ some_refused e.start handled.inputs
+  pub bad : session.bad ≡ some_refused e.target e.start handled.inputs
 
 -- how it breaks off for this cause
 abbrev pub BreaksAs : DeviceStop → Entry → Type 0 → List (List ℕ) → Seen → Type 0

@@ -11,10 +11,16 @@ pub mod MergeRun
 pub mod Stops
 pub mod Steps
 pub mod Session
+pub mod Doing
+pub mod Course
 pub mod Replies
 pub mod Seen
 pub mod Handling
 pub mod Standing
 pub mod DeviceRun
 pub mod DeviceSteps
+pub mod Ran
+pub mod Obeying
 pub mod Valid
+pub mod CutLines
+pub mod Merging

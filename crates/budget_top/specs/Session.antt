@@ -1,5 +1,5 @@
--- What a device makes of its lines, one after the other.
-use Rattle.std.specs.Prelude.{ℕ, List, [], ◌∷◌, ◌++◌, Bool, true, false, ◌||◌, if◌then◌else◌, Option, None, Some, Result, Ok, Err}
+-- What a device makes of a line.
+use Rattle.std.specs.Prelude.{ℕ, List, [], ◌∷◌, Bool, true, false, if◌then◌else◌, Option, None, Some, Result, Ok, Err}
 use Rattle.std.specs.Str.{is_utf8}
 use Rattle.device_core.specs.declared.edit.LineRefusal.{LineRefusal}
 use Rattle.device_core.specs.Device.{State, Accepted, edited, received}
@@ -9,12 +9,7 @@ use Rattle.command_lines.specs.declared.reply.Reply.{Reply}
 use Rattle.command_lines.specs.declared.reply.Reply.TheVariants.{Done, Refused}
 use Rattle.command_lines.specs.Commands.{command}
 use Rattle.command_lines.specs.Readings.{answer}
-use Rattle.command_lines.specs.Replies.{wrote, added, faulty, refused, reply_text_of}
-
--- a line, and the reading of the wall clock that it takes
-pub record Input : Type 0 where
-  pub reading : ℕ
-  pub line : List ℕ
+use Rattle.command_lines.specs.Replies.{wrote, added, faulty, refused}
 
 -- the command of a line, or the index of the first word that is not of its form: 0 for a line that is no UTF-8
 abbrev pub asked : List ℕ → Result Command ℕ
@@ -51,26 +46,7 @@ obeyed s reading (Ok (Edit edit)) = settled s wrote_all (edited s edit reading)
 obeyed s reading (Ok (Receive message)) = settled s added_all (received s (message ∷ []) reading)
 obeyed s reading (Ok command) = (s, answer s.messages command)
 
--- what a line makes of the state, and its reply
-abbrev pub step : State → Input → State × Reply
-step s i = obeyed s i.reading (asked i.line)
-
 -- whether a reply refuses its line
 abbrev pub is_refused : Reply → Bool
 is_refused (Done lines) = false
 is_refused (Refused number code detail) = true
-
--- the state after lines
-abbrev pub after : State → List Input → State
-after s [] = s
-after s (i ∷ is) = after (step s i).0 is
-
--- the replies to lines, one behind the other
-abbrev pub replies : State → List Input → List ℕ
-replies s [] = []
-replies s (i ∷ is) = reply_text_of (step s i).1 ++ replies (step s i).0 is
-
--- whether a line was refused
-abbrev pub some_refused : State → List Input → Bool
-some_refused s [] = false
-some_refused s (i ∷ is) = is_refused (step s i).1 || some_refused (step s i).0 is

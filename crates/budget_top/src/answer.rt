@@ -1,25 +1,28 @@
 //! One line of a device: what it asks is done, and what it made is kept before it is answered.
-ghost use Rattle.std.specs.Prelude.{◌≡◌, ◌≢◌, ◌∷◌, [], List, Ok, IfOk, OnOk, OnErr, IsErrOf, false};
+ghost use Rattle.std.specs.Prelude.{◌≡◌, ◌≢◌, ◌⊎◌, ◌∷◌, [], List, Ok, Err, IfOk, IfErr, IfSome, IsSome, IsUtf8, OnOk, OnErr, IsErrOf, false};
 ghost use Rattle.field_merge.specs.declared.message.Message.{Message};
 ghost use Rattle.field_merge.specs.Messages.{IsMessage};
 ghost use Rattle.device_core.specs.Edits.{IsEdit};
+ghost use Rattle.device_core.specs.Accepting.{Brings};
 ghost use Rattle.device_core.specs.Device.{edited, received};
 ghost use Rattle.command_lines.specs.Commands.{IsRead, IsCommand};
+ghost use Rattle.command_lines.specs.declared.command.CommandFault.TheVariants.{NoMemory as OutOfMemory};
 ghost use Rattle.budget_ports.specs.Faults.{count_after};
 ghost use Rattle.budget_ports.specs.Contents.{Contents};
-ghost use Rattle.budget_ports.specs.Keeper.{has_failed, Only};
+ghost use Rattle.budget_ports.specs.Keeper.{has_failed, IsAlone};
 ghost use Rattle.budget_ports.specs.declared.keeper.PortFault.TheVariants.{Failed as HasFailed};
 ghost use Rattle.budget_top.specs.Session.{asked_kept_line, settled, wrote_all, added_all, obeyed, is_refused};
+ghost use Rattle.budget_top.specs.Doing.{Target};
 ghost use Rattle.budget_top.specs.Seen.{device_group};
-ghost use Rattle.budget_top.specs.Handling.{IsHandled, Brings, Carries, CarriesEither};
+ghost use Rattle.budget_top.specs.Handling.{IsHandled, IsAnswered, IsUnanswered, Carries, CarriesEither};
 
 use crate::begun::Begun;
-use budget_ports::{Keeper, PortFault};
+use budget_ports::{Keeper, Link, PortFault};
 use command_lines::{
     Command, CommandFault, Reply, added_reply, faulty_reply, read_command, read_reply,
     refusal_reply, reply_text, wrote_reply,
 };
-use device_core::{Device, Edit};
+use device_core::{Device, Edit, accepted_are_joined};
 use field_merge::Message;
 use field_values::{NoMemory, Steps, Txt, TxtFault};
 use kept_messages::{batches_are_kept, new_ones_are_added};
@@ -39,6 +42,7 @@ pub struct Answer {
 fn ask(alloc: Global, line: &Begun) -> Result<Command, CommandFault>
     ensures read { IsRead (asked_kept_line line.now) result }
     ensures valid { IfOk result IsCommand }
+    ensures memory { result ≡ Err OutOfMemory → IfSome line.now IsUtf8 × IsSome line.now }
 {
     let Some(bytes) = line.bytes() else {
         return Err(CommandFault::BadCommand { word: 0 });
@@ -65,6 +69,7 @@ fn make<G: Ledger>(
     ensures live { OnOk result (device.new.spent ≡ false) }
     ensures brings { OnOk result (Brings device.old.state.messages device.new) }
 {
+    accepted_are_joined();
     match device.prepare(edit, reading, steps) {
         Ok(count) => wrote_reply(alloc, count, device.made()),
         Err(refusal) => refusal_reply(alloc, &refusal),
@@ -86,6 +91,7 @@ fn receive<G: Ledger>(
     ensures live { OnOk result (device.new.spent ≡ false) }
     ensures brings { OnOk result (Brings device.old.state.messages device.new) }
 {
+    accepted_are_joined();
     match device.incoming(&[message], reading, steps) {
         Ok(count) => added_reply(alloc, count),
         Err(refusal) => refusal_reply(alloc, &refusal),
@@ -141,12 +147,12 @@ fn keep<K: Keeper>(device: &mut Device, keeper: &mut K, group: &Txt) -> Result<(
     requires group { group.now ≡ device_group }
     ensures ok { OnOk result (device.new ≡ record device.old { batch = [] }) }
     ensures carries { K.tells keeper.new → OnOk result ((old : List Message) → Brings old device.old → Carries old device.old.state.messages (K.contents keeper.old) (K.contents keeper.new)) }
-    ensures alone { K.tells keeper.new → OnOk result (Only (K.contents keeper.old) (K.left keeper.old) → Only (K.contents keeper.new) (K.left keeper.new)) }
+    ensures alone { OnOk result (IsAlone (K.tells keeper.old) (K.contents keeper.old) (K.left keeper.old) → IsAlone (K.tells keeper.new) (K.contents keeper.new) (K.left keeper.new)) }
     ensures same { K.tells keeper.new → OnErr result (K.contents keeper.new ≡ K.contents keeper.old) }
     ensures new { IsErrOf result HasFailed → device.old.batch ≢ [] }
-    ensures stops { OnErr result (Only (K.contents keeper.old) (K.left keeper.old) → (c : Contents) → K.left keeper.new c → (old : List Message) → Brings old device.old → CarriesEither old device.old.state.messages (K.contents keeper.old) c) }
+    ensures stops { OnErr result (IsAlone (K.tells keeper.old) (K.contents keeper.old) (K.left keeper.old) → (c : Contents) → K.left keeper.new c → (old : List Message) → Brings old device.old → K.tells keeper.old × CarriesEither old device.old.state.messages (K.contents keeper.old) c) }
     ensures told { K.tells keeper.new → K.tells keeper.old }
-    ensures still { K.tells keeper.old → K.tells keeper.new }
+    ensures before { (k : Contents) → K.left keeper.new k → K.left keeper.old k ⊎ K.tells keeper.old }
     ensures count { K.faults keeper.new ≡ count_after (has_failed result) (K.faults keeper.old) }
 {
     // A device's messages are valid, so the records of the new ones keep them.
@@ -166,12 +172,12 @@ fn is_refusal(reply: &Reply) -> bool
     matches!(reply, Reply::Refused { .. })
 }
 
-/// Does what a line asks at a reading of the wall clock, keeps what it made, and gives its reply.
+/// Does what a line asks that has no talk, keeps what it made, and gives its reply.
 ///
 /// The reply's text is made before anything is kept. Where the keeper fails or memory runs out
 /// there is no reply, the device is not to be used any more, and the keeper holds what it held; a
 /// stop may leave that with all that the line made.
-pub fn handle_line<K: Keeper, G: Ledger>(
+fn answer_line<K: Keeper, G: Ledger>(
     alloc: Global,
     device: &mut Device,
     keeper: &mut K,
@@ -187,12 +193,12 @@ pub fn handle_line<K: Keeper, G: Ledger>(
     ensures live { OnOk result (device.new.spent ≡ false) }
     ensures idle { OnOk result (device.new.batch ≡ []) }
     ensures carries { K.tells keeper.new → OnOk result (Carries device.old.state.messages (obeyed device.old.state reading (asked_kept_line line.now)).0.messages (K.contents keeper.old) (K.contents keeper.new)) }
-    ensures alone { K.tells keeper.new → OnOk result (Only (K.contents keeper.old) (K.left keeper.old) → Only (K.contents keeper.new) (K.left keeper.new)) }
+    ensures alone { OnOk result (IsAlone (K.tells keeper.old) (K.contents keeper.old) (K.left keeper.old) → IsAlone (K.tells keeper.new) (K.contents keeper.new) (K.left keeper.new)) }
     ensures same { K.tells keeper.new → OnErr result (K.contents keeper.new ≡ K.contents keeper.old) }
     ensures new { IsErrOf result HasFailed → (obeyed device.old.state reading (asked_kept_line line.now)).0.messages ≢ device.old.state.messages }
-    ensures stops { K.tells keeper.new → OnErr result (Only (K.contents keeper.old) (K.left keeper.old) → (c : Contents) → K.left keeper.new c → CarriesEither device.old.state.messages (obeyed device.old.state reading (asked_kept_line line.now)).0.messages (K.contents keeper.old) c) }
+    ensures stops { OnErr result (IsAlone (K.tells keeper.old) (K.contents keeper.old) (K.left keeper.old) → (c : Contents) → K.left keeper.new c → K.tells keeper.old × CarriesEither device.old.state.messages (obeyed device.old.state reading (asked_kept_line line.now)).0.messages (K.contents keeper.old) c) }
     ensures told { K.tells keeper.new → K.tells keeper.old }
-    ensures still { K.tells keeper.old → K.tells keeper.new }
+    ensures before { (k : Contents) → K.left keeper.new k → K.left keeper.old k ⊎ K.tells keeper.old }
     ensures count { K.faults keeper.new ≡ count_after (has_failed result) (K.faults keeper.old) }
 {
     // A device that has new messages has more of them than before.
@@ -204,4 +210,34 @@ pub fn handle_line<K: Keeper, G: Ledger>(
         text,
         refused: is_refusal(&reply),
     })
+}
+
+/// Does what a line asks at a reading of the wall clock, keeps what it made, and gives its reply.
+///
+/// Where the keeper fails or memory runs out there is no reply, and the device is not to be used any
+/// more.
+pub fn handle_line<K: Keeper, L: Link, G: Ledger>(
+    alloc: Global,
+    device: &mut Device,
+    keeper: &mut K,
+    _link: &mut L,
+    group: &Txt,
+    steps: &mut Steps<G>,
+    reading: u64,
+    line: &Begun,
+) -> Result<Answer, PortFault>
+    requires live { device.old.spent ≡ false }
+    requires idle { device.old.batch ≡ [] }
+    requires group { group.now ≡ device_group }
+    ensures answered { IfOk result (λ a. (target : Target) → IsAnswered target reading (asked_kept_line line.now) device.old.state device.new.state a.text a.refused (L.exchanges _link.old) (L.exchanges _link.new) (L.faults _link.old) (L.faults _link.new) (K.tells keeper.new) (K.contents keeper.old) (K.contents keeper.new)) }
+    ensures unanswered { IfErr result (λ fault. (target : Target) → IsUnanswered target fault reading (asked_kept_line line.now) device.old.state (L.exchanges _link.old) (L.exchanges _link.new) (L.faults _link.old) (L.faults _link.new) (IsAlone (K.tells keeper.old) (K.contents keeper.old) (K.left keeper.old)) (K.tells keeper.old) (K.tells keeper.new) (K.contents keeper.old) (K.contents keeper.new) (K.left keeper.new)) }
+    ensures live { OnOk result (device.new.spent ≡ false) }
+    ensures idle { OnOk result (device.new.batch ≡ []) }
+    ensures alone { OnOk result (IsAlone (K.tells keeper.old) (K.contents keeper.old) (K.left keeper.old) → IsAlone (K.tells keeper.new) (K.contents keeper.new) (K.left keeper.new)) }
+    ensures told { K.tells keeper.new → K.tells keeper.old }
+    ensures before { (k : Contents) → K.left keeper.new k → K.left keeper.old k ⊎ K.tells keeper.old }
+    ensures count { K.faults keeper.new ≡ count_after (has_failed result) (K.faults keeper.old) }
+    ensures unlinked { _link.new ≡ _link.old }
+{
+    answer_line(alloc, device, keeper, group, steps, reading, line)
 }

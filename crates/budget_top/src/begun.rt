@@ -1,5 +1,6 @@
 //! The line that has begun.
-ghost use Rattle.std.specs.Prelude.{◌≡◌, ◌↔◌, IfOk, OnOk, IsTrue, MatchOption, None, Some, []};
+ghost use Rattle.std.specs.Prelude.{◌≡◌, ◌↔◌, IfOk, IfSome, OnOk, OnErr, IsErr, IsSome, IsTrue, IsUtf8, MatchOption, None, Some, []};
+ghost use Rattle.field_merge.specs.Lines.{TakesMemory};
 ghost use Rattle.field_merge.specs.Messages.{IsMessage};
 ghost use Rattle.budget_top.specs.KeptLine.{judged_kept_line, kept_line_with};
 
@@ -46,7 +47,8 @@ impl Begun {
     ///
     /// `NoMemory`; the line is then not to be used any more.
     pub fn push(&mut self, bytes: &[u8]) -> Result<(), NoMemory>
-        ensures { OnOk result (self.new ≡ kept_line_with self.old bytes.now) }
+        ensures ok { OnOk result (self.new ≡ kept_line_with self.old bytes.now) }
+        ensures memory { OnErr result (IsSome (kept_line_with self.old bytes.now)) }
     {
         if self.is_long {
             return Ok(());
@@ -85,6 +87,7 @@ impl Begun {
     pub fn judge(&self, alloc: Global) -> Result<Result<Message, Word>, NoMemory>
         ensures verdict { IfOk result (λ verdict. verdict ≡ judged_kept_line self.now) }
         ensures valid { IfOk result (λ verdict. IfOk verdict IsMessage) }
+        ensures memory { IsErr result → IsSome self.now × IfSome self.now (λ line. IsUtf8 line × TakesMemory line) }
     {
         if self.is_long {
             return Ok(Err(Word::Long));

@@ -3,9 +3,11 @@ ghost use Rattle.std.specs.Prelude.{◌≡◌, ◌≢◌, ◌==◌, ◌⊎◌, �
 ghost use Rattle.std.specs.Io.KnownBytes.{IsAtEnd};
 ghost use Rattle.hybrid_clock.specs.Node.{IsNode};
 ghost use Rattle.budget_ports.specs.Faults.{count_after};
-ghost use Rattle.budget_ports.specs.Keeper.{Only};
+ghost use Rattle.budget_ports.specs.Contents.{Contents};
+ghost use Rattle.budget_ports.specs.Keeper.{IsAlone};
 ghost use Rattle.budget_top.specs.Limits.{HasRead};
 ghost use Rattle.budget_top.specs.Stops.{end_status, device_stop_status};
+ghost use Rattle.budget_top.specs.Doing.{Target};
 ghost use Rattle.budget_top.specs.Seen.{seen};
 ghost use Rattle.budget_top.specs.Standing.{Entry};
 ghost use Rattle.budget_top.specs.DeviceSteps.{IsReady, Stands};
@@ -21,7 +23,7 @@ use crate::opening::{OpeningFault, open};
 use crate::session::Session;
 use crate::stop::DeviceStop;
 use crate::write::write_and_flush;
-use budget_ports::{Keeper, Sink, Source, WallClock};
+use budget_ports::{Keeper, Link, Sink, Source, WallClock};
 use field_values::{Steps, Txt};
 use hybrid_clock::Node;
 use std::alloc::Global;
@@ -32,25 +34,27 @@ use std::sync::ledger::Ledger;
 const GROUP: &str = "device";
 
 /// Takes the bytes of the source up to its end, at most one past the limit.
-fn read_all<S: Source, W: Sink, K: Keeper, C: WallClock, G: Ledger>(
+fn read_all<S: Source, W: Sink, K: Keeper, L: Link, C: WallClock, G: Ledger>(
     alloc: Global,
     session: &mut Session,
     source: &mut S,
     sink: &mut W,
     keeper: &mut K,
+    link: &mut L,
     clock: &mut C,
     steps: &mut Steps<G>,
 ) -> End<DeviceStop>
     requires { IsReady session.old }
-    ensures ends { (e : Entry) → Stands e [] session.old (seen (W.taken sink.old) (C.readings clock.old) (K.tells keeper.old) (K.contents keeper.old) (K.left keeper.old)) → (read : List ℕ) × HasRead (S.left source.old) (S.left source.new) read × EndsAs result e (Only (K.contents keeper.old) (K.left keeper.old)) session.new read (seen (W.taken sink.new) (C.readings clock.new) (K.tells keeper.new) (K.contents keeper.new) (K.left keeper.new)) }
+    ensures ends { (e : Entry) → Stands e [] session.old (seen (W.taken sink.old) (C.readings clock.old) (L.exchanges link.old) (L.faults link.old) (K.tells keeper.old) (K.contents keeper.old) (K.left keeper.old)) → (read : List ℕ) × HasRead (S.left source.old) (S.left source.new) read × EndsAs result e (IsAlone (K.tells keeper.old) (K.contents keeper.old) (K.left keeper.old)) session.new read (seen (W.taken sink.new) (C.readings clock.new) (L.exchanges link.new) (L.faults link.new) (K.tells keeper.new) (K.contents keeper.new) (K.left keeper.new)) }
     ensures at_end { result ≡ End.AtEnd → IsAtEnd (S.left source.new) }
     ensures ready { result ≡ End.AtEnd → IsReady session.new }
-    ensures alone { IsWhole result → K.tells keeper.new → Only (K.contents keeper.old) (K.left keeper.old) → Only (K.contents keeper.new) (K.left keeper.new) }
+    ensures alone { IsWhole result → IsAlone (K.tells keeper.old) (K.contents keeper.old) (K.left keeper.old) → IsAlone (K.tells keeper.new) (K.contents keeper.new) (K.left keeper.new) }
     ensures told { K.tells keeper.new → K.tells keeper.old }
-    ensures still { K.tells keeper.old → K.tells keeper.new }
+    ensures before { (k : Contents) → K.left keeper.new k → K.left keeper.old k ⊎ K.tells keeper.old }
     ensures source { S.faults source.new ≡ count_after (end_status device_stop_status result == 4) (S.faults source.old) }
     ensures sink { W.faults sink.new ≡ count_after (end_status device_stop_status result == 5) (W.faults sink.old) }
     ensures keeper { K.faults keeper.new ≡ count_after (end_status device_stop_status result == 6) (K.faults keeper.old) }
+    ensures unlinked { link.new ≡ link.old }
 {
     let mut buffer = [0u8; PIECE];
     let mut taken = 0;
@@ -60,7 +64,7 @@ fn read_all<S: Source, W: Sink, K: Keeper, C: WallClock, G: Ledger>(
             Piece::Failed => return End::SourceFailed,
             Piece::Bytes { count, past } => (count, past),
         };
-        if let Err(stop) = session.feed(alloc, sink, keeper, clock, steps, &buffer[..count]) {
+        if let Err(stop) = session.feed(alloc, sink, keeper, link, clock, steps, &buffer[..count]) {
             return End::Stopped(stop);
         }
         if past {
@@ -71,25 +75,27 @@ fn read_all<S: Source, W: Sink, K: Keeper, C: WallClock, G: Ledger>(
 }
 
 /// Answers each line of the source with a session that has read nothing, and gives the status.
-fn answer_lines<S: Source, W: Sink, K: Keeper, C: WallClock, G: Ledger>(
+fn answer_lines<S: Source, W: Sink, K: Keeper, L: Link, C: WallClock, G: Ledger>(
     alloc: Global,
     session: &mut Session,
     source: &mut S,
     sink: &mut W,
     keeper: &mut K,
+    link: &mut L,
     clock: &mut C,
     steps: &mut Steps<G>,
 ) -> u8
     requires { IsReady session.old }
-    ensures answers { (e : Entry) → Stands e [] session.old (seen (W.taken sink.old) (C.readings clock.old) (K.tells keeper.old) (K.contents keeper.old) (K.left keeper.old)) → HasAnswered result (S.left source.old) (S.left source.new) e (Only (K.contents keeper.old) (K.left keeper.old)) (seen (W.taken sink.new) (C.readings clock.new) (K.tells keeper.new) (K.contents keeper.new) (K.left keeper.new)) }
+    ensures answers { (e : Entry) → Stands e [] session.old (seen (W.taken sink.old) (C.readings clock.old) (L.exchanges link.old) (L.faults link.old) (K.tells keeper.old) (K.contents keeper.old) (K.left keeper.old)) → HasAnswered result (S.left source.old) (S.left source.new) e (IsAlone (K.tells keeper.old) (K.contents keeper.old) (K.left keeper.old)) (seen (W.taken sink.new) (C.readings clock.new) (L.exchanges link.new) (L.faults link.new) (K.tells keeper.new) (K.contents keeper.new) (K.left keeper.new)) }
     ensures told { K.tells keeper.new → K.tells keeper.old }
-    ensures still { K.tells keeper.old → K.tells keeper.new }
+    ensures before { (k : Contents) → K.left keeper.new k → K.left keeper.old k ⊎ K.tells keeper.old }
     ensures source { S.faults source.new ≡ count_after (result == 4) (S.faults source.old) }
     ensures sink { W.faults sink.new ≡ count_after (result == 5) (W.faults sink.old) }
     ensures keeper { K.faults keeper.new ≡ count_after (result == 6) (K.faults keeper.old) }
+    ensures unlinked { link.new ≡ link.old }
 {
-    match read_all(alloc, session, source, sink, keeper, clock, steps) {
-        End::AtEnd => match session.end_last(alloc, sink, keeper, clock, steps) {
+    match read_all(alloc, session, source, sink, keeper, link, clock, steps) {
+        End::AtEnd => match session.end_last(alloc, sink, keeper, link, clock, steps) {
             Ok(()) => { if session.bad { SOME_BAD } else { DONE } }
             Err(stop) => stop.status(),
         },
@@ -117,20 +123,22 @@ fn bad_record<W: Sink>(alloc: Global, sink: &mut W, index: usize) -> u8
 /// Opens the group of the device of this node, answers the lines of the source, and gives the status.
 ///
 /// The program ends after a run, so the device isn't taken apart.
-pub fn run_device<S: Source, W: Sink, K: Keeper, C: WallClock, G: Ledger>(
+pub fn run_device<S: Source, W: Sink, K: Keeper, L: Link, C: WallClock, G: Ledger>(
     alloc: Global,
     node: Node,
     source: &mut S,
     sink: &mut W,
     keeper: &mut K,
+    link: &mut L,
     clock: &mut C,
     steps: &mut Steps<G>,
 ) -> u8
     requires { IsNode node }
-    ensures run { DeviceRun node result (S.left source.old) (S.left source.new) (W.faults sink.old) (W.faults sink.new) (seen (W.taken sink.old) (C.readings clock.old) (K.tells keeper.old) (K.contents keeper.old) (K.left keeper.old)) (seen (W.taken sink.new) (C.readings clock.new) (K.tells keeper.new) (K.contents keeper.new) (K.left keeper.new)) }
+    ensures run { (target : Target) → DeviceRun node target result (S.left source.old) (S.left source.new) (W.faults sink.old) (W.faults sink.new) (seen (W.taken sink.old) (C.readings clock.old) (L.exchanges link.old) (L.faults link.old) (K.tells keeper.old) (K.contents keeper.old) (K.left keeper.old)) (seen (W.taken sink.new) (C.readings clock.new) (L.exchanges link.new) (L.faults link.new) (K.tells keeper.new) (K.contents keeper.new) (K.left keeper.new)) }
     ensures source { S.faults source.new ≡ count_after (result == 4) (S.faults source.old) }
     ensures sink { result ≢ 3 → W.faults sink.new ≡ count_after (result == 5) (W.faults sink.old) }
     ensures keeper { K.faults keeper.new ≡ count_after (result == 6) (K.faults keeper.old) }
+    ensures unlinked { link.new ≡ link.old }
 {
     let group = match Txt::from_text(alloc, GROUP) {
         Ok(group) => group,
@@ -148,7 +156,16 @@ pub fn run_device<S: Source, W: Sink, K: Keeper, C: WallClock, G: Ledger>(
         line: Begun::new(alloc),
         bad: false,
     };
-    let status = answer_lines(alloc, &mut session, source, sink, keeper, clock, steps);
+    let status = answer_lines(
+        alloc,
+        &mut session,
+        source,
+        sink,
+        keeper,
+        link,
+        clock,
+        steps,
+    );
     mem::forget(session);
     status
 }

@@ -1,17 +1,13 @@
 //! The top call.
-ghost use Rattle.std.specs.Prelude.{◌≡◌, ◌≢◌, ◌==◌, ◌⊎◌, ℕ, List, Some, Ok, IsErr};
-ghost use Rattle.budget_ports.specs.Faults.{count_after};
+ghost use Rattle.std.specs.Prelude.{◌≡◌, Some, IsErr};
 ghost use Rattle.budget_top.specs.Words.{planned, planned_mode, refusal_status};
-ghost use Rattle.budget_top.specs.MergeRun.{MergeRun};
-ghost use Rattle.budget_top.specs.Seen.{seen};
-ghost use Rattle.budget_top.specs.DeviceRun.{DeviceRun};
-ghost use Rattle.budget_top.specs.declared.words.Plan.{Plan};
+ghost use Rattle.budget_top.specs.Ran.{outside, Ran};
 
 use crate::device_run::run_device;
 use crate::merge::run_merge;
 use crate::planning::plan;
 use crate::words::{Mode, WordFault};
-use budget_ports::{Keeper, Sink, Source, WallClock};
+use budget_ports::{Door, Keeper, Link, Sink, Source, WallClock};
 use field_values::{Items, Steps, Txt};
 use std::alloc::Global;
 use std::sync::ledger::Ledger;
@@ -59,35 +55,29 @@ pub fn refusal_status(fault: WordFault) -> u8
 /// gave more than 1,073,741,824 bytes.
 ///
 /// The words leave out the program's name. The first event that ends the run decides the status.
-pub fn run<S: Source, W: Sink, K: Keeper, C: WallClock, G: Ledger>(
+pub fn run<S: Source, W: Sink, K: Keeper, L: Link, D: Door, C: WallClock, G: Ledger>(
     alloc: Global,
     words: &Items<Txt>,
     source: &mut S,
     sink: &mut W,
     keeper: &mut K,
+    link: &mut L,
+    _door: &mut D,
     clock: &mut C,
     steps: &mut Steps<G>,
 ) -> u8
-    // words
-    ensures words { result ≡ 2 → IsErr (planned words.now) }
-    ensures refused { IsErr (planned words.now) → (result ≡ 2) ⊎ (result ≡ 7) }
+    ensures ran { Ran words.now result (outside (S.left source.old) (S.faults source.old) (W.taken sink.old) (W.faults sink.old) (K.tells keeper.old) (K.contents keeper.old) (K.left keeper.old) (K.faults keeper.old) (L.exchanges link.old) (L.faults link.old) (D.waiting _door.old) (D.outs _door.old) (D.faults _door.old) (C.readings clock.old)) (outside (S.left source.new) (S.faults source.new) (W.taken sink.new) (W.faults sink.new) (K.tells keeper.new) (K.contents keeper.new) (K.left keeper.new) (K.faults keeper.new) (L.exchanges link.new) (L.faults link.new) (D.waiting _door.new) (D.outs _door.new) (D.faults _door.new) (C.readings clock.new)) }
+
+    // what a run leaves alone
     ensures untouched { IsErr (planned words.now) → (source.new ≡ source.old) × (sink.new ≡ sink.old) × (keeper.new ≡ keeper.old) × (clock.new ≡ clock.old) }
-
-    // modes
-    ensures merge { planned_mode words.now ≡ Some Mode.Merge → MergeRun result (S.left source.old) (S.left source.new) (W.taken sink.old) (W.taken sink.new) }
     ensures merge_alone { planned_mode words.now ≡ Some Mode.Merge → (keeper.new ≡ keeper.old) × (clock.new ≡ clock.old) }
-    ensures device { (plan : Plan) (node : List ℕ) → planned words.now ≡ Ok plan → plan.mode ≡ Mode.Device → plan.node ≡ Some node → DeviceRun node result (S.left source.old) (S.left source.new) (W.faults sink.old) (W.faults sink.new) (seen (W.taken sink.old) (C.readings clock.old) (K.tells keeper.old) (K.contents keeper.old) (K.left keeper.old)) (seen (W.taken sink.new) (C.readings clock.new) (K.tells keeper.new) (K.contents keeper.new) (K.left keeper.new)) }
-
-    // causes
-    ensures source { S.faults source.new ≡ count_after (result == 4) (S.faults source.old) }
-    ensures sink { result ≢ 3 → W.faults sink.new ≡ count_after (result == 5) (W.faults sink.old) }
-    ensures keeper { K.faults keeper.new ≡ count_after (result == 6) (K.faults keeper.old) }
+    ensures apart { (link.new ≡ link.old) × (_door.new ≡ _door.old) }
 {
     match plan(alloc, words) {
         Ok(plan) => match (plan.mode, plan.node) {
             (Mode::Merge, _) => run_merge(alloc, source, sink),
             (Mode::Device, Some(node)) => {
-                run_device(alloc, node, source, sink, keeper, clock, steps)
+                run_device(alloc, node, source, sink, keeper, link, clock, steps)
             }
             // no plan of a device lacks its node
             (Mode::Device, None) => unreachable!(),

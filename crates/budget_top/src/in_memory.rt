@@ -1,15 +1,11 @@
 //! The top call over the objects in memory, which tell all that they hold.
-ghost use Rattle.std.specs.Prelude.{◌≡◌, ◌≢◌, ◌==◌, ◌⊎◌, ℕ, List, Some, Ok, IsErr};
-ghost use Rattle.budget_ports.specs.Faults.{count_after};
+ghost use Rattle.std.specs.Prelude.{◌≡◌, Some, IsErr};
 ghost use Rattle.budget_top.specs.Words.{planned, planned_mode};
-ghost use Rattle.budget_top.specs.MergeRun.{MergeRun};
-ghost use Rattle.budget_top.specs.DeviceRun.{DeviceRun};
-ghost use Rattle.budget_top.specs.Seen.{seen_in_memory};
-ghost use Rattle.budget_top.specs.declared.words.Plan.{Plan};
+ghost use Rattle.budget_top.specs.Ran.{outside_in_memory, Ran};
 
 use crate::dispatch::run;
 use crate::words::Mode;
-use budget_ports::{ListClock, MemoryKeeper, MemorySink, MemorySource};
+use budget_ports::{ListClock, MemoryDoor, MemoryKeeper, MemorySink, MemorySource, ScriptLink};
 use field_values::{Items, Steps, Txt};
 use std::alloc::Global;
 use std::sync::ledger::Ledger;
@@ -23,23 +19,15 @@ pub fn run_in_memory<G: Ledger>(
     source: &mut MemorySource,
     sink: &mut MemorySink,
     keeper: &mut MemoryKeeper,
+    link: &mut ScriptLink,
+    door: &mut MemoryDoor,
     clock: &mut ListClock,
     steps: &mut Steps<G>,
 ) -> u8
-    // words
-    ensures words { result ≡ 2 → IsErr (planned words.now) }
-    ensures refused { IsErr (planned words.now) → (result ≡ 2) ⊎ (result ≡ 7) }
+    ensures ran { Ran words.now result (outside_in_memory source.old sink.old keeper.old link.old door.old clock.old) (outside_in_memory source.new sink.new keeper.new link.new door.new clock.new) }
     ensures untouched { IsErr (planned words.now) → (source.new ≡ source.old) × (sink.new ≡ sink.old) × (keeper.new ≡ keeper.old) × (clock.new ≡ clock.old) }
-
-    // modes
-    ensures merge { planned_mode words.now ≡ Some Mode.Merge → MergeRun result (Some source.old.left) (Some source.new.left) (Some sink.old.taken) (Some sink.new.taken) }
     ensures merge_alone { planned_mode words.now ≡ Some Mode.Merge → (keeper.new ≡ keeper.old) × (clock.new ≡ clock.old) }
-    ensures device { (plan : Plan) (node : List ℕ) → planned words.now ≡ Ok plan → plan.mode ≡ Mode.Device → plan.node ≡ Some node → DeviceRun node result (Some source.old.left) (Some source.new.left) sink.old.calls.faults sink.new.calls.faults (seen_in_memory sink.old clock.old keeper.old) (seen_in_memory sink.new clock.new keeper.new) }
-
-    // causes
-    ensures source { source.new.calls.faults ≡ count_after (result == 4) source.old.calls.faults }
-    ensures sink { result ≢ 3 → sink.new.calls.faults ≡ count_after (result == 5) sink.old.calls.faults }
-    ensures keeper { keeper.new.calls.faults ≡ count_after (result == 6) keeper.old.calls.faults }
+    ensures apart { (link.new ≡ link.old) × (door.new ≡ door.old) }
 {
-    run(alloc, words, source, sink, keeper, clock, steps)
+    run(alloc, words, source, sink, keeper, link, door, clock, steps)
 }

@@ -1,9 +1,15 @@
-//! What holds of all command lines, and of all replies.
+//! What holds of all command lines, of what a merge makes of its lines, and of what a device does at a
+//! line and replies.
 ghost use Rattle.budget_top.specs.Written.{LinesAreWritten};
 ghost use Rattle.budget_top.specs.Replies.{RepliesAreCut};
+ghost use Rattle.budget_top.specs.Obeying.{LinesAreObeyed};
 ghost use Rattle.budget_top.specs.Valid.{StatesStayValid};
+ghost use Rattle.budget_top.specs.CutLines.{LinesAreCut};
+ghost use Rattle.budget_top.specs.Merging.{MergesAgree};
 
 use command_lines::{lines_write_back, replies_are_lines};
+use device_core::{accepted_are_joined, edits_read_back, received_are_joined};
+use field_merge::latest_message;
 
 /// The command lines are the words that write one mode word and options, each at most once: an
 /// option as `--name=value`, or as `--name value` where the value has no hyphen in front.
@@ -13,11 +19,25 @@ pub fn lines_are_written()
 
 /// Whoever cuts what a device has written at its line feeds finds one reply behind the other, each as
 /// `ok N` and N lines, or as the one line of a refusal. So a text in a reply never looks like the end
-/// of it.
+/// of it. The device's state has to be valid, as it always is (`states_stay_valid`).
 pub fn replies_are_cut()
     ensures { RepliesAreCut }
 {
     replies_are_lines();
+    accepted_are_joined();
+    states_stay_valid();
+}
+
+/// What a device does at a line. A write that is accepted leaves one message more, with the value that was
+/// written, which is the latest of its field, and answers `writes 1`. A message that is accepted has joined
+/// the others, and the answer tells by how many the set has grown. A line that only reads leaves all as it
+/// is, and gets its answer. A write or a message that is refused, and a line that is no command, leave all
+/// as it is; the reply tells the refusal, or the part of the line that is at fault.
+pub fn lines_are_obeyed()
+    ensures { LinesAreObeyed }
+{
+    edits_read_back();
+    received_are_joined();
 }
 
 /// A device that begins with a node and valid messages has a valid state: its messages are valid, and so is the
@@ -26,4 +46,22 @@ pub fn states_stay_valid()
     ensures { StatesStayValid }
 {
     lines_write_back();
+}
+
+/// How bytes become lines. Any bytes are lines with their ends and a last piece without one; the whole lines are those
+/// lines, the empty ones too, and all lines are these and the last piece, where it is not empty. A bad line is told by
+/// its number among all lines, from 1 on, and by its word; of a good one nothing is told.
+pub fn lines_are_cut()
+    ensures { LinesAreCut }
+{}
+
+/// What a merge writes. A line is judged as the message of which it is the line: not too long, UTF-8, and read as
+/// the message; another one is bad, and its word tells the first thing wrong with it. Behind the bad lines stands the
+/// line of the latest message of each field, of all messages that the lines have, where of one timestamp the first
+/// counts. So inputs without a bad line give the same text where their lines have the same messages, one for each
+/// timestamp, in whatever order and number.
+pub fn merges_agree()
+    ensures { MergesAgree }
+{
+    latest_message();
 }

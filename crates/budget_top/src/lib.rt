@@ -5,8 +5,6 @@
 mod answer;
 mod begun;
 mod device_run;
-#[cfg(test)]
-mod device_tests;
 mod dispatch;
 mod in_memory;
 mod input;
@@ -17,17 +15,16 @@ mod opening;
 mod planning;
 mod session;
 mod stop;
-#[cfg(test)]
-mod tests;
 mod values;
 mod verdict;
-#[cfg(test)]
-mod word_tests;
 mod words;
 mod write;
 
 pub use dispatch::{refusal_status, run};
 pub use in_memory::run_in_memory;
-pub use laws::{lines_are_written, replies_are_cut, states_stay_valid};
+pub use laws::{
+    lines_are_cut, lines_are_obeyed, lines_are_written, merges_agree, replies_are_cut,
+    states_stay_valid,
+};
 pub use planning::plan;
 pub use words::{Mode, Plan, WordFault};

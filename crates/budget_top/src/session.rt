@@ -4,7 +4,7 @@ use crate::begun::Begun;
 use crate::input::line_length;
 use crate::stop::DeviceStop;
 use crate::write::write_and_flush;
-use budget_ports::{Keeper, Sink, WallClock};
+use budget_ports::{Keeper, Link, Sink, WallClock};
 use device_core::Device;
 use field_values::{Steps, Txt};
 use std::alloc::Global;
@@ -21,9 +21,10 @@ pub struct Session {
 }
 
 impl Session {
-    ghost use Rattle.std.specs.Prelude.{◌≡◌, ◌==◌, ℕ, List, [], ◌∷◌, ◌++◌, IfErr, OnOk};
+    ghost use Rattle.std.specs.Prelude.{◌≡◌, ◌⊎◌, ◌==◌, ℕ, List, [], ◌∷◌, ◌++◌, IfErr, OnOk};
     ghost use Rattle.budget_ports.specs.Faults.{count_after};
-    ghost use Rattle.budget_ports.specs.Keeper.{Only};
+    ghost use Rattle.budget_ports.specs.Contents.{Contents};
+    ghost use Rattle.budget_ports.specs.Keeper.{IsAlone};
     ghost use Rattle.budget_top.specs.Stops.{step_status, device_stop_status};
     ghost use Rattle.budget_top.specs.Lines.{whole_lines, all_lines};
     ghost use Rattle.budget_top.specs.Seen.{seen};
@@ -31,29 +32,32 @@ impl Session {
     ghost use Rattle.budget_top.specs.DeviceSteps.{IsReady, Stands, Ended, BreaksAs};
 
     /// Handles the line that has begun, and begins the next one.
-    fn end_line<W: Sink, K: Keeper, C: WallClock, G: Ledger>(
+    fn end_line<W: Sink, K: Keeper, L: Link, C: WallClock, G: Ledger>(
         &mut self,
         alloc: Global,
         sink: &mut W,
         keeper: &mut K,
+        link: &mut L,
         clock: &mut C,
         steps: &mut Steps<G>,
     ) -> Result<(), DeviceStop>
         requires { IsReady self.old }
-        ensures ok { OnOk result ((e : Entry) (read : List ℕ) → Stands e read self.old (seen (W.taken sink.old) (C.readings clock.old) (K.tells keeper.old) (K.contents keeper.old) (K.left keeper.old)) → Stands e (read ++ 10 ∷ []) self.new (seen (W.taken sink.new) (C.readings clock.new) (K.tells keeper.new) (K.contents keeper.new) (K.left keeper.new))) }
-        ensures err { IfErr result (λ stop. (e : Entry) (read : List ℕ) → Stands e read self.old (seen (W.taken sink.old) (C.readings clock.old) (K.tells keeper.old) (K.contents keeper.old) (K.left keeper.old)) → BreaksAs stop e (Only (K.contents keeper.old) (K.left keeper.old)) (whole_lines (read ++ 10 ∷ [])) (seen (W.taken sink.new) (C.readings clock.new) (K.tells keeper.new) (K.contents keeper.new) (K.left keeper.new))) }
+        ensures ok { OnOk result ((e : Entry) (read : List ℕ) → Stands e read self.old (seen (W.taken sink.old) (C.readings clock.old) (L.exchanges link.old) (L.faults link.old) (K.tells keeper.old) (K.contents keeper.old) (K.left keeper.old)) → Stands e (read ++ 10 ∷ []) self.new (seen (W.taken sink.new) (C.readings clock.new) (L.exchanges link.new) (L.faults link.new) (K.tells keeper.new) (K.contents keeper.new) (K.left keeper.new))) }
+        ensures err { IfErr result (λ stop. (e : Entry) (read : List ℕ) → Stands e read self.old (seen (W.taken sink.old) (C.readings clock.old) (L.exchanges link.old) (L.faults link.old) (K.tells keeper.old) (K.contents keeper.old) (K.left keeper.old)) → BreaksAs stop e (IsAlone (K.tells keeper.old) (K.contents keeper.old) (K.left keeper.old)) (whole_lines (read ++ 10 ∷ [])) (seen (W.taken sink.new) (C.readings clock.new) (L.exchanges link.new) (L.faults link.new) (K.tells keeper.new) (K.contents keeper.new) (K.left keeper.new))) }
         ensures ready { OnOk result (IsReady self.new) }
-        ensures alone { K.tells keeper.new → OnOk result (Only (K.contents keeper.old) (K.left keeper.old) → Only (K.contents keeper.new) (K.left keeper.new)) }
+        ensures alone { OnOk result (IsAlone (K.tells keeper.old) (K.contents keeper.old) (K.left keeper.old) → IsAlone (K.tells keeper.new) (K.contents keeper.new) (K.left keeper.new)) }
         ensures told { K.tells keeper.new → K.tells keeper.old }
-        ensures still { K.tells keeper.old → K.tells keeper.new }
+        ensures before { (k : Contents) → K.left keeper.new k → K.left keeper.old k ⊎ K.tells keeper.old }
         ensures sink { W.faults sink.new ≡ count_after (step_status device_stop_status result == 5) (W.faults sink.old) }
         ensures keeper { K.faults keeper.new ≡ count_after (step_status device_stop_status result == 6) (K.faults keeper.old) }
+        ensures unlinked { link.new ≡ link.old }
     {
         let reading = clock.now();
         let answer = handle_line(
             alloc,
             &mut self.device,
             keeper,
+            link,
             &self.group,
             steps,
             reading,
@@ -71,29 +75,31 @@ impl Session {
     ///
     /// Why the run breaks off: memory ran out, the keeper failed, or the sink failed at a reply. The
     /// session is then not to be used any more.
-    pub fn feed<W: Sink, K: Keeper, C: WallClock, G: Ledger>(
+    pub fn feed<W: Sink, K: Keeper, L: Link, C: WallClock, G: Ledger>(
         &mut self,
         alloc: Global,
         sink: &mut W,
         keeper: &mut K,
+        link: &mut L,
         clock: &mut C,
         steps: &mut Steps<G>,
         bytes: &[u8],
     ) -> Result<(), DeviceStop>
         requires { IsReady self.old }
-        ensures ok { OnOk result ((e : Entry) (read : List ℕ) → Stands e read self.old (seen (W.taken sink.old) (C.readings clock.old) (K.tells keeper.old) (K.contents keeper.old) (K.left keeper.old)) → Stands e (read ++ bytes.now) self.new (seen (W.taken sink.new) (C.readings clock.new) (K.tells keeper.new) (K.contents keeper.new) (K.left keeper.new))) }
-        ensures err { IfErr result (λ stop. (e : Entry) (read : List ℕ) → Stands e read self.old (seen (W.taken sink.old) (C.readings clock.old) (K.tells keeper.old) (K.contents keeper.old) (K.left keeper.old)) → BreaksAs stop e (Only (K.contents keeper.old) (K.left keeper.old)) (whole_lines (read ++ bytes.now)) (seen (W.taken sink.new) (C.readings clock.new) (K.tells keeper.new) (K.contents keeper.new) (K.left keeper.new))) }
+        ensures ok { OnOk result ((e : Entry) (read : List ℕ) → Stands e read self.old (seen (W.taken sink.old) (C.readings clock.old) (L.exchanges link.old) (L.faults link.old) (K.tells keeper.old) (K.contents keeper.old) (K.left keeper.old)) → Stands e (read ++ bytes.now) self.new (seen (W.taken sink.new) (C.readings clock.new) (L.exchanges link.new) (L.faults link.new) (K.tells keeper.new) (K.contents keeper.new) (K.left keeper.new))) }
+        ensures err { IfErr result (λ stop. (e : Entry) (read : List ℕ) → Stands e read self.old (seen (W.taken sink.old) (C.readings clock.old) (L.exchanges link.old) (L.faults link.old) (K.tells keeper.old) (K.contents keeper.old) (K.left keeper.old)) → BreaksAs stop e (IsAlone (K.tells keeper.old) (K.contents keeper.old) (K.left keeper.old)) (whole_lines (read ++ bytes.now)) (seen (W.taken sink.new) (C.readings clock.new) (L.exchanges link.new) (L.faults link.new) (K.tells keeper.new) (K.contents keeper.new) (K.left keeper.new))) }
         ensures ready { OnOk result (IsReady self.new) }
-        ensures alone { K.tells keeper.new → OnOk result (Only (K.contents keeper.old) (K.left keeper.old) → Only (K.contents keeper.new) (K.left keeper.new)) }
+        ensures alone { OnOk result (IsAlone (K.tells keeper.old) (K.contents keeper.old) (K.left keeper.old) → IsAlone (K.tells keeper.new) (K.contents keeper.new) (K.left keeper.new)) }
         ensures told { K.tells keeper.new → K.tells keeper.old }
-        ensures still { K.tells keeper.old → K.tells keeper.new }
+        ensures before { (k : Contents) → K.left keeper.new k → K.left keeper.old k ⊎ K.tells keeper.old }
         ensures sink { W.faults sink.new ≡ count_after (step_status device_stop_status result == 5) (W.faults sink.old) }
         ensures keeper { K.faults keeper.new ≡ count_after (step_status device_stop_status result == 6) (K.faults keeper.old) }
+        ensures unlinked { link.new ≡ link.old }
     {
         let mut at = 0;
         'lines: while let Some(length) = line_length(&bytes[at..]) {
             self.line.push(&bytes[at..at + length])?;
-            self.end_line(alloc, sink, keeper, clock, steps)?;
+            self.end_line(alloc, sink, keeper, link, clock, steps)?;
             at += length + 1;
         }
         self.line.push(&bytes[at..])?;
@@ -105,26 +111,28 @@ impl Session {
     /// # Errors
     ///
     /// As `feed`.
-    pub fn end_last<W: Sink, K: Keeper, C: WallClock, G: Ledger>(
+    pub fn end_last<W: Sink, K: Keeper, L: Link, C: WallClock, G: Ledger>(
         &mut self,
         alloc: Global,
         sink: &mut W,
         keeper: &mut K,
+        link: &mut L,
         clock: &mut C,
         steps: &mut Steps<G>,
     ) -> Result<(), DeviceStop>
         requires { IsReady self.old }
-        ensures ok { OnOk result ((e : Entry) (read : List ℕ) → Stands e read self.old (seen (W.taken sink.old) (C.readings clock.old) (K.tells keeper.old) (K.contents keeper.old) (K.left keeper.old)) → Ended e read self.new (seen (W.taken sink.new) (C.readings clock.new) (K.tells keeper.new) (K.contents keeper.new) (K.left keeper.new))) }
-        ensures err { IfErr result (λ stop. (e : Entry) (read : List ℕ) → Stands e read self.old (seen (W.taken sink.old) (C.readings clock.old) (K.tells keeper.old) (K.contents keeper.old) (K.left keeper.old)) → BreaksAs stop e (Only (K.contents keeper.old) (K.left keeper.old)) (all_lines read) (seen (W.taken sink.new) (C.readings clock.new) (K.tells keeper.new) (K.contents keeper.new) (K.left keeper.new))) }
-        ensures alone { K.tells keeper.new → OnOk result (Only (K.contents keeper.old) (K.left keeper.old) → Only (K.contents keeper.new) (K.left keeper.new)) }
+        ensures ok { OnOk result ((e : Entry) (read : List ℕ) → Stands e read self.old (seen (W.taken sink.old) (C.readings clock.old) (L.exchanges link.old) (L.faults link.old) (K.tells keeper.old) (K.contents keeper.old) (K.left keeper.old)) → Ended e read self.new (seen (W.taken sink.new) (C.readings clock.new) (L.exchanges link.new) (L.faults link.new) (K.tells keeper.new) (K.contents keeper.new) (K.left keeper.new))) }
+        ensures err { IfErr result (λ stop. (e : Entry) (read : List ℕ) → Stands e read self.old (seen (W.taken sink.old) (C.readings clock.old) (L.exchanges link.old) (L.faults link.old) (K.tells keeper.old) (K.contents keeper.old) (K.left keeper.old)) → BreaksAs stop e (IsAlone (K.tells keeper.old) (K.contents keeper.old) (K.left keeper.old)) (all_lines read) (seen (W.taken sink.new) (C.readings clock.new) (L.exchanges link.new) (L.faults link.new) (K.tells keeper.new) (K.contents keeper.new) (K.left keeper.new))) }
+        ensures alone { OnOk result (IsAlone (K.tells keeper.old) (K.contents keeper.old) (K.left keeper.old) → IsAlone (K.tells keeper.new) (K.contents keeper.new) (K.left keeper.new)) }
         ensures told { K.tells keeper.new → K.tells keeper.old }
-        ensures still { K.tells keeper.old → K.tells keeper.new }
+        ensures before { (k : Contents) → K.left keeper.new k → K.left keeper.old k ⊎ K.tells keeper.old }
         ensures sink { W.faults sink.new ≡ count_after (step_status device_stop_status result == 5) (W.faults sink.old) }
         ensures keeper { K.faults keeper.new ≡ count_after (step_status device_stop_status result == 6) (K.faults keeper.old) }
+        ensures unlinked { link.new ≡ link.old }
     {
         if self.line.is_empty() {
             return Ok(());
         }
-        self.end_line(alloc, sink, keeper, clock, steps)
+        self.end_line(alloc, sink, keeper, link, clock, steps)
     }
 }

@@ -1,5 +1,6 @@
 //! What merging makes of a line.
-ghost use Rattle.std.specs.Prelude.{◌≡◌, IfOk, Err, string_bytes};
+ghost use Rattle.std.specs.Prelude.{◌≡◌, IfOk, IsErr, IsUtf8, Err, string_bytes};
+ghost use Rattle.field_merge.specs.Lines.{TakesMemory};
 ghost use Rattle.field_merge.specs.Messages.{IsMessage};
 ghost use Rattle.budget_top.specs.Verdicts.{bad_line, judged_short, word_text};
 
@@ -50,6 +51,7 @@ impl Word {
 pub fn judge(alloc: Global, line: &[u8]) -> Result<Result<Message, Word>, NoMemory>
     ensures verdict { IfOk result (λ verdict. verdict ≡ judged_short line.now) }
     ensures valid { IfOk result (λ verdict. IfOk verdict IsMessage) }
+    ensures memory { IsErr result → IsUtf8 line.now × TakesMemory line.now }
 {
     let Ok(text) = str::from_utf8(line) else {
         return Ok(Err(Word::Utf8));

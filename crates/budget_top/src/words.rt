@@ -1,5 +1,5 @@
 //! What the words of the command line can ask for.
-ghost use Rattle.std.specs.Prelude.{◌≡◌};
+ghost use Rattle.std.specs.Prelude.{◌≡◌, IfOk};
 ghost use Rattle.budget_top.specs.Words.{fault_name};
 
 use field_values::{NoMemory, Txt};
@@ -65,6 +65,29 @@ impl From<NoMemory> for WordFault {
 
     fn from(_error: NoMemory) -> WordFault {
         WordFault::NoMemory
+    }
+}
+
+impl Plan {
+    /// A plan that asks for the same.
+    pub fn copy(&self) -> Result<Plan, NoMemory>
+        ensures { IfOk result (λ plan. plan ≡ self.now) }
+    {
+        let store = match &self.store {
+            Some(path) => Some(path.copy()?),
+            None => None,
+        };
+        Ok(Plan {
+            mode: self.mode,
+            store,
+            node: self.node,
+            token: self.token.copy()?,
+            file: self.file.copy()?,
+            group: self.group.copy()?,
+            count: self.count,
+            listen: self.listen.copy()?,
+            peer: self.peer.copy()?,
+        })
     }
 }
 

@@ -48,7 +48,7 @@ one_of_stamp ms m n s at_m at_n e =
     ∙ ap (λ (t : Stamp). find (has stamp_of stamp_cmp t) ms) e
     ∙ found_by_key stamp_of stamp_cmp stamps_total ms s n at_n
 
-only_latest : LatestIsLatest → (ms : List Message) (f : FieldNames) (m : Message) → IsRising ms → IsLatest ms f m → latest ms f ≡ Some m
+pub only_latest : LatestIsLatest → (ms : List Message) (f : FieldNames) (m : Message) → IsRising ms → IsLatest ms f m → latest ms f ≡ Some m
 only_latest law ms f m s is =
     elim (latest ms f) as (λ o. IsLatestOrNone ms f o → o ≡ Some m) [
       | None ↦ λ none. absurd (none m is.there is.of_field)

@@ -12,3 +12,8 @@ mod tries;
 mod values;
 #[cfg(test)]
 mod wire;
+//! Examples of the lower layers, over their public calls: each file shows one crate.
+#![tactic(auto)]
+
+#[cfg(test)]
+mod ports;

@@ -1,7 +1,10 @@
 use Rattle.std.proofs.Common.{◌∷◌, []}
-use Rattle.budget_top.proofs.Obeying.{brings_received, whether_ok}
+use Rattle.device_core.specs.Device.{accepted_as}
+use Rattle.device_core.proofs.Accepting.{brings_device}
+use Rattle.budget_top.proofs.Obeying.{whether_ok}
 use Rattle.budget_top.proofs.answer.receive.Goals as goal
 
 pub returns-in-Ok-clause-brings : goal.returns-in-Ok-clause-brings
 returns-in-Ok-clause-brings g c =
-    whether_ok _ c.added_reply.result (brings_received c.args.device.now.state (c.args.message ∷ []) c.args.reading c.incoming.new.self c.in-Ok.count c.in-Ok.ensures.ok)
+    let came = c.accepted_are_joined.ensures.of_messages c.args.device.now.state (c.args.message ∷ []) c.args.reading (accepted_as c.incoming.new.self c.in-Ok.count) c.in-Ok.ensures.ok in
+    whether_ok _ c.added_reply.result (brings_device c.args.device.now.state.messages c.incoming.new.self c.in-Ok.count came.brings)

@@ -7,19 +7,19 @@ pub returns-then-session-clause-answers : goal.returns-then-session-clause-answe
 returns-then-session-clause-answers g c = λ e s.
     let r = c.in-AtEnd.ensures.ends e s in
     answered_all true 1 _ _ e _ c.end_last.new.self _ r.0 refl c.if-session.true r.1 r.2.0 (c.in-AtEnd.ensures.at_end refl) (c.in-Ok.ensures.ok e r.0 r.2.1)
-    (λ t a. c.in-Ok.ensures.alone t (c.in-AtEnd.ensures.alone tt (c.end_last.ensures.told t) a))
+    (λ a. c.in-Ok.ensures.alone (c.in-AtEnd.ensures.alone tt a))
 
 pub returns-else-session-clause-answers : goal.returns-else-session-clause-answers
 returns-else-session-clause-answers g c = λ e s.
     let r = c.in-AtEnd.ensures.ends e s in
     answered_all false 0 _ _ e _ c.end_last.new.self _ r.0 refl c.if-session.false r.1 r.2.0 (c.in-AtEnd.ensures.at_end refl) (c.in-Ok.ensures.ok e r.0 r.2.1)
-    (λ t a. c.in-Ok.ensures.alone t (c.in-AtEnd.ensures.alone tt (c.end_last.ensures.told t) a))
+    (λ a. c.in-Ok.ensures.alone (c.in-AtEnd.ensures.alone tt a))
 
 pub returns-in-Err-clause-answers : goal.returns-in-Err-clause-answers
 returns-in-Err-clause-answers g c = λ e s.
     let r = c.in-AtEnd.ensures.ends e s in
     answered_stop c.in-Err.stop _ _ _ e _ _ r.0 _ (inr (c.in-AtEnd.ensures.at_end refl, r.2.0, refl)) c.status.ensures r.1
-    (breaks_from c.in-Err.stop e _ _ _ _ (λ t a. c.in-AtEnd.ensures.alone tt (c.end_last.ensures.told t) a) (c.in-Err.ensures.err e r.0 r.2.1))
+    (breaks_from c.in-Err.stop e _ _ _ _ (c.in-AtEnd.ensures.alone tt) (c.in-Err.ensures.err e r.0 r.2.1))
 
 pub returns-in-SourceFailed-clause-answers : goal.returns-in-SourceFailed-clause-answers
 returns-in-SourceFailed-clause-answers g c = λ e s.

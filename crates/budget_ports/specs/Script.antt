@@ -1,0 +1,33 @@
+-- A link in memory, whose replies are written before.
+use Rattle.std.specs.Prelude.{ℕ, List, [], ◌∷◌, ◌++◌, Option, None, Some, Bool, true, false}
+use Rattle.budget_ports.specs.Exchanges.{Exchange, begun}
+use Rattle.budget_ports.specs.Calls.{CallState, failed}
+
+-- the exchanges, the bytes for which nothing has come back, the replies to come, and the calls
+pub record LinkState : Type 0 where
+  pub ended : List Exchange
+  pub asked : Option (List ℕ)
+  pub to_come : List (List ℕ)
+  pub calls : CallState
+
+-- the exchange that is open, if there is one
+abbrev pub open_one : Option (List ℕ) → List Exchange
+open_one None = []
+open_one (Some sent) = begun sent ∷ []
+
+-- all exchanges, the open one last
+abbrev pub exchanges : LinkState → List Exchange
+exchanges link = link.ended ++ open_one link.asked
+
+-- whether a reply can be given: bytes were sent, and a reply is left
+abbrev pub has_reply : LinkState → Bool
+has_reply link = by link.asked link.to_come
+  where
+    by : Option (List ℕ) → List (List ℕ) → Bool
+    by None replies = false
+    by (Some sent) [] = false
+    by (Some sent) (reply ∷ replies) = true
+
+-- a link after a call that failed: nothing has changed but the counts
+abbrev pub failed_link : LinkState → LinkState
+failed_link old = record old { calls = failed old.calls }

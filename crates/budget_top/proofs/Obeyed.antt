@@ -1,0 +1,84 @@
+-- What a device does at a line.
+use Rattle.std.proofs.Common.{◌≡◌, ◌⊎◌, inl, inr, ℕ, List, [], ◌∷◌, Bool, true, false, cond, refl, sym, ap, ◌∙◌, subst, Option, None, Some, Result, Ok, Err}
+use Rattle.field_values.specs.declared.value.Value.{Value}
+use Rattle.field_merge.specs.declared.message.Message.{Message}
+use Rattle.device_core.specs.declared.edit.Edit.TheVariants.{Book}
+use Rattle.device_core.specs.declared.edit.BookEdit.TheVariants.{Set}
+use Rattle.device_core.specs.declared.edit.LineRefusal.{LineRefusal}
+use Rattle.device_core.specs.Device.{State, Accepted, IsAhead, edited, received}
+use Rattle.device_core.specs.ReadBack.{EditsReadBack, ReceivedAreJoined}
+use Rattle.command_lines.specs.declared.command.Command.{Command}
+use Rattle.command_lines.specs.declared.command.Command.TheVariants.{Edit, Receive, Fields, Messages, Value as ValueOf, Trie}
+use Rattle.command_lines.specs.declared.reply.Reply.{Reply}
+use Rattle.command_lines.specs.Commands.{command}
+use Rattle.command_lines.specs.Readings.{answer, IsReading}
+use Rattle.command_lines.specs.Replies.{wrote, refused}
+use Rattle.budget_top.specs.Session.{asked, settled, wrote_all, added_all, reply_to_refusal}
+use Rattle.budget_top.specs.Doing.{Target, Running, done}
+use Rattle.budget_top.specs.Course.{Input, step}
+use Rattle.budget_top.specs.Obeying.{Says, IsNone, Refuses, Writes, TakesIn, LinesAreObeyed}
+
+-- a line asks for what it says
+asks : (line : List ℕ) (said : Command) → Says line said → asked line ≡ Ok said
+asks line said h = ap (λ (b : Bool). cond b (command line) (Err 0)) h.utf8 ∙ h.command
+
+asks_none : (line : List ℕ) (part : ℕ) → IsNone line part → asked line ≡ Err part
+asks_none line part (inl h) = ap (λ (b : Bool). cond b (command line) (Err 0)) h.0 ∙ ap (λ (n : ℕ). Err n) (sym h.1)
+asks_none line part (inr h) = ap (λ (b : Bool). cond b (command line) (Err 0)) h.0 ∙ h.1
+
+stepped : (target : Target) (r : Running) (i : Input) (said : Result Command ℕ) → asked i.line ≡ said → step target r i ≡ done target r i.given said
+stepped target r i said e = ap (λ (c : Result Command ℕ). done target r i.given c) e
+
+-- what an outcome leaves, with the reply
+abbrev left_by : Running → (Accepted → Reply) → Result Accepted LineRefusal → Running × Reply
+left_by r reply meant = (record r { state = (settled r.state reply meant).0 }, (settled r.state reply meant).1)
+
+refusing : (r : Running) (reply : Accepted → Reply) (meant : Result Accepted LineRefusal) (refusal : LineRefusal) (after : Running × Reply)
+    → after ≡ left_by r reply meant → meant ≡ Err refusal → Refuses r refusal after.0 after.1
+refusing r reply meant refusal after is e =
+    let now : after ≡ (r, reply_to_refusal (refused refusal)) = is ∙ ap (λ (m : Result Accepted LineRefusal). left_by r reply m) e in record {
+      same = ap (λ (p : Running × Reply). p.0) now;
+      told = λ due has. ap (λ (p : Running × Reply). p.1) now ∙ ap reply_to_refusal has;
+    }
+
+accepting : (r : Running) (reply : Accepted → Reply) (meant : Result Accepted LineRefusal) (accepted : Accepted) (after : Running × Reply)
+    → after ≡ left_by r reply meant → meant ≡ Ok accepted → after ≡ (record r { state = accepted.state }, reply accepted)
+accepting r reply meant accepted after is e = is ∙ ap (λ (m : Result Accepted LineRefusal). left_by r reply m) e
+
+writing : EditsReadBack → (target : Target) (r : Running) (i : Input) (dataset row column : List ℕ) (value : Value) (accepted : Accepted)
+    → Says i.line (Edit (Book (Set dataset row column value))) → IsAhead r.state.clock r.state.messages
+    → edited r.state (Book (Set dataset row column value)) i.given.reading ≡ Ok accepted → Writes r dataset row column value accepted (step target r i).0 (step target r i).1
+writing law target r i dataset row column value accepted says ahead is =
+    let now = accepting r wrote_all _ accepted (step target r i) (stepped target r i _ (asks i.line _ says)) is in
+    let back = law r.state dataset row column value i.given.reading accepted ahead is in record {
+      after_it = ap (λ (p : Running × Reply). p.0) now;
+      read_back = back;
+      told = ap (λ (p : Running × Reply). p.1) now ∙ ap (λ (n : ℕ). wrote n accepted.made) back.one ∙ ap (λ (ids : List (List ℕ)). wrote 1 ids) back.none_made;
+    }
+
+taking_in : ReceivedAreJoined → (target : Target) (r : Running) (i : Input) (message : Message) (accepted : Accepted) → Says i.line (Receive message)
+    → received r.state (message ∷ []) i.given.reading ≡ Ok accepted → TakesIn r message i.given.reading accepted (step target r i).0 (step target r i).1
+taking_in law target r i message accepted says is =
+    let now = accepting r added_all _ accepted (step target r i) (stepped target r i _ (asks i.line _ says)) is in record {
+      after_it = ap (λ (p : Running × Reply). p.0) now;
+      joined = law r.state (message ∷ []) i.given.reading accepted is;
+      told = ap (λ (p : Running × Reply). p.1) now;
+    }
+
+answering : (target : Target) (r : Running) (i : Input) (said : Command) → asked i.line ≡ Ok said → IsReading said → step target r i ≡ (r, answer r.state.messages said)
+answering target r i (Edit edit) asks h = absurd h
+answering target r i (Receive message) asks h = absurd h
+answering target r i Fields asks h = stepped target r i _ asks
+answering target r i (Messages since) asks h = stepped target r i _ asks
+answering target r i (ValueOf dataset row column) asks h = stepped target r i _ asks
+answering target r i Trie asks h = stepped target r i _ asks
+
+pub lines_obeyed : EditsReadBack → ReceivedAreJoined → LinesAreObeyed
+lines_obeyed edits messages = record {
+  writes = writing edits;
+  refused_writes = λ target r i dataset row column value refusal says is. refusing r wrote_all _ refusal (step target r i) (stepped target r i _ (asks i.line _ says)) is;
+  messages = taking_in messages;
+  refused_messages = λ target r i message refusal says is. refusing r added_all _ refusal (step target r i) (stepped target r i _ (asks i.line _ says)) is;
+  readings = λ target r i said says reads. answering target r i said (asks i.line said says) reads;
+  faults = λ target r i part none. stepped target r i _ (asks_none i.line part none);
+}
