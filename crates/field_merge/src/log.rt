@@ -1,5 +1,5 @@
 //! The message log.
-ghost use Rattle.std.specs.Prelude.{◌≡◌, ◌≢◌, ◌↔◌, ◌&&◌, cond, Some, ◌+◌, IfOk, OnOk, OnErr, false, true, [], ◌∷◌, ◌++◌, List, length};
+ghost use Rattle.std.specs.Prelude.{◌≡◌, ◌≢◌, ◌↔◌, ◌&&◌, cond, None, Some, ◌+◌, IfOk, OnOk, OnErr, false, true, [], ◌∷◌, ◌++◌, List, length};
 ghost use Rattle.std.specs.BTreeSet.{IsOrdered};
 ghost use Rattle.field_values.specs.Names.{FieldNames, names_cmp};
 ghost use Rattle.std.specs.Option.{option_copied, is_none};
@@ -144,12 +144,14 @@ impl Log {
 
     /// Joins one message, which moves into the log, and says whether its timestamp was new and
     /// whether it is now the latest message of its field. Each other field keeps its latest message.
+    /// A message whose timestamp the log has takes no memory.
     pub fn enter(&mut self, message: Message) -> Result<Entered, NoMemory>
         requires live { self.old.spent ≡ false }
         requires valid { IsMessage message }
         ensures joined { OnOk result (self.new.messages ≡ join self.old.messages (message ∷ [])) }
         ensures fresh { IfOk result (λ e. e.fresh ≡ is_none (at_stamp self.old.messages message.stamp)) }
         ensures latest { IfOk result (λ e. (f : FieldNames) → latest self.new.messages f ≡ cond (e.latest && has_field f message) (Some message) (latest self.old.messages f)) }
+        ensures memory { OnErr result (at_stamp self.old.messages message.stamp ≡ None) }
         ensures changed { IfOk result (λ e. (e.latest ≡ true) ↔ (latest self.old.messages message.field ≢ latest self.new.messages message.field)) }
         ensures kept { OnOk result (self.new.spent ≡ false) }
         ensures spent { OnErr result (self.new.spent ≡ true) }
@@ -175,6 +177,7 @@ impl Log {
         requires valid { IsMessage message }
         ensures joined { OnOk result (self.new.messages ≡ join self.old.messages (message ∷ [])) }
         ensures fresh { IfOk result (λ fresh. fresh ≡ is_none (at_stamp self.old.messages message.stamp)) }
+        ensures memory { OnErr result (at_stamp self.old.messages message.stamp ≡ None) }
         ensures kept { OnOk result (self.new.spent ≡ false) }
         ensures spent { OnErr result (self.new.spent ≡ true) }
     {

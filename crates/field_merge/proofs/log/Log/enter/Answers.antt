@@ -1,4 +1,4 @@
-use Rattle.std.proofs.Common.{◌∙◌, sym, ap, true, false}
+use Rattle.std.proofs.Common.{◌≡◌, None, Result, Ok, Err, OnErr, ◌∙◌, sym, ap, true, false}
 use Rattle.std.specs.Option.{is_some}
 use Rattle.std.specs.BTreeMap.{values}
 use Rattle.field_merge.specs.Log.{at_stamp, has_stamp}
@@ -38,3 +38,15 @@ returns-clause-changed c =
     (none_from_any (has_stamp c.args.message.stamp) (values c.self.inside.messages)
     (any-own c.self.inside.messages.entries c.self.invariant.entries_stand.own c.args.message.stamp ∙ sym c.contains_key.ensures ∙ c.if-contains_key.false))
     (c.in_ok-latest.ensures.wins c.args.message.field))
+
+-- what holds whatever the result is
+after_err : {A E : Type 0} (r : Result A E) (P : Type 0) → P → OnErr r P
+after_err (Ok x) P p = tt
+after_err (Err e) P p = p
+
+pub returns-in_err-latest-clause-memory : goal.returns-in_err-latest-clause-memory
+returns-in_err-latest-clause-memory c =
+    after_err c.from_residual.result (at_stamp c.args.self.now.messages c.args.message.stamp ≡ None)
+    (rw (← c.self.view_is)
+    (none_from_any (has_stamp c.args.message.stamp) (values c.self.inside.messages)
+    (any-own c.self.inside.messages.entries c.self.invariant.entries_stand.own c.args.message.stamp ∙ sym c.contains_key.ensures ∙ c.if-contains_key.false)))
