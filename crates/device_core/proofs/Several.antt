@@ -1,5 +1,5 @@
 -- Several writes under timestamps in a row.
-use Rattle.std.proofs.Common.{◌≡◌, ◌≢◌, inl, inr, ℕ, zero, suc, ◌+◌, ◌-◌, ◌<◌, ◌≤◌, Bool, true, false, cond, List, [], ◌∷◌, ◌++◌, append_assoc, append-nil, Option, None, Some, Result, Ok, Err, length, map, refl, sym, ap, ◌∙◌, subst, arith}
+use Rattle.std.proofs.Common.{◌≡◌, ◌≢◌, inl, inr, ℕ, zero, suc, ◌+◌, ◌-◌, Bool, true, false, cond, List, [], ◌∷◌, ◌++◌, append_assoc, append-nil, None, Some, Result, Ok, Err, length, map, refl, sym, ap, ◌∙◌, subst, arith}
 use Rattle.std.specs.Prelude.{max, nat_lt, ◌==◌, ◌/◌, option_map, slice_get}
 use Rattle.std.specs.Option.{option_or}
 use Rattle.std.specs.Ordering.{is_eq}
@@ -23,7 +23,6 @@ use Rattle.kept_messages.specs.News.{new_in}
 use Rattle.kept_messages.proofs.Members.{all_join}
 use Rattle.device_core.specs.declared.edit.Write.{Write}
 use Rattle.device_core.specs.declared.edit.EditFault.TheVariants.{TooManyWrites}
-use Rattle.device_core.specs.declared.edit.LineRefusal.{LineRefusal}
 use Rattle.device_core.specs.declared.edit.LineRefusal.TheVariants.{Edit as OfEdit}
 use Rattle.device_core.specs.Device.{State, Accepted, IsUpTo, IsAhead, stamped, first_in_row, with_messages, accepted_as, written, writing}
 use Rattle.device_core.specs.Several.{counted_on, LeaveAlone, AreJoinedWrites, WritesAreJoined}

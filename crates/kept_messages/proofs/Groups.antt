@@ -1,11 +1,11 @@
 -- The records of a group, and the messages or the place that they are read as.
-use Rattle.std.proofs.Common.{◌≡◌, ◌<◌, ℕ, zero, suc, ◌+◌, Bool, true, false, cond, List, [], ◌∷◌, ◌++◌, length, Option, None, Some, is_none, Result, Ok, Err, inl, inr, refl, sym, ap, subst, ◌∙◌, true≢false, arith, Ordering, Less, Equal, Greater}
+use Rattle.std.proofs.Common.{◌≡◌, ◌<◌, ℕ, zero, suc, ◌+◌, Bool, true, false, cond, List, [], ◌∷◌, ◌++◌, length, Option, None, Some, is_none, Result, Ok, Err, inl, inr, refl, sym, ap, subst, ◌∙◌, arith, Less, Equal}
 use Rattle.std.specs.List.{Contains, AllByRecursion, filter_map, position_from}
-use Rattle.std.specs.Ordering.{is_eq, ordering_then}
+use Rattle.std.specs.Ordering.{is_eq}
 use Rattle.std.specs.Cmp.{tied_itself}
-use Rattle.std.proofs.lemmas.Bool.{cases_Bool, and_parts}
+use Rattle.std.proofs.lemmas.Bool.{and_parts}
 use Rattle.std.proofs.lemmas.List.Elements.{Contains-append_left, Contains-append_right, Contains-append_cases}
-use Rattle.std.specs.FinMap.{find, entries, get, get-entries}
+use Rattle.std.specs.FinMap.{find, entries, get-entries}
 use Rattle.budget_ports.specs.declared.keeper.Record.{Record}
 use Rattle.budget_ports.specs.Contents.{Contents, Text, text_cmp, Place, place_cmp, is_in, of_entry, records_after}
 use Rattle.budget_ports.specs.Keeper.{Rise}

@@ -121,35 +121,66 @@ fn named(alloc: Global, row: &str, value: &str) -> Result<Device, Fail>
     Ok(device)
 }
 
-#[test]
-fn starts_from_records(rt: HostRuntime) -> Result<(), Fail> {
-    let alloc = rt.alloc();
-    let device = device_of(
+/// A device that begins with two records, of which the later one stands first.
+fn started(alloc: Global) -> Result<Device, Fail>
+    ensures { IfOk result (λ d. d.spent ≡ false) }
+{
+    device_of(
         alloc,
         &[
             (SECOND, "categories\tfood\tname\tS:Meals"),
             (FIRST, "categories\tfood\tname\tS:a\\\\b"),
         ],
-    )?;
+    )
+}
+
+/// The lines of the messages after the first, one behind the other.
+fn outgoing(alloc: Global, device: &Device) -> Result<String, Fail>
+    requires { device.now.spent ≡ false }
+{
+    let mut text = String::new(alloc);
+    let messages = device.outgoing(FIRST.as_bytes())?;
+    for message in messages.as_slice() {
+        let line = write_line(alloc, message)?;
+        text.push_str(line.as_str())?;
+    }
+    Ok(text)
+}
+
+#[test]
+fn starts_from_records(rt: HostRuntime) -> Result<(), Fail> {
+    let alloc = rt.alloc();
+    let device = started(alloc)?;
     assert_eq!(rt;
         told_by(&device),
         (2, 1_704_448_801_000, 0, 16_148_298, 0, 0)
     );
-    let after = device.outgoing(FIRST.as_bytes())?;
-    assert_eq!(rt; after.len(), 1);
-    for message in after.as_slice() {
-        assert_eq!(rt;
-            write_line(alloc, message)?.as_str(),
-            "2024-01-05T10:00:01.000Z-0000-00000000000000bb\tcategories\tfood\tname\tS:Meals"
-        );
-    }
-    let node = Node::make(b"aa")?;
-    let bad = Record {
+    let text = outgoing(alloc, &device)?;
+    assert_eq!(rt;
+        text.as_str(),
+        "2024-01-05T10:00:01.000Z-0000-00000000000000bb\tcategories\tfood\tname\tS:Meals"
+    );
+    Ok(())
+}
+
+/// Why no device starts from the record of the first message with a body.
+fn start_fault(alloc: Global, body: &str) -> Result<Option<StartFault>, Fail> {
+    let mut records = Vec::new(alloc);
+    records.push(Record {
         key: Txt::from_text(alloc, FIRST)?,
-        body: Txt::from_text(alloc, "categories\tfood")?,
-    };
-    let refused = Device::start(alloc, node, &[bad]);
-    assert_eq!(rt; refused.err(), Some(StartFault::BadRecord { index: 0 }));
+        body: Txt::from_text(alloc, body)?,
+    })?;
+    let started = Device::start(alloc, Node::make(b"aa")?, records.as_slice());
+    Ok(started.err())
+}
+
+#[test]
+fn tells_the_bad_record(rt: HostRuntime) -> Result<(), Fail> {
+    let alloc = rt.alloc();
+    for body in ["", "categories\tfood\tname", "categories\t\tname\tN:1"] {
+        let fault = start_fault(alloc, body)?;
+        assert_eq!(rt; fault, Some(StartFault::BadRecord { index: 0 }));
+    }
     Ok(())
 }
 
@@ -223,26 +254,24 @@ fn refusal_of(alloc: Global, row: &str, reading: u64) -> Result<Option<LineRefus
     Ok(refused.err())
 }
 
-/// The refusals of a bad name, an empty name and a reading beyond the window, each as its copy.
-fn refusals(alloc: Global) -> Result<[LineRefusal; 3], Fail> {
-    let id = Txt::from_text(alloc, "a\nb")?;
-    let empty = Txt::from_text(alloc, "")?;
-    let bad = LineRefusal::Edit(EditFault::BadId { id });
-    let none = LineRefusal::Edit(EditFault::BadId { id: empty });
-    let beyond = LineRefusal::Clock(ClockFault::Beyond {
-        reading: 2_582_803_260_000,
-    });
-    Ok([bad.copy()?, none.copy()?, beyond.copy()?])
+/// The refusal of a row's id, as its copy.
+fn bad_id(alloc: Global, row: &str) -> Result<LineRefusal, Fail> {
+    let id = Txt::from_text(alloc, row)?;
+    let refusal = LineRefusal::Edit(EditFault::BadId { id });
+    Ok(refusal.copy()?)
 }
 
 #[test]
 fn refuses_edits(rt: HostRuntime) -> Result<(), Fail> {
     let alloc = rt.alloc();
-    let [bad, none, beyond] = refusals(alloc)?;
     let reading = 2_582_803_260_000;
-    assert_eq!(rt; refusal_of(alloc, "a\nb", reading)?, Some(bad));
-    assert_eq!(rt; refusal_of(alloc, "", reading)?, Some(none));
-    assert_eq!(rt; refusal_of(alloc, "food", reading)?, Some(beyond));
+    for row in ["", "a\nb"] {
+        assert_eq!(rt; refusal_of(alloc, row, reading)?, Some(bad_id(alloc, row)?));
+    }
+    assert_eq!(rt;
+        refusal_of(alloc, "food", reading)?,
+        Some(LineRefusal::Clock(ClockFault::Beyond { reading }))
+    );
     Ok(())
 }
 

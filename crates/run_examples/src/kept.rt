@@ -4,7 +4,7 @@ ghost use Rattle.std.specs.Prelude.{IfOk};
 ghost use Rattle.field_merge.specs.Messages.{AreMessages};
 
 use budget_ports::Record;
-use field_merge::{Log, Message, read_line, write_line};
+use field_merge::{Message, read_line, write_line};
 use field_values::Txt;
 use kept_messages::{StartFault, join_all, read_log, read_record, write_record};
 use std::alloc::Global;
@@ -38,34 +38,28 @@ const RECORDS: [(&str, bool); 7] = [
 
 /// Records one in a line, as above, and what they are read as: the lines of the log and the root of its
 /// trie, or the index of the first that keeps no message.
-const GROUPS: [(&str, Result<(&str, i32), usize>); 5] = [
-    ("", Err(0)),
+const GROUPS: [(&str, &str); 5] = [
+    ("", "bad 0"),
     (
         "2024-01-05T10:00:00.000Z-0000-00000000000000aa>categories>food>name>N:1",
-        Ok((
-            "2024-01-05T10:00:00.000Z-0000-00000000000000aa>categories>food>name>N:1\n",
-            189_847_234,
-        )),
+        "2024-01-05T10:00:00.000Z-0000-00000000000000aa>categories>food>name>N:1\n189847234",
     ),
     (
         "2024-01-05T10:00:01.000Z-0000-00000000000000bb>categories>food>name>N:2\n\
          2024-01-05T10:00:00.000Z-0000-00000000000000aa>categories>food>name>N:1\n\
          2024-01-05T10:00:01.000Z-0000-00000000000000bb>categories>food>name>N:3",
-        Ok((
-            "2024-01-05T10:00:00.000Z-0000-00000000000000aa>categories>food>name>N:1\n\
-             2024-01-05T10:00:01.000Z-0000-00000000000000bb>categories>food>name>N:2\n",
-            16_148_298,
-        )),
+        "2024-01-05T10:00:00.000Z-0000-00000000000000aa>categories>food>name>N:1\n\
+         2024-01-05T10:00:01.000Z-0000-00000000000000bb>categories>food>name>N:2\n16148298",
     ),
     (
         "2024-01-05T10:00:00.000Z-0000-00000000000000aa>categories>food>name>N:1\n\
          2024-01-05T10:00:01.000Z-0000-00000000000000bb>categories>food",
-        Err(1),
+        "bad 1",
     ),
     (
         "2024-01-05T10:00:00.000Z-0000-0000000000000000>categories>food>name>N:1\n\
          x>categories>food>name>N:1",
-        Err(0),
+        "bad 0",
     ),
 ];
 
@@ -125,26 +119,31 @@ fn records_keep_messages(rt: HostRuntime) -> Result<(), Fail> {
     Ok(())
 }
 
+/// What records are read as: the messages and the root of the trie, or the bad record.
+fn told_of(alloc: Global, records: &[Record]) -> Result<String, Fail> {
+    let (log, trie) = match read_log(alloc, records) {
+        Ok(read) => read,
+        Err(StartFault::BadRecord { index }) => return Ok(format!(in alloc; "bad {index}")?),
+        Err(StartFault::NoMemory) => return Ok(String::new(alloc)),
+    };
+    let messages = log.since(b"")?;
+    let mut text = shown(alloc, messages.as_slice())?;
+    let root = trie.root();
+    let root = format!(in alloc; "{root}")?;
+    text.push_str(root.as_str())?;
+    Ok(text)
+}
+
 #[test]
 fn groups_are_read(rt: HostRuntime) -> Result<(), Fail> {
     let alloc = rt.alloc();
     for (text, meant) in GROUPS {
         let records = records(alloc, text)?;
-        match (read_log(alloc, records.as_slice()), meant) {
-            (Ok((log, trie)), Ok((lines, root))) => {
-                let messages = log.since(b"")?;
-                let shown = shown(alloc, messages.as_slice())?;
-                assert_eq!(rt; shown.as_str(), lines);
-                assert_eq!(rt; trie.root(), root);
-            }
-            (Err(fault), Err(index)) => {
-                assert_eq!(rt; fault, StartFault::BadRecord { index });
-            }
-            _ => assert!(rt; false),
-        }
+        let told = told_of(alloc, records.as_slice())?;
+        assert_eq!(rt; told.as_str(), meant);
     }
-    let (log, trie) = read_log(alloc, &[])?;
-    assert_eq!(rt; (log.len(), trie.root()), (0, 0));
+    let told = told_of(alloc, &[])?;
+    assert_eq!(rt; told.as_str(), "0");
     Ok(())
 }
 
@@ -170,22 +169,28 @@ fn coming(alloc: Global) -> Result<Vec<Message>, Fail>
     Ok(messages)
 }
 
-#[test]
-fn new_ones_are_joined(rt: HostRuntime) -> Result<(), Fail> {
-    let alloc = rt.alloc();
+/// How many messages there are once they have joined, the root of the trie, and the records of the new ones.
+fn joined(alloc: Global) -> Result<(usize, i32, Vec<Record>), Fail> {
     let first = "2024-01-05T10:00:00.000Z-0000-00000000000000aa>categories>food>name>N:1";
     let records = records(alloc, first)?;
     let (mut log, mut trie) = read_log(alloc, records.as_slice())?;
     let messages = coming(alloc)?;
     let mut batch = Vec::new(alloc);
     join_all(alloc, &mut log, &mut trie, messages.as_slice(), &mut batch)?;
-    assert_eq!(rt; (log.len(), trie.root(), batch.len()), (2, 16_148_298, 1));
-    assert_eq!(rt;
-        batch[0],
-        record(
-            alloc,
-            "2024-01-05T10:00:01.000Z-0000-00000000000000bb>categories>food>name>N:3"
-        )?
-    );
+    Ok((log.len(), trie.root(), batch))
+}
+
+#[test]
+fn new_ones_are_joined(rt: HostRuntime) -> Result<(), Fail> {
+    let alloc = rt.alloc();
+    let (len, root, batch) = joined(alloc)?;
+    assert_eq!(rt; (len, root, batch.len()), (2, 16_148_298, 1));
+    let new = record(
+        alloc,
+        "2024-01-05T10:00:01.000Z-0000-00000000000000bb>categories>food>name>N:3",
+    )?;
+    for kept in batch.as_slice() {
+        assert_eq!(rt; kept, &new);
+    }
     Ok(())
 }
