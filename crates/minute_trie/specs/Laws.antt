@@ -12,7 +12,7 @@ use Rattle.minute_trie.specs.Pruned.{begins, present, kept}
 use Rattle.minute_trie.specs.Held.{Held, IsMap}
 use Rattle.minute_trie.specs.Trie.{Pair, stamp_pair, entries_of, trie_of, IsTrieOf, IsPair, ArePairs}
 use Rattle.minute_trie.specs.Adding.{with_pair}
-use Rattle.minute_trie.specs.Diff.{digit_value, end_of_walk, minute_of, difference}
+use Rattle.minute_trie.specs.Diff.{digit_value, end_of_walk, difference}
 use Rattle.minute_trie.specs.Json.{trie_text}
 use Rattle.minute_trie.specs.Faults.{fault_of_text, map_of_text, IsReadingOf}
 use Rattle.minute_trie.specs.Rounds.{is_from, IsRound, IsProperPrefix, Sides, end_of_sides, difference_of_sides, IsRoundOfSides, AreRounds}
@@ -29,14 +29,19 @@ abbrev pub PrunedForGood : Type 0
 PrunedForGood = (pairs more : List Pair) (p : List Digit) → present (entries_of pairs) p ≡ true → kept (entries_of pairs) p ≡ false →
     kept (entries_of (pairs ++ more)) p ≡ false
 
+-- the number that digits write to the base 3, behind those that write n: the digit with the greatest worth comes first
+abbrev pub number_behind : ℕ → List Digit → ℕ
+number_behind n [] = n
+number_behind n (d ∷ more) = number_behind (n * 3 + digit_value d) more
+
 -- where a timestamp stands in a trie
 pub record StampsArePlaced : Type 0 where
   -- its pair has the minute in which its time lies
   pub minute : (stamp : Stamp) → (60_000 * (stamp_pair stamp).0 ≤ stamp.millis) × (stamp.millis < 60_000 * ((stamp_pair stamp).0 + 1))
   -- and the hash of its text, as a pattern of 32 bits
   pub hash : (stamp : Stamp) → cast_unsigned w32 (stamp_pair stamp).1 ≡ murmur (stamp_text stamp)
-  -- the key of a minute has sixteen digits, which write it to the base 3, the digit with the greatest worth first
-  pub key : (minute : ℕ) → minute < window → (length (key minute) ≡ 16) × (minute_of (key minute) ≡ minute)
+  -- the key of a minute has sixteen digits, which write it to the base 3
+  pub key : (minute : ℕ) → minute < window → (length (key minute) ≡ 16) × (number_behind 0 (key minute) ≡ minute)
 
 -- each trie that there is holds a map of at most sixteen digits
 pub record TriesAreMaps : Type 0 where
