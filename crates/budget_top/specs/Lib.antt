@@ -20,3 +20,4 @@ pub mod DeviceSteps
 pub mod Valid
 pub mod CutLines
 pub mod Merging
+pub mod Asking

@@ -4,6 +4,7 @@ ghost use Rattle.budget_top.specs.Replies.{RepliesAreCut};
 ghost use Rattle.budget_top.specs.Valid.{StatesStayValid};
 ghost use Rattle.budget_top.specs.CutLines.{LinesAreCut};
 ghost use Rattle.budget_top.specs.Merging.{MergesAgree};
+ghost use Rattle.budget_top.specs.Asking.{PlansAreAsked};
 
 use command_lines::{lines_write_back, replies_are_lines};
 use field_merge::latest_message;
@@ -48,3 +49,9 @@ pub fn merges_agree()
 {
     latest_message();
 }
+
+/// What words ask for. They ask for a plan exactly where they are a command line whose mode word names the plan's mode
+/// and whose options give its values, each its own; what is not given is a default. No store can be named yet.
+pub fn plans_are_asked()
+    ensures { PlansAreAsked }
+{}
