@@ -18,3 +18,4 @@ pub mod LastOnes
 pub mod Few
 pub mod Coming
 pub mod Tidying
+pub mod LineFaults

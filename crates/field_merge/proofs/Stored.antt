@@ -150,6 +150,14 @@ marked_by : (b m : Bool) (o p : Option Message) (n : Message) → o ≢ Some n �
 marked_by true m o p n differs h = (λ _. differs, λ _. refl)
 marked_by false m o p n differs h = h
 
+-- whether a new message is now the latest of its field is whether the field has another latest message
+pub changed-where_wins : (ms new : List Message) (n : Message) (w : Bool) → at_stamp ms n.stamp ≡ None → latest new n.field ≡ cond (w && has_field n.field n) (Some n) (latest ms n.field) → (w ≡ true) ↔ (latest ms n.field ≢ latest new n.field)
+changed-where_wins ms new n true fresh now =
+    let own : has_field n.field n ≡ true = ap is_eq (tied_itself names_total n.field) in
+    let is : latest new n.field ≡ Some n = now ∙ ap (λ b. cond b (Some n) (latest ms n.field)) own in
+    (λ _ same. not_latest_before ms ms n n.field (λ s there. there) fresh (same ∙ is), λ _. refl)
+changed-where_wins ms new n false fresh now = (λ no. absurd (cc), λ differs. absurd (differs (sym now)))
+
 pub marks-placed : (before ms new : List Message) (marked new_marked : BTreeSet FieldNames) (n : Message) (w : Bool) → at_stamp ms n.stamp ≡ None → new ≡ placed by_stamp ms n → ((f : FieldNames) → latest new f ≡ cond (w && has_field f n) (Some n) (latest ms f)) → ((f : FieldNames) → contains names_cmp new_marked f ≡ ((w && has_field f n) || contains names_cmp marked f)) → MarksChanged before ms marked → MarksChanged before new new_marked
 marks-placed before ms new marked new_marked n w fresh is now marks h = record {
   grown = λ s there. ap (λ (ms : List Message). is_some (at_stamp ms s)) is

@@ -7,3 +7,4 @@ pub mod Stored
 pub mod Latest
 pub mod Pieces
 pub mod Laws
+pub mod LineFaults

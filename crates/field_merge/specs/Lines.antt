@@ -51,3 +51,8 @@ reading line = of_parts (parts line) (bad_escape line)
 abbrev pub IsLineFault : Result Message LineFault → LineFault → Type 0
 IsLineFault read NoMemory = Unit {0}
 IsLineFault read found = read ≡ Err found
+
+-- a line has to have five parts and no bad escape before memory is taken for it
+pub record TakesMemory (line : List ℕ) : Type 0 where
+  pub five : length (parts line) ≡ 5
+  pub good : bad_escape line ≡ None

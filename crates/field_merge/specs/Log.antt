@@ -6,6 +6,7 @@ use Rattle.std.specs.List.{find, list_any, last_or, flat_map, slice_get}
 use Rattle.std.specs.List.Sorted.{IsStrictlySortedBy}
 use Rattle.std.specs.declared.cmp.Ordering.{Ordering}
 use Rattle.field_values.specs.Names.{FieldNames, names_cmp}
+use Rattle.field_values.specs.declared.value.Value.{Value}
 use Rattle.hybrid_clock.specs.declared.stamp.Stamp.{Stamp}
 use Rattle.hybrid_clock.specs.Stamp.{stamp_text}
 use Rattle.hybrid_clock.specs.Order.{stamp_cmp}
@@ -63,6 +64,10 @@ join ms (n ∷ ns) = join (join_one ms n) ns
 -- the latest message of a field: the last one of the field
 abbrev pub latest : List Message → FieldNames → Option Message
 latest ms f = last_or None (filter (has_field f) ms)
+
+-- the value of a field: that of its latest message
+abbrev pub value_in : List Message → FieldNames → Option Value
+value_in ms f = option_map (λ m. m.value) (latest ms f)
 
 -- the latest message of each field, by dataset, row and column: each message but those that a later one of its field follows
 abbrev pub fields : List Message → List Message

@@ -1,4 +1,5 @@
 //! Facts about messages, their lines and lists of them, which a proof can call for.
+ghost use Rattle.field_merge.specs.LineFaults.{LineFaultsAreTold};
 ghost use Rattle.field_merge.specs.Laws.{
   BadEscapesAreFound,
   FieldsListLatest,
@@ -24,6 +25,12 @@ pub fn message_lines()
     ensures one_line { MessagesHaveOneLine }
     ensures stamp { StampsHaveNoEscape }
     ensures escape_place { BadEscapesAreFound }
+{}
+
+/// A law: the fault that is told of a line is the first thing that is wrong with it, and a line with which nothing is wrong is
+/// read as a message.
+pub fn line_faults_are_told()
+    ensures { LineFaultsAreTold }
 {}
 
 /// A law: the join of two lists rises by timestamp where the first does; a timestamp finds in it the

@@ -16,15 +16,10 @@ mod shared;
 pub use escape::{bad_escape, push_escaped, unescape};
 pub use latest_messages::LatestMessages;
 pub use laws::{
-    joined, joined_again, joined_in_any_order, joined_in_turn, latest_message, listed_fields,
-    message_lines,
+    joined, joined_again, joined_in_any_order, joined_in_turn, latest_message,
+    line_faults_are_told, listed_fields, message_lines,
 };
 pub use line::{LineFault, cut_part, push_body, read_line, read_text, write_line};
-pub use log::{Joined, Log};
+pub use log::{Entered, Joined, Log};
 pub use message::Message;
 pub use pieces::FieldLines;
-
-#[cfg(test)]
-mod log_tests;
-#[cfg(test)]
-mod tests;

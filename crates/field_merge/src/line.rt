@@ -5,7 +5,7 @@ ghost use Rattle.field_values.specs.Value.{value_of, IsValue};
 ghost use Rattle.hybrid_clock.specs.Stamp.{stamp_text, IsStamp};
 ghost use Rattle.hybrid_clock.specs.Reading.{read_stamp};
 ghost use Rattle.field_merge.specs.Escapes.{escaped, unescaped, BeginsWith};
-ghost use Rattle.field_merge.specs.Lines.{reading, parts, of_parts, IsLineFault};
+ghost use Rattle.field_merge.specs.Lines.{reading, parts, of_parts, IsLineFault, TakesMemory};
 ghost use Rattle.field_merge.specs.Messages.{IsMessage, message_line, message_body};
 ghost use Rattle.field_merge.specs.declared.line.LineFault.TheVariants.{NoMemory as OutOfMemory};
 
@@ -185,6 +185,7 @@ pub fn read_line(alloc: Global, line: &Txt) -> Result<Message, LineFault>
     ensures ok { IfOk result (λ m. reading line.now ≡ Ok m) }
     ensures valid { IfOk result IsMessage }
     ensures err { IfErr result (IsLineFault (reading line.now)) }
+    ensures memory { IfErr result (λ fault. fault ≡ OutOfMemory → TakesMemory line.now) }
 {
     read_text(alloc, line.as_str())
 }
@@ -195,6 +196,7 @@ pub fn read_text(alloc: Global, line: &str) -> Result<Message, LineFault>
     ensures ok { IfOk result (λ m. reading line.now ≡ Ok m) }
     ensures valid { IfOk result IsMessage }
     ensures err { IfErr result (IsLineFault (reading line.now)) }
+    ensures memory { IfErr result (λ fault. fault ≡ OutOfMemory → TakesMemory line.now) }
 {
     let Some(parts) = five_parts(line) else {
         return Err(LineFault::Columns {

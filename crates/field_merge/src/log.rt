@@ -1,12 +1,13 @@
 //! The message log.
-ghost use Rattle.std.specs.Prelude.{◌≡◌, ◌+◌, IfOk, OnOk, OnErr, false, true, [], ◌∷◌, length, option_map};
+ghost use Rattle.std.specs.Prelude.{◌≡◌, ◌≢◌, ◌↔◌, ◌&&◌, cond, Some, ◌+◌, IfOk, OnOk, OnErr, false, true, [], ◌∷◌, ◌++◌, List, length};
 ghost use Rattle.std.specs.BTreeSet.{IsOrdered};
-ghost use Rattle.field_values.specs.Names.{names_cmp};
+ghost use Rattle.field_values.specs.Names.{FieldNames, names_cmp};
 ghost use Rattle.std.specs.Option.{option_copied, is_none};
 ghost use Rattle.std.specs.BTreeMap.{values};
 ghost use Rattle.field_merge.specs.Messages.{AreMessages, IsMessage};
-ghost use Rattle.field_merge.specs.Log.{IsRising, at_stamp, field_text, join, last_stamp, messages_after, latest};
-ghost use Rattle.field_merge.specs.Joining.{AreChanged};
+ghost use Rattle.field_merge.specs.Log.{IsRising, at_stamp, field_text, has_field, join, last_stamp, latest, messages_after, value_in};
+ghost use Rattle.field_merge.specs.Joining.{AreChanged, HasOneEach, HaveSame};
+ghost use Rattle.field_merge.specs.declared.message.Message.{Message};
 
 use crate::index::{Index, Messages, enter, take_in, winner_among};
 use crate::later::copies_after;
@@ -55,6 +56,29 @@ pub struct Joined {
     pub changed: Items<Field>,
 }
 
+impl Joined {
+    ghost use Rattle.std.specs.Prelude.{◌≡◌, IfOk};
+
+    /// A copy in memory of its own.
+    pub fn copy(&self, alloc: Global) -> Result<Joined, NoMemory>
+        ensures { IfOk result (λ j. j ≡ self.now) }
+    {
+        Ok(Joined {
+            added: self.added,
+            changed: self.changed.copy(alloc)?,
+        })
+    }
+}
+
+/// What the entry of a message tells.
+#[derive(Clone, Copy, Debug, PartialEq, Eq)]
+pub struct Entered {
+    /// Whether the log did not have its timestamp.
+    pub fresh: bool,
+    /// Whether the message is now the latest of its field, which had another one before, or none.
+    pub latest: bool,
+}
+
 /// The marked fields as a list.
 fn fields_of(alloc: Global, marked: BTreeSet<Field>) -> Result<Items<Field>, NoMemory>
     ensures all { IfOk result (λ fields. fields ≡ marked.keys) }
@@ -84,11 +108,16 @@ impl Log {
         self.spent
     }
 
-    /// Joins copies of the messages of a batch, one after the other.
+    /// Joins copies of the messages of a batch, one after the other. Joining the batch again would change nothing; what joins
+    /// next might as well have stood behind the batch; and where equal timestamps mean equal messages in it, it joins as its
+    /// messages do in any other order and number.
     pub fn join(&mut self, batch: &[Message]) -> Result<Joined, NoMemory>
         requires live { self.old.spent ≡ false }
         requires valid { AreMessages batch.now }
         ensures joined { OnOk result (self.new.messages ≡ join self.old.messages batch.now) }
+        ensures again { OnOk result (join self.new.messages batch.now ≡ self.new.messages) }
+        ensures in_turn { OnOk result ((more : List Message) → join self.new.messages more ≡ join self.old.messages (batch.now ++ more)) }
+        ensures any_order { OnOk result ((other : List Message) → HasOneEach batch.now → HaveSame batch.now other → self.new.messages ≡ join self.old.messages other) }
         ensures added { IfOk result (λ j. length self.old.messages + j.added ≡ length self.new.messages) }
         ensures changed { IfOk result (λ j. AreChanged self.old.messages self.new.messages j.changed) }
         ensures kept { OnOk result (self.new.spent ≡ false) }
@@ -113,8 +142,34 @@ impl Log {
         Ok(Joined { added, changed })
     }
 
-    /// Joins one message, which moves into the log, and says whether its
-    /// timestamp was new.
+    /// Joins one message, which moves into the log, and says whether its timestamp was new and
+    /// whether it is now the latest message of its field. Each other field keeps its latest message.
+    pub fn enter(&mut self, message: Message) -> Result<Entered, NoMemory>
+        requires live { self.old.spent ≡ false }
+        requires valid { IsMessage message }
+        ensures joined { OnOk result (self.new.messages ≡ join self.old.messages (message ∷ [])) }
+        ensures fresh { IfOk result (λ e. e.fresh ≡ is_none (at_stamp self.old.messages message.stamp)) }
+        ensures latest { IfOk result (λ e. (f : FieldNames) → latest self.new.messages f ≡ cond (e.latest && has_field f message) (Some message) (latest self.old.messages f)) }
+        ensures changed { IfOk result (λ e. (e.latest ≡ true) ↔ (latest self.old.messages message.field ≢ latest self.new.messages message.field)) }
+        ensures kept { OnOk result (self.new.spent ≡ false) }
+        ensures spent { OnErr result (self.new.spent ≡ true) }
+    {
+        if self.messages.contains_key(&message.stamp) {
+            return Ok(Entered {
+                fresh: false,
+                latest: false,
+            });
+        }
+        self.spent = true;
+        let latest = enter(self.alloc, &mut self.messages, &mut self.index, message)?;
+        self.spent = false;
+        Ok(Entered {
+            fresh: true,
+            latest,
+        })
+    }
+
+    /// Joins one message, as `enter` does, and says whether its timestamp was new.
     pub fn add(&mut self, message: Message) -> Result<bool, NoMemory>
         requires live { self.old.spent ≡ false }
         requires valid { IsMessage message }
@@ -123,13 +178,8 @@ impl Log {
         ensures kept { OnOk result (self.new.spent ≡ false) }
         ensures spent { OnErr result (self.new.spent ≡ true) }
     {
-        if self.messages.contains_key(&message.stamp) {
-            return Ok(false);
-        }
-        self.spent = true;
-        enter(self.alloc, &mut self.messages, &mut self.index, message)?;
-        self.spent = false;
-        Ok(true)
+        let entered = self.enter(message)?;
+        Ok(entered.fresh)
     }
 
     /// The latest message of a field.
@@ -148,7 +198,7 @@ impl Log {
     /// The value of a field: that of its latest message.
     pub fn value(&self, field: &Field) -> Option<&Value>
         requires { self.now.spent ≡ false }
-        ensures { option_copied result ≡ option_map (λ m. m.value) (latest self.now.messages field.now) }
+        ensures { option_copied result ≡ value_in self.now.messages field.now }
     {
         let message = self.winner(field)?;
         Some(&message.value)

@@ -12,8 +12,6 @@ mod laws;
 pub mod memory;
 pub mod name;
 pub mod steps;
-#[cfg(test)]
-mod tests;
 pub mod text;
 pub mod value;
 

@@ -16,7 +16,7 @@ Fits [] (b ∷ bs) = ⊥
 Fits (p ∷ ps) [] = ⊥
 Fits (p ∷ ps) (b ∷ bs) = (is_allowed p b ≡ true) × Fits ps bs
 
-abbrev is_misfit : ℕ × ℕ → Bool
+abbrev pub is_misfit : ℕ × ℕ → Bool
 is_misfit = λ (place, byte). not (is_allowed place byte)
 
 one_more : (a : Bool) (n : ℕ) (rest : Option ℕ) → cond (not a) (Some n) rest ≡ None → (a ≡ true) × (rest ≡ None)
@@ -47,7 +47,7 @@ pub no_misfit : (t : List ℕ) → Fits form t → misfit t ≡ None
 unfolding misfit
 no_misfit t h = position_from-zero is_misfit (zip form t) ∙ none_from 0 form t h
 
-fits_at : (ps bs : List ℕ) (i : ℕ) → i < length ps → Fits ps bs → is_allowed (get_or ps i 0) (get_or bs i 0) ≡ true
+pub fits_at : (ps bs : List ℕ) (i : ℕ) → i < length ps → Fits ps bs → is_allowed (get_or ps i 0) (get_or bs i 0) ≡ true
 fits_at [] bs i l h = absurd (omega arith)
 fits_at (p ∷ ps) [] i l h = absurd h
 fits_at (p ∷ ps) (b ∷ bs) zero l h = h.0

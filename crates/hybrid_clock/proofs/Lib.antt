@@ -9,3 +9,5 @@ pub mod Writing
 pub mod TextOrder
 pub mod Moving
 pub mod Naming
+pub mod Moments
+pub mod TextFaults

@@ -8,12 +8,21 @@ use Rattle.hybrid_clock.specs.Node.{is_zeros}
 use Rattle.hybrid_clock.specs.Stamp.{window}
 use Rattle.hybrid_clock.specs.Reading.{misfit, is_moment, millis_in, hex_at, stamp_in, read_form, read_moment, read_stamp}
 
+-- a text of the form that names a moment
+pub record Shaped (t : List ℕ) : Type 0 where
+  pub long : length t ≡ 46
+  pub formed : misfit t ≡ None
+  pub moment : is_moment t ≡ true
+
 pub record Passes (t : List ℕ) : Type 0 where
   pub long : length t ≡ 46
   pub formed : misfit t ≡ None
   pub moment : is_moment t ≡ true
   pub within : millis_in t / 60_000 < window
   pub nonzero : is_zeros (drop 30 t) ≡ false
+
+pub shape : (t : List ℕ) → Passes t → Shaped t
+shape t p = record { long = p.long; formed = p.formed; moment = p.moment }
 
 -- a text that passes is read
 pub reads : (t : List ℕ) → Passes t → read_stamp t ≡ Ok (stamp_in t)

@@ -12,19 +12,19 @@ use Rattle.jiff_core.specs.Calendar.{day_count, IsCivilDate}
 use Rattle.jiff_core.proofs.CalendarLemmas.{day_count-day, day_count-lt_year, day_count-lt_month}
 use Rattle.hybrid_clock.specs.declared.stamp.Stamp.{Stamp}
 use Rattle.hybrid_clock.specs.Calendar.{Day, day_of}
-use Rattle.hybrid_clock.specs.Stamp.{IsStamp, stamp_text, head_text, two, three, four, hex, hex_digit}
+use Rattle.hybrid_clock.specs.Stamp.{IsStamp, stamp_text, head_text, window, two, three, four, hex, hex_digit}
 use Rattle.hybrid_clock.specs.Order.{stamp_cmp}
 use Rattle.hybrid_clock.proofs.Days.{IsAt, day_is, civil_date}
 
 -- ---- comparisons of numbers
 
-nat_cmp-lt : (x y : ℕ) → x < y → nat_cmp x y ≡ Less
+pub nat_cmp-lt : (x y : ℕ) → x < y → nat_cmp x y ≡ Less
 nat_cmp-lt x y h = cond-true (nat_lt x y) Less (cond (x == y) Equal Greater) (lt-ltb x y h)
 
 nat_cmp-same : (x : ℕ) → nat_cmp x x ≡ Equal
 nat_cmp-same x = cond-false (nat_lt x x) Less (cond (x == x) Equal Greater) (le-ltb x x (omega arith)) ∙ cond-true (x == x) Equal Greater (eq-eqb x x refl)
 
-nat_cmp-gt : (x y : ℕ) → y < x → nat_cmp x y ≡ Greater
+pub nat_cmp-gt : (x y : ℕ) → y < x → nat_cmp x y ≡ Greater
 nat_cmp-gt x y h = cond-false (nat_lt x y) Less (cond (x == y) Equal Greater) (le-ltb x y (omega arith)) ∙ cond-false (x == y) Equal Greater (ne_eqb x y (λ e. omega (arith, e)))
 
 -- a function that keeps the order of some numbers keeps their comparison
@@ -198,7 +198,7 @@ IsEarlier a b = (a.year < b.year) ⊎ (((a.year ≡ b.year) × (a.month < b.mont
 abbrev day_cmp : Day → Day → Ordering → Ordering
 day_cmp a b rest = ordering_then (nat_cmp a.year b.year) (ordering_then (nat_cmp a.month b.month) (ordering_then (nat_cmp a.day b.day) rest))
 
-equal_cmp : (x y : ℕ) → x ≡ y → nat_cmp x y ≡ Equal
+pub equal_cmp : (x y : ℕ) → x ≡ y → nat_cmp x y ≡ Equal
 equal_cmp x y e = let P : ℕ → Type 0 = λ z. nat_cmp x z ≡ Equal in subst P e (nat_cmp-same x)
 
 earlier_less : (a b : Day) (rest : Ordering) → IsEarlier a b → day_cmp a b rest ≡ Less
@@ -301,12 +301,14 @@ clock_cmp n m rest =
 millis_cmp : (n m : ℕ) (rest : Ordering) → ordering_then (nat_cmp (n / 86_400_000) (m / 86_400_000)) (ordering_then (nat_cmp (n % 86_400_000) (m % 86_400_000)) rest) ≡ ordering_then (nat_cmp n m) rest
 millis_cmp n m rest = step 86_400_000 (n / 86_400_000) (n % 86_400_000) (m / 86_400_000) (m % 86_400_000) n m rest (omega arith) (omega arith) (omega arith) (omega arith)
 
-pub text_order : (a b : Stamp) → IsStamp a → IsStamp b → slice_cmp nat_cmp (stamp_text a) (stamp_text b) ≡ stamp_cmp a b
-text_order a b ha hb =
+-- of any two in the window, whatever their nodes
+pub order_within : (a b : Stamp) → a.millis < 60_000 * window → b.millis < 60_000 * window → slice_cmp nat_cmp (stamp_text a) (stamp_text b) ≡ stamp_cmp a b
+order_within a b within_a within_b =
     let rest : Ordering = cmp_counter (parts a) (parts b) in
-    let within_a = ha.within in
-    let within_b = hb.within in
     (let e = text_parts a in let f = text_parts b in rw (e, f) (dates (parts a) (parts b)))
     ∙ days_cmp (a.millis / 86_400_000) (b.millis / 86_400_000) (cmp_time (parts a) (parts b)) (omega (arith, within_a)) (omega (arith, within_b))
     ∙ under (nat_cmp (a.millis / 86_400_000) (b.millis / 86_400_000)) (clock_cmp (a.millis % 86_400_000) (b.millis % 86_400_000) rest)
     ∙ millis_cmp a.millis b.millis rest
+
+pub text_order : (a b : Stamp) → IsStamp a → IsStamp b → slice_cmp nat_cmp (stamp_text a) (stamp_text b) ≡ stamp_cmp a b
+text_order a b ha hb = order_within a b ha.within hb.within

@@ -13,42 +13,42 @@ use Rattle.hybrid_clock.specs.Reading.{form, two_at, three_at, four_at, hex_valu
 use Rattle.hybrid_clock.proofs.Form.{Fits, fits, allowed_at}
 use Rattle.hybrid_clock.proofs.Digits.{IsDigit, digit_from, two_digits, three_digits, four_digits, IsHex, hex_from, hex_digits, IsSplit, split}
 use Rattle.hybrid_clock.proofs.Days.{days_from_1970, same_day}
-use Rattle.hybrid_clock.proofs.Passing.{Passes, passed}
+use Rattle.hybrid_clock.proofs.Passing.{Shaped, Passes, passed, shape}
 
 -- what a place of the text has
-digit_in : (t : List ℕ) (i : ℕ) → Passes t → get_or form i 0 ≡ 48 → IsDigit (get_or t i 0)
+digit_in : (t : List ℕ) (i : ℕ) → Shaped t → get_or form i 0 ≡ 48 → IsDigit (get_or t i 0)
 digit_in t i p e = digit_from (get_or t i 0) (allowed_at t i 47 p.long p.formed e)
 
-hex_in : (t : List ℕ) (i : ℕ) → Passes t → get_or form i 0 ≡ 88 → IsHex (get_or t i 0)
+hex_in : (t : List ℕ) (i : ℕ) → Shaped t → get_or form i 0 ≡ 88 → IsHex (get_or t i 0)
 hex_in t i p e = hex_from (get_or t i 0) (allowed_at t i 87 p.long p.formed e)
 
-dash_in : (t : List ℕ) (i : ℕ) → Passes t → get_or form i 0 ≡ 45 → 45 ≡ get_or t i 0
+dash_in : (t : List ℕ) (i : ℕ) → Shaped t → get_or form i 0 ≡ 45 → 45 ≡ get_or t i 0
 dash_in t i p e = sym (eqb-true (get_or t i 0) 45 (allowed_at t i 44 p.long p.formed e))
 
-point_in : (t : List ℕ) (i : ℕ) → Passes t → get_or form i 0 ≡ 46 → 46 ≡ get_or t i 0
+point_in : (t : List ℕ) (i : ℕ) → Shaped t → get_or form i 0 ≡ 46 → 46 ≡ get_or t i 0
 point_in t i p e = sym (eqb-true (get_or t i 0) 46 (allowed_at t i 45 p.long p.formed e))
 
-colon_in : (t : List ℕ) (i : ℕ) → Passes t → get_or form i 0 ≡ 58 → 58 ≡ get_or t i 0
+colon_in : (t : List ℕ) (i : ℕ) → Shaped t → get_or form i 0 ≡ 58 → 58 ≡ get_or t i 0
 colon_in t i p e = sym (eqb-true (get_or t i 0) 58 (allowed_at t i 57 p.long p.formed e))
 
-tee_in : (t : List ℕ) → Passes t → 84 ≡ get_or t 10 0
+tee_in : (t : List ℕ) → Shaped t → 84 ≡ get_or t 10 0
 tee_in t p = sym (eqb-true (get_or t 10 0) 84 (allowed_at t 10 83 p.long p.formed refl))
 
-zed_in : (t : List ℕ) → Passes t → 90 ≡ get_or t 23 0
+zed_in : (t : List ℕ) → Shaped t → 90 ≡ get_or t 23 0
 zed_in t p = sym (eqb-true (get_or t 23 0) 90 (allowed_at t 23 89 p.long p.formed refl))
 
 -- the date and the time of a text
-record IsMoment (t : List ℕ) : Type 0 where
-  year : 1970 ≤ four_at t 0
-  year_end : four_at t 0 ≤ 9999
-  month : 1 ≤ two_at t 5
-  month_end : two_at t 5 ≤ 12
-  day : 1 ≤ two_at t 8
-  day_end : two_at t 8 ≤ days_in_month (pos (four_at t 0)) (two_at t 5)
-  hour : two_at t 11 < 24
-  minute : two_at t 14 < 60
-  second : two_at t 17 < 60
-  milli : three_at t 20 < 1000
+pub record IsMoment (t : List ℕ) : Type 0 where
+  pub year : 1970 ≤ four_at t 0
+  pub year_end : four_at t 0 ≤ 9999
+  pub month : 1 ≤ two_at t 5
+  pub month_end : two_at t 5 ≤ 12
+  pub day : 1 ≤ two_at t 8
+  pub day_end : two_at t 8 ≤ days_in_month (pos (four_at t 0)) (two_at t 5)
+  pub hour : two_at t 11 < 24
+  pub minute : two_at t 14 < 60
+  pub second : two_at t 17 < 60
+  pub milli : three_at t 20 < 1000
 
 four_below : (a b c d : ℕ) → IsDigit a → IsDigit b → IsDigit c → IsDigit d → 10 * (10 * (10 * (a - 48) + (b - 48)) + (c - 48)) + (d - 48) ≤ 9999
 four_below a b c d p q r s = omega arith
@@ -56,7 +56,7 @@ four_below a b c d p q r s = omega arith
 three_below : (a b c : ℕ) → IsDigit a → IsDigit b → IsDigit c → 10 * (10 * (a - 48) + (b - 48)) + (c - 48) < 1000
 three_below a b c p q r = omega arith
 
-moment_in : (t : List ℕ) → Passes t → IsMoment t
+pub moment_in : (t : List ℕ) → Shaped t → IsMoment t
 unfolding is_moment
 moment_in t p =
     let both = and_parts (is_date (four_at t 0) (two_at t 5) (two_at t 8)) (is_time (two_at t 11) (two_at t 14) (two_at t 17)) p.moment in
@@ -83,10 +83,10 @@ moment_in t p =
     }
 
 -- the number of its day
-abbrev day_in : List ℕ → ℕ
+abbrev pub day_in : List ℕ → ℕ
 day_in t = unsigned_abs (days_from_civil (pos (four_at t 0)) (two_at t 5) (two_at t 8))
 
-split_in : (t : List ℕ) → Passes t → IsSplit (day_in t) (two_at t 11) (two_at t 14) (two_at t 17) (three_at t 20) (millis_in t)
+pub split_in : (t : List ℕ) → Shaped t → IsSplit (day_in t) (two_at t 11) (two_at t 14) (two_at t 17) (three_at t 20) (millis_in t)
 unfolding millis_in
 split_in t p =
     let m = moment_in t p in
@@ -96,7 +96,7 @@ natural : (z : ℤ) → pos 0 ≤ℤ z → z ≡ pos (unsigned_abs z)
 natural (pos n) h = refl
 natural (negsuc n) h = absurd (omega (arith, signed_arith, h))
 
-number_in : (t : List ℕ) → Passes t → days_from_civil (pos (four_at t 0)) (two_at t 5) (two_at t 8) ≡ pos (day_in t)
+pub number_in : (t : List ℕ) → Shaped t → days_from_civil (pos (four_at t 0)) (two_at t 5) (two_at t 8) ≡ pos (day_in t)
 number_in t p =
     let m = moment_in t p in
     let year = m.year in
@@ -105,14 +105,14 @@ number_in t p =
 -- the date of that day is the text's
 date_in : (t : List ℕ) → Passes t → ((day_of (day_in t)).year ≡ four_at t 0) × ((day_of (day_in t)).month ≡ two_at t 5) × ((day_of (day_in t)).day ≡ two_at t 8)
 date_in t p =
-    let m = moment_in t p in
-    let s = split_in t p in
+    let m = moment_in t (shape t p) in
+    let s = split_in t (shape t p) in
     let early : day_in t < 73_000 = (let within = p.within in let day = s.day in omega (arith, within, day)) in
     let year = m.year in
     let year_end = m.year_end in
     let civil : IsCivilDate (pos (four_at t 0)) (two_at t 5) (two_at t 8) =
     ((omega (arith, signed_arith, year), omega (arith, signed_arith, year_end)), (m.month, m.month_end), (m.day, m.day_end)) in
-    let same = same_day (pos (four_at t 0)) (two_at t 5) (two_at t 8) (day_in t) early civil (number_in t p) in
+    let same = same_day (pos (four_at t 0)) (two_at t 5) (two_at t 8) (day_in t) early civil (number_in t (shape t p)) in
     (let e = same.0 in omega (arith, signed_arith, e), sym same.1, sym same.2)
 
 -- the first n elements from place i on, and then the rest
@@ -130,7 +130,7 @@ and : {a b : ℕ} {xs ys : List ℕ} → a ≡ b → xs ≡ ys → a ∷ xs ≡ 
 and {a} {b} {xs} {ys} e f = ap (λ (x : ℕ). x ∷ xs) e ∙ ap (λ (zs : List ℕ). b ∷ zs) f
 
 -- a head of these numbers, before the rest, is the text
-head_is : (t : List ℕ) (y m d n c : ℕ) → Passes t → y ≡ four_at t 0 → m ≡ two_at t 5 → d ≡ two_at t 8 → n / 3_600_000 ≡ two_at t 11 → n / 60_000 % 60 ≡ two_at t 14 → n / 1000 % 60 ≡ two_at t 17 → n % 1000 ≡ three_at t 20 → c ≡ hex_at t 25 → head_text y m d n c ++ drop 30 t ≡ cells 30 0 t
+head_is : (t : List ℕ) (y m d n c : ℕ) → Shaped t → y ≡ four_at t 0 → m ≡ two_at t 5 → d ≡ two_at t 8 → n / 3_600_000 ≡ two_at t 11 → n / 60_000 % 60 ≡ two_at t 14 → n / 1000 % 60 ≡ two_at t 17 → n % 1000 ≡ three_at t 20 → c ≡ hex_at t 25 → head_text y m d n c ++ drop 30 t ≡ cells 30 0 t
 unfolding head_text
 head_is t y m d n c p year month day hour minute second milli counter =
     let ys = four_digits (get_or t 0 0) (get_or t 1 0) (get_or t 2 0) (get_or t 3 0) y (digit_in t 0 p refl) (digit_in t 1 p refl) (digit_in t 2 p refl) (digit_in t 3 p refl) year in
@@ -153,11 +153,11 @@ head_is t y m d n c p year month day hour minute second milli counter =
 text_is : (t : List ℕ) → Passes t → stamp_text (stamp_in t) ≡ t
 unfolding stamp_text
 text_is t p =
-    let s = split_in t p in
+    let s = split_in t (shape t p) in
     let date = date_in t p in
     let same = s.day in
     let P : ℕ → Type 0 = λ k. head_text (day_of k).year (day_of k).month (day_of k).day (millis_in t % 86_400_000) (hex_at t 25) ++ drop 30 t ≡ t in
-    subst P (sym same) (head_is t (day_of (day_in t)).year (day_of (day_in t)).month (day_of (day_in t)).day (millis_in t % 86_400_000) (hex_at t 25) p
+    subst P (sym same) (head_is t (day_of (day_in t)).year (day_of (day_in t)).month (day_of (day_in t)).day (millis_in t % 86_400_000) (hex_at t 25) (shape t p)
     date.0 date.1 date.2 s.hour s.minute s.second s.milli refl ∙ sym (unrolled 30 0 t (let long = p.long in omega (arith, long))))
 
 fits_drop : (k : ℕ) (ps bs : List ℕ) → Fits ps bs → Fits (drop k ps) (drop k bs)
@@ -179,7 +179,7 @@ counter_below a b c d p q r s = omega arith
 stamp_is : (t : List ℕ) → Passes t → IsStamp (stamp_in t)
 stamp_is t p = record {
   within = (let within = p.within in omega (arith, within));
-  counter = counter_below (hex_value (get_or t 25 0)) (hex_value (get_or t 26 0)) (hex_value (get_or t 27 0)) (hex_value (get_or t 28 0)) (hex_in t 25 p refl).bound (hex_in t 26 p refl).bound (hex_in t 27 p refl).bound (hex_in t 28 p refl).bound;
+  counter = counter_below (hex_value (get_or t 25 0)) (hex_value (get_or t 26 0)) (hex_value (get_or t 27 0)) (hex_value (get_or t 28 0)) (hex_in t 25 (shape t p) refl).bound (hex_in t 26 (shape t p) refl).bound (hex_in t 27 (shape t p) refl).bound (hex_in t 28 (shape t p) refl).bound;
   node = record {
     sixteen = length-drop 30 t ∙ (let long = p.long in omega (arith, long));
     characters = all_fit 16 (drop 30 t) (fits_drop 30 form t (fits t p.long p.formed));

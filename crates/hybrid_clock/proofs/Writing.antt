@@ -9,9 +9,10 @@ use Rattle.hybrid_clock.specs.declared.stamp.Stamp.{Stamp}
 use Rattle.hybrid_clock.specs.Calendar.{day_of}
 use Rattle.hybrid_clock.specs.Stamp.{IsStamp, stamp_text, head_text}
 use Rattle.hybrid_clock.specs.Reading.{form, misfit, two_at, three_at, four_at, hex_at, is_date, is_time, is_moment, millis_in, stamp_in, read_stamp}
+use Rattle.hybrid_clock.specs.Laws.{ShowsTime, TextsShowTimes}
 use Rattle.hybrid_clock.proofs.Form.{Fits, no_misfit}
 use Rattle.hybrid_clock.proofs.Digits.{digit_is, two_value, three_value, four_value, hex_is, hex_counter, joined}
-use Rattle.hybrid_clock.proofs.Days.{day_is, number, is_date-true}
+use Rattle.hybrid_clock.proofs.Days.{day_is, civil_date, number, is_date-true}
 use Rattle.hybrid_clock.proofs.Passing.{Passes, reads}
 
 -- a head whose parts have their digits
@@ -220,3 +221,35 @@ text_reads s h =
     let node = text_rest s in
     let same : stamp_in (stamp_text s) ≡ s = rw (millis, counter, node) refl in
     reads (stamp_text s) (text_passes s h) ∙ ap (λ (x : Stamp). Ok x) same
+
+-- the text of a timestamp shows its time
+shows_time : (s : Stamp) → IsStamp s → ShowsTime (stamp_text s) s.millis
+shows_time s h =
+    let parts = text_parts s h in
+    let short = short_day s h in
+    let year = parts.year in
+    let month = parts.month in
+    let day = parts.day in
+    record {
+      calendar = rw (year, month, day) (civil_date (day_number s) short);
+      date = rw (year, month, day) (number (day_number s) short);
+      hour = (let e = parts.hour in e ∙ hours s.millis);
+      minute = (let e = parts.minute in e ∙ minutes s.millis);
+      second = (let e = parts.second in e ∙ seconds s.millis);
+      millisecond = (let e = parts.milli in e ∙ milliseconds s.millis);
+    }
+  where
+    hours : (n : ℕ) → n % 86_400_000 / 3_600_000 ≡ n / 3_600_000 % 24
+    hours n = omega arith
+
+    minutes : (n : ℕ) → n % 86_400_000 / 60_000 % 60 ≡ n / 60_000 % 60
+    minutes n = omega arith
+
+    seconds : (n : ℕ) → n % 86_400_000 / 1000 % 60 ≡ n / 1000 % 60
+    seconds n = omega arith
+
+    milliseconds : (n : ℕ) → n % 86_400_000 % 1000 ≡ n % 1000
+    milliseconds n = omega arith
+
+pub texts_show_times_lem : TextsShowTimes
+texts_show_times_lem s h = (shows_time s h, (text_parts s h).counter, text_rest s)

@@ -22,6 +22,6 @@ day_from_year (suc more) y n =
     if nat_lt n (days_in_year (pos y)) then day_from_month 11 y 1 n
     else day_from_year more (y + 1) (n - days_in_year (pos y))
 
--- n days after 1 January 1970, for the two hundred years that follow
+-- n days after 1 January 1970, for the two hundred years that follow. Timestamps end in 2051; what speaks of later days, as books do, cites the kit's calendar alone, with which the law `date_of_number` ties these dates
 abbrev pub day_of : ℕ → Day
 day_of n = day_from_year 200 1970 n

@@ -4,4 +4,6 @@ pub mod Stamp
 pub mod Reading
 pub mod Order
 pub mod Clock
+pub mod Moments
+pub mod Faults
 pub mod Laws

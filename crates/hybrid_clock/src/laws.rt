@@ -1,5 +1,7 @@
 //! Facts about all timestamps and texts, which a proof can call for.
-ghost use Rattle.hybrid_clock.specs.Laws.{ClocksMove, DatesAreCivil, NodesAreNamed, StampsReadBack, StampsWriteBack, StampsAreInOrder};
+ghost use Rattle.hybrid_clock.specs.Faults.{StampFaultsAreTold};
+ghost use Rattle.hybrid_clock.specs.Moments.{MomentsAreInOrder};
+ghost use Rattle.hybrid_clock.specs.Laws.{ClocksBegin, ClocksMove, DatesAreCivil, DrawsAreRefused, NodesAreNamed, ReceivesAreRefused, StampsAreInOrder, StampsReadBack, StampsWriteBack, TextsShowTimes};
 
 /// A law: the date that a timestamp's text shows is the civil date with as many days since 1970 as its milliseconds make.
 pub fn date_of_number()
@@ -18,6 +20,29 @@ pub fn clocks_move()
     ensures { ClocksMove }
 {}
 
+/// A law: where a clock begins. It has its own node, and the time and the counter of the last message, or 0 and 0.
+pub fn clocks_begin()
+    ensures { ClocksBegin }
+{}
+
+/// A law: which draws and which messages are refused, and for what. A reading past the window comes first, then a time that is
+/// more than 300,000 milliseconds ahead of the reading, the message's before the clock's, then a counter above 65,535. With
+/// `clocks_move` it says of each draw and each receive what comes of it.
+pub fn clocks_refuse()
+    ensures draws { DrawsAreRefused }
+    ensures receives { ReceivesAreRefused }
+{}
+
+/// A law: the text of a timestamp shows the date and the time of the day that its milliseconds make, its counter and its node.
+pub fn texts_show_times()
+    ensures { TextsShowTimes }
+{}
+
+/// A law: a fault is told of a text exactly where it is the first thing that is wrong with it.
+pub fn stamp_faults_are_told()
+    ensures { StampFaultsAreTold }
+{}
+
 /// A law: what is written is read back, so no two timestamps have one text.
 pub fn text_reads_back()
     ensures { StampsReadBack }
@@ -27,6 +52,11 @@ pub fn text_reads_back()
 /// timestamp.
 pub fn read_writes_back()
     ensures { StampsWriteBack }
+{}
+
+/// A law: the text of a timestamp is greater than that of a moment exactly where the moment isn't later.
+pub fn moments_are_in_order()
+    ensures { MomentsAreInOrder }
 {}
 
 /// A law: timestamps are ordered as their texts are byte by byte.

@@ -15,10 +15,10 @@ mod write;
 
 pub use clock::{ClockFault, HybridClock};
 pub use laws::{
-    clocks_move, date_of_number, nodes_are_named, order_of_texts, read_writes_back, text_reads_back,
+    clocks_begin, clocks_move, clocks_refuse, date_of_number, moments_are_in_order,
+    nodes_are_named, order_of_texts, read_writes_back, stamp_faults_are_told, text_reads_back,
+    texts_show_times,
 };
 pub use node::{Node, NodeFault};
 pub use stamp::{Stamp, StampFault};
-
-#[cfg(test)]
-mod tests;
+pub use write::moment_text;

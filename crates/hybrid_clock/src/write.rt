@@ -1,8 +1,10 @@
-//! Writing the text of a timestamp.
-ghost use Rattle.std.specs.Prelude.{◌≡◌, ◌<◌, Ok};
+//! Writing the texts of timestamps and of moments.
+ghost use Rattle.std.specs.Prelude.{◌≡◌, ◌*◌, ◌<◌, Ok, length};
 ghost use Rattle.hybrid_clock.specs.Calendar.{day_of};
 ghost use Rattle.hybrid_clock.specs.Stamp as spec;
-ghost use Rattle.hybrid_clock.specs.Stamp.{stamp_text, head_text, IsStamp};
+ghost use Rattle.hybrid_clock.specs.Stamp.{stamp_text, head_text, IsStamp, window};
+ghost use Rattle.hybrid_clock.specs.Clock.{stands_at};
+ghost use Rattle.hybrid_clock.specs.Moments as moments;
 ghost use Rattle.hybrid_clock.specs.Reading.{read_stamp};
 
 use crate::stamp::Stamp;
@@ -10,19 +12,37 @@ use jiff_core::civil::Date;
 
 impl Stamp {
     /// Writes the 46 characters of its text, as `2024-01-05T10:00:00.000Z-0000-00000000000000aa`.
-    #[tactic(auto, unfolding(crate::specs::Stamp::stamp_text))]
     pub fn write_text(&self, out: &mut [u8; 46])
         requires { IsStamp self.now }
         ensures text { out.new ≡ stamp_text self.now }
         ensures reads_back { read_stamp out.new ≡ Ok self.now }
     {
-        let day = day_of_number((self.millis / 86_400_000) as u32);
-        let millis = (self.millis % 86_400_000) as u32;
-        let head = head(day.0, day.1, day.2, millis, self.counter);
-        let node = self.node.bytes();
-        out[..30].copy_from_slice(&head);
-        out[30..].copy_from_slice(&node);
+        fill(out, self.millis, self.counter, &self.node.bytes());
     }
+}
+
+/// The text of a moment, by its milliseconds since the start of 1970: that of a timestamp of this
+/// time with the counter 0 and a node of `0` alone, which no device has. So it is less than the
+/// text of each timestamp of its time or a later one, and greater than those of earlier ones.
+pub fn moment_text(millis: u64) -> [u8; 46]
+    requires { millis < 60_000 * window }
+    ensures { result ≡ moments.moment_text millis }
+{
+    let mut text = [b'0'; 46];
+    fill(&mut text, millis, 0, &[b'0'; 16]);
+    text
+}
+
+/// Fills in the text of a time, a counter and a node.
+#[tactic(auto, unfolding(crate::specs::Stamp::stamp_text))]
+fn fill(out: &mut [u8; 46], millis: u64, counter: u16, node: &[u8; 16])
+    requires { millis < 60_000 * window }
+    ensures { out.new ≡ stamp_text (stands_at node.now millis counter) }
+{
+    let day = day_of_number((millis / 86_400_000) as u32);
+    let head = head(day.0, day.1, day.2, (millis % 86_400_000) as u32, counter);
+    out[..30].copy_from_slice(&head);
+    out[30..].copy_from_slice(node);
 }
 
 /// The year, month and day of a day counted from 1 January 1970.

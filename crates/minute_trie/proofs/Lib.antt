@@ -20,3 +20,4 @@ pub mod Shapes
 pub mod RoundsMade
 pub mod WayDown
 pub mod FirstMinute
+pub mod Placing

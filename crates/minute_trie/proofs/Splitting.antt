@@ -101,7 +101,7 @@ below_three (suc zero) t r h k = omega arith
 below_three (suc (suc zero)) t r h k = omega arith
 below_three (suc (suc (suc b))) t r h k = absurd (omega arith)
 
-mod_split : (m t : ℕ) → 0 < t → m % (t * 3) ≡ m / t % 3 * t + m % t
+pub mod_split : (m t : ℕ) → 0 < t → m % (t * 3) ≡ m / t % 3 * t + m % t
 mod_split m t h =
     let q : ℕ = m / t in
     let small : q % 3 < 3 = omega arith in

@@ -1,16 +1,18 @@
 -- What the laws say of the definitions that the contracts cite.
-use Rattle.std.specs.Prelude.{◌≡◌, ◌≢◌, ◌↔◌, ◌<◌, ◌≤◌, ◌*◌, ◌++◌, ◌⊎◌, ℕ, List, [], ◌∷◌, filter, length, Option, Some, None, true, false}
+use Rattle.std.specs.Prelude.{◌≡◌, ◌≢◌, ◌↔◌, ◌<◌, ◌≤◌, ◌*◌, ◌+◌, ◌++◌, ◌⊎◌, ℕ, List, [], ◌∷◌, filter, length, Option, Some, None, true, false}
+use Rattle.std.specs.Int.{w32, cast_unsigned}
 use Rattle.std.specs.List.Sorted.{IsPermutation}
 use Rattle.hybrid_clock.specs.declared.stamp.Stamp.{Stamp}
-use Rattle.hybrid_clock.specs.Stamp.{IsStamp}
+use Rattle.hybrid_clock.specs.Stamp.{IsStamp, stamp_text, window}
 use Rattle.minute_trie.specs.declared.key.Digit.{Digit}
 use Rattle.minute_trie.specs.declared.trie.Trie.{Trie}
 use Rattle.minute_trie.specs.Key.{key}
+use Rattle.minute_trie.specs.Murmur.{murmur}
 use Rattle.minute_trie.specs.Pruned.{begins, present, kept}
 use Rattle.minute_trie.specs.Held.{Held, IsMap}
 use Rattle.minute_trie.specs.Trie.{Pair, stamp_pair, entries_of, trie_of, IsTrieOf, IsPair, ArePairs}
 use Rattle.minute_trie.specs.Adding.{with_pair}
-use Rattle.minute_trie.specs.Diff.{digit_value, end_of_walk, difference}
+use Rattle.minute_trie.specs.Diff.{digit_value, end_of_walk, minute_of, difference}
 use Rattle.minute_trie.specs.Json.{trie_text}
 use Rattle.minute_trie.specs.Faults.{fault_of_text, map_of_text, IsReadingOf}
 use Rattle.minute_trie.specs.Rounds.{is_from, IsRound, IsProperPrefix, Sides, end_of_sides, difference_of_sides, IsRoundOfSides, AreRounds}
@@ -26,6 +28,15 @@ pub record OrderIsFree : Type 0 where
 abbrev pub PrunedForGood : Type 0
 PrunedForGood = (pairs more : List Pair) (p : List Digit) → present (entries_of pairs) p ≡ true → kept (entries_of pairs) p ≡ false →
     kept (entries_of (pairs ++ more)) p ≡ false
+
+-- where a timestamp stands in a trie
+pub record StampsArePlaced : Type 0 where
+  -- its pair has the minute in which its time lies
+  pub minute : (stamp : Stamp) → (60_000 * (stamp_pair stamp).0 ≤ stamp.millis) × (stamp.millis < 60_000 * ((stamp_pair stamp).0 + 1))
+  -- and the hash of its text, as a pattern of 32 bits
+  pub hash : (stamp : Stamp) → cast_unsigned w32 (stamp_pair stamp).1 ≡ murmur (stamp_text stamp)
+  -- the key of a minute has sixteen digits, which write it to the base 3, the digit with the greatest worth first
+  pub key : (minute : ℕ) → minute < window → (length (key minute) ≡ 16) × (minute_of (key minute) ≡ minute)
 
 -- each trie that there is holds a map of at most sixteen digits
 pub record TriesAreMaps : Type 0 where

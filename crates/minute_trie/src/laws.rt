@@ -1,5 +1,5 @@
 //! Laws of the definitions that the contracts cite.
-ghost use Rattle.minute_trie.specs.Laws.{OrderIsFree, PrunedForGood, TriesAreMaps, TextsReadBack, DifferencesAreFound, RoundsEnd, RoundsAreMade};
+ghost use Rattle.minute_trie.specs.Laws.{OrderIsFree, PrunedForGood, TriesAreMaps, TextsReadBack, DifferencesAreFound, RoundsEnd, RoundsAreMade, StampsArePlaced};
 
 /// The trie of a list does not depend on the order of the list.
 pub fn order_free()
@@ -9,6 +9,12 @@ pub fn order_free()
 /// A string that is present and not kept is not kept after further pairs.
 pub fn pruned_for_good()
     ensures { PrunedForGood }
+{}
+
+/// A timestamp stands in a trie by its minute, as sixteen digits to the base 3, with the hash of its
+/// text.
+pub fn stamps_are_placed()
+    ensures { StampsArePlaced }
 {}
 
 /// Each trie that there is holds a map of at most 16 digits: the trie of a list of pairs, as

@@ -3,4 +3,8 @@
 #![tactic(auto)]
 
 #[cfg(test)]
+mod device;
+#[cfg(test)]
+mod kept;
+#[cfg(test)]
 mod lines;

@@ -1,9 +1,10 @@
-use Rattle.std.proofs.Common.{◌≡◌, ◌∙◌, ◌+◌, ◌++◌, ◌∷◌, [], sym, ap, arith, cond, length, take}
-use Rattle.std.proofs.lemmas.List.{take_more}
+use Rattle.std.proofs.Common.{◌≡◌, ◌∙◌, ◌+◌, ◌++◌, ◌∷◌, [], List, sym, ap, subst, arith, cond, length, take}
+use Rattle.std.proofs.lemmas.List.{take_all, take_more}
 use Rattle.std.specs.BTreeMap.{values}
+use Rattle.field_merge.specs.declared.message.Message.{Message}
 use Rattle.field_merge.specs.Log.{join, join_one}
-use Rattle.field_merge.proofs.Joining.{in_turn}
-use Rattle.field_merge.proofs.Stored.{are-changed, length-join_one}
+use Rattle.field_merge.proofs.Joining.{again, in_any_order, in_turn}
+use Rattle.field_merge.proofs.Stored.{are-changed, length-join_one, rising_from}
 use Rattle.field_merge.proofs.log.Log.join.Goals as goal
 use Rattle.field_merge.proofs.log.Log.join.Goals.{then-branch, else-branch}
 
@@ -39,3 +40,26 @@ returns-clause-changed c =
     rw (← c.self.view_is)
     (are-changed (values c.self.inside.messages) (values c.loop-message.self-inside.messages) c.loop-message.changed c.in_ok-changed.changed
     c.in_ok-changed.ensures.all c.in_ok-changed.ensures.ordered c.loop-message.invariant.marked)
+
+pub returns-clause-again : goal.returns-clause-again
+returns-clause-again c =
+    let all = take_all c.loop-message.message-index c.args.batch.now (omega arith) in
+    let is : values c.loop-message.self-inside.messages ≡ join (values c.self.inside.messages) c.args.batch.now = c.loop-message.invariant.joined ∙ ap (join (values c.self.inside.messages)) all in
+    subst (λ (ms : List Message). join ms c.args.batch.now ≡ ms) (sym is) (again (values c.self.inside.messages) c.args.batch.now)
+
+pub returns-clause-in_turn : goal.returns-clause-in_turn
+returns-clause-in_turn c =
+    rw (← c.self.view_is)
+    (λ more.
+    let all = take_all c.loop-message.message-index c.args.batch.now (omega arith) in
+    let is : values c.loop-message.self-inside.messages ≡ join (values c.self.inside.messages) c.args.batch.now = c.loop-message.invariant.joined ∙ ap (join (values c.self.inside.messages)) all in
+    ap (λ (ms : List Message). join ms more) is ∙ in_turn (values c.self.inside.messages) c.args.batch.now more)
+
+pub returns-clause-any_order : goal.returns-clause-any_order
+returns-clause-any_order c =
+    rw (← c.self.view_is)
+    (λ other one have.
+    let all = take_all c.loop-message.message-index c.args.batch.now (omega arith) in
+    let is : values c.loop-message.self-inside.messages ≡ join (values c.self.inside.messages) c.args.batch.now = c.loop-message.invariant.joined ∙ ap (join (values c.self.inside.messages)) all in
+    let rising = rising_from c.self.inside.messages.entries c.self.invariant.entries_stand.own c.self.invariant.entries_stand.rising in
+    is ∙ in_any_order (values c.self.inside.messages) c.args.batch.now other rising one have)

@@ -1,23 +1,13 @@
-use Rattle.std.proofs.Common.{◌≡◌, arith, refl, ◌∙◌, length, ap, length-take, length-drop, length-append}
+use Rattle.std.proofs.Common.{◌≡◌, ◌∙◌, ap, List, ℕ}
+use Rattle.hybrid_clock.specs.declared.stamp.Stamp.{Stamp}
 use Rattle.hybrid_clock.specs.Stamp.{stamp_text}
-use Rattle.hybrid_clock.specs.Calendar.{Day}
+use Rattle.hybrid_clock.specs.Clock.{stands_at}
 use Rattle.hybrid_clock.specs.Reading.{read_stamp}
-use Rattle.hybrid_clock.proofs.Pieces.{assembled}
 use Rattle.hybrid_clock.proofs.Writing.{text_reads}
 use Rattle.hybrid_clock.proofs.stamp.Stamp.write_text.Goals as goal
 
-pub returns-clause-text : goal.returns-clause-text
-unfolding stamp_text
-returns-clause-text c =
-    let out : length c.args.out.now ≡ 46 = omega arith in
-    let first : length c.copy_from_slice.new.self ≡ 30 = c.copy_from_slice.ensures.len ∙ simp length-take (omega arith) in
-    let second : length c.copy_from_slice-2.new.self ≡ 16 = c.copy_from_slice-2.ensures.len ∙ simp (length-take, length-drop, length-append) (omega arith) in
-    let day = c.day_of_number-day.ensures.value in
-    let year = ap (λ (d : Day). d.year) day in
-    let month = ap (λ (d : Day). d.month) day in
-    let number = ap (λ (d : Day). d.day) day in
-    assembled 30 16 c.copy_from_slice.new.self c.copy_from_slice-2.new.self c.args.out.now first second out
-    ∙ rw (c.copy_from_slice.ensures.after, c.copy_from_slice-2.ensures.after, c.head-head.ensures, c.bytes-node.ensures.value, year, month, number) refl
-
 pub returns-clause-reads_back : goal.returns-clause-reads_back
-returns-clause-reads_back c = ap read_stamp (returns-clause-text c) ∙ text_reads c.args.self.now c.requires
+returns-clause-reads_back c =
+    let s = c.args.self.now in
+    let same : stands_at c.bytes.result s.millis s.counter ≡ s = ap (λ (node : List ℕ). stands_at node s.millis s.counter) c.bytes.ensures.value in
+    ap read_stamp c.fill.ensures ∙ ap (λ (x : Stamp). read_stamp (stamp_text x)) same ∙ text_reads s c.requires

@@ -1,5 +1,0 @@
-use Rattle.std.proofs.Common.{◌≡◌, false}
-use Rattle.field_merge.proofs.log_tests.lets_go.Given as goal
-
-abbrev pub invariant-loop-millis : goal.invariant-loop-millis
-invariant-loop-millis g l = record { live : l.latest.spent ≡ false }
