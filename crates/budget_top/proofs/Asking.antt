@@ -127,6 +127,7 @@ mode_is pairs m e = of_given (value_in pairs mode) refl e
         let same : Device ≡ m = cc in
         subst (IsModeOf pairs) same (value_given pairs mode (codes "device") (given ∙ ap (λ x. Some x) ((bytes_eq-Decides word (codes "device")).0 g)))
     named word false false given f g e = absurd (cc)
+
     of_given : (o : Option (List ℕ)) → value_in pairs mode ≡ o → mode_named (unwrap_or o []) ≡ Ok m → IsModeOf pairs m
     of_given None f e = absurd (cc)
     of_given (Some word) f e = named word (bytes_eq word (codes "merge")) (bytes_eq word (codes "device")) f refl refl e
@@ -143,6 +144,7 @@ node_is pairs m node e = of_given m (value_in pairs (codes "node")) refl e
     named m text (Ok found) given f e =
         let same : ◌≡◌ {A = Option (List ℕ)} (Some found) node = cc in
         subst (IsNodeOf pairs m) same (text, value_given pairs (codes "node") text given, f)
+
     of_given : (m : Mode) (o : Option (List ℕ)) → value_in pairs (codes "node") ≡ o → node_for m o ≡ Ok node → IsNodeOf pairs m node
     of_given Merge None f e =
         let same : ◌≡◌ {A = Option (List ℕ)} None node = cc in subst (IsNodeOf pairs Merge) same (value_absent pairs (codes "node") f, refl)
@@ -196,6 +198,7 @@ count_asked pairs count e = of_given (value_in pairs (codes "count")) refl e
     said text None given f e = absurd (cc)
     said text (Some number) given f e =
         let same : number ≡ count = cc in inl (text, value_given pairs (codes "count") text given, subst (IsCount text) same (count_is text number f))
+
     of_given : (o : Option (List ℕ)) → value_in pairs (codes "count") ≡ o → count_from o ≡ Ok count → IsCountOf pairs count
     of_given None f e = let same : 1000 ≡ count = cc in inr (value_absent pairs (codes "count") f, sym same)
     of_given (Some text) f e = said text (count_of text) f refl e
@@ -241,7 +244,13 @@ planned_is pairs plan e =
     let group = then_ok (name_or Name (unwrap_or (value_in pairs (codes "group")) (codes "home"))) _ plan file.2 in
     let none = store_is (value_in pairs (codes "store")) store.0 store.1 in
     let made : Plan = record {
-      mode = m.0; store = None; node = node.0; token = token.0; file = file.0; group = group.0; count = count.0;
+      mode = m.0;
+      store = None;
+      node = node.0;
+      token = token.0;
+      file = file.0;
+      group = group.0;
+      count = count.0;
       listen = unwrap_or (value_in pairs (codes "listen")) (codes "127.0.0.1:5006");
       peer = unwrap_or (value_in pairs (codes "peer")) (codes "127.0.0.1:5006");
     } in
@@ -271,8 +280,15 @@ is_planned pairs plan once h =
     ok_then (name_or Name (unwrap_or (value_in pairs (codes "file")) (codes "home"))) _ plan.file plan (is_named Name pairs (codes "file") (codes "home") plan.file once h.file) (
     ok_then (name_or Name (unwrap_or (value_in pairs (codes "group")) (codes "home"))) _ plan.group plan (is_named Name pairs (codes "group") (codes "home") plan.group once h.group) (
     λ i. Ok (record {
-      mode = plan.mode; store = store i; node = plan.node; token = plan.token; file = plan.file; group = plan.group; count = plan.count;
-      listen = listen i; peer = peer i;
+      mode = plan.mode;
+      store = store i;
+      node = plan.node;
+      token = plan.token;
+      file = plan.file;
+      group = plan.group;
+      count = plan.count;
+      listen = listen i;
+      peer = peer i;
     }))))))))
 
 once_of : (words : List (List ℕ)) (pairs : List Pair) → line words ≡ Some pairs → each_once pairs ≡ true
@@ -281,6 +297,7 @@ once_of words pairs e = of_parts (parts anywhere words) e
     of_line : (ps : List Pair) (t : Bool) → is_line ps ≡ t → cond t (Some ps) None ≡ Some pairs → each_once pairs ≡ true
     of_line ps false f e = absurd (cc)
     of_line ps true f e = let same : ps ≡ pairs = cc in subst (λ (x : List Pair). each_once x ≡ true) same (and_parts (each_once ps) (has mode ps) f).0
+
     of_parts : (o : Option (List Pair)) → line_of o ≡ Some pairs → each_once pairs ≡ true
     of_parts None e = absurd (cc)
     of_parts (Some ps) e = of_line ps (is_line ps) refl e

@@ -96,10 +96,13 @@ find_counts (line ∷ lines) s m e = by (judged line) refl (find_counts lines s 
           same_stamp s n h,
         )
     on_stamp n false v h on e =
-        let rest = on e in
-        (behind_line line lines m (λ k of_line both. let same : n ≡ k = one_message line k n of_line v in
-            let yes : has_stamp s n ≡ true = subst (λ (x : Message). has_stamp s x ≡ true) (sym same) (subst (λ (t : Stamp). has_stamp t k ≡ true) (both ∙ rest.1) (has_same k)) in
-            let clash : true ≡ false = sym yes ∙ h in cc) rest.0, rest.1)
+        let rest = on e in (
+          behind_line line lines m (λ k of_line both. let same : n ≡ k = one_message line k n of_line v in
+              let yes : has_stamp s n ≡ true = subst (λ (x : Message). has_stamp s x ≡ true) (sym same) (subst (λ (t : Stamp). has_stamp t k ≡ true) (both ∙ rest.1) (has_same k)) in
+              let clash : true ≡ false = sym yes ∙ h in cc) rest.0,
+          rest.1,
+        )
+
     by : (v : Verdict) → judged line ≡ v → (at_stamp (messages_of lines) s ≡ Some m → Counts lines m × (m.stamp ≡ s))
         → at_stamp (message_in (judged line) ++ messages_of lines) s ≡ Some m → Counts (line ∷ lines) m × (m.stamp ≡ s)
     by (Err word) v on e =

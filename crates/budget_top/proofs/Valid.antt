@@ -132,6 +132,7 @@ edited_valid s (Book (Set dataset row column value)) reading is valid = by (name
   where
     field : FieldNames
     field = record { dataset = dataset; row = row; column = column }
+
     by : (o : Option NameFault) → names_fault field ≡ o → LeavesValid (writing s reading (write_unless o field value))
     by None e = writing_valid s reading (record { field = field; value = value } ∷ []) is ((names_without_fault field e, valid), tt)
     by (Some fault) e = tt
@@ -154,6 +155,7 @@ asked_valid law line = by (is_utf8 line)
     read : (found : Result Command ℕ) → command line ≡ found → AsksValid found
     read (Ok found) e = (law line found e).0
     read (Err index) e = tt
+
     by : (text : Bool) → AsksValid (if text then command line else Err 0)
     by true = read (command line) refl
     by false = tt

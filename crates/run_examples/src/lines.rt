@@ -247,7 +247,11 @@ fn lines_are_answered(rt: HostRuntime) -> Result<(), Fail> {
     let alloc = rt.alloc();
     for (line, text) in ANSWERS {
         let told = answered(alloc, line)?;
-        assert_eq!(rt; told.as_ref().map(|told| told.as_str()), Some(text), "at {line}");
+        assert_eq!(rt;
+            told.as_ref().map(|told| told.as_str()),
+            Some(text),
+            "at {line}"
+        );
     }
     let trie = answered(alloc, "trie")?;
     assert_eq!(rt; trie.as_ref().map(|told| told.as_str()), Some(TRIE));
