@@ -7,13 +7,10 @@ mod clock;
 #[cfg(test)]
 mod messages;
 #[cfg(test)]
+mod ports;
+#[cfg(test)]
 mod tries;
 #[cfg(test)]
 mod values;
 #[cfg(test)]
 mod wire;
-//! Examples of the lower layers, over their public calls: each file shows one crate.
-#![tactic(auto)]
-
-#[cfg(test)]
-mod ports;

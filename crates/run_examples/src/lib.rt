@@ -5,8 +5,9 @@
 #[cfg(test)]
 mod device;
 #[cfg(test)]
-mod kept;
 mod devices;
+#[cfg(test)]
+mod kept;
 #[cfg(test)]
 mod lines;
 #[cfg(test)]
