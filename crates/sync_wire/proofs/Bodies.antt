@@ -1,5 +1,5 @@
 -- Requests, replies and contents that are written are read, and those of the one spelling that are read are written.
-use Rattle.std.proofs.Common.{◌≡◌, ℕ, ◌+◌, ◌-◌, ◌^◌, ◌<◌, ◌≤◌, true, false, List, [], ◌∷◌, ◌++◌, length, Option, Some, None, Result, Ok, Err, IsUtf8, refl, sym, ap, subst, ◌∙◌, append_assoc, length-append, arith}
+use Rattle.std.proofs.Common.{◌≡◌, ℕ, ◌-◌, ◌^◌, ◌<◌, ◌≤◌, true, false, List, [], ◌∷◌, ◌++◌, length, Option, Some, None, Result, Ok, Err, IsUtf8, refl, sym, ap, subst, ◌∙◌, append_assoc, length-append, arith}
 use Rattle.std.proofs.lemmas.List.{append-nil}
 use Rattle.std.proofs.lemmas.List.Concat.{flat_map-cons}
 use Rattle.std.specs.List.{flat_map, AllByRecursion}
@@ -14,15 +14,15 @@ use Rattle.sync_wire.specs.declared.response.SyncResponse.{SyncResponse}
 use Rattle.sync_wire.specs.Reading.{fault_of}
 use Rattle.sync_wire.specs.Layouts.{allows}
 use Rattle.sync_wire.specs.Fields.{Tagged}
-use Rattle.sync_wire.specs.Envelope.{Written, content_check, content_of, content_at, message_from, envelope_at}
+use Rattle.sync_wire.specs.Envelope.{Written, content_check, content_of, content_at, envelope_at}
 use Rattle.sync_wire.specs.Spelling.{Means}
 use Rattle.sync_wire.specs.Wire.{envelope_fault, request_check, request_of, request_at, response_check, response_of, response_at, IsRequest, IsResponse, IsMessageContent}
 use Rattle.sync_wire.specs.Gather.{with_request_field, with_response_field}
-use Rattle.sync_wire.specs.Canon.{text_field, bytes_field, Parts, envelope_spelled, envelope_field, content_spelled, written_of, parts_of, content_bytes, message_field, request_bytes, response_bytes}
+use Rattle.sync_wire.specs.Canon.{text_field, Parts, envelope_spelled, envelope_field, content_spelled, written_of, parts_of, content_bytes, message_field, request_bytes, response_bytes}
 use Rattle.sync_wire.specs.Laws.{HasTexts, RequestTexts, ResponseTexts}
 use Rattle.sync_wire.proofs.Gather.{IsOn, is_over}
 use Rattle.sync_wire.proofs.Totals.{is_meant, is_read, content_meant, request_begin, response_begin}
-use Rattle.sync_wire.proofs.Codec.{held, bytes_field_is, bytes_field_len, passes, taken, Checks, Fine, fine_of_utf8, fine_of_ok, text_passes}
+use Rattle.sync_wire.proofs.Codec.{held, bytes_field_is, bytes_field_len, passes, taken, Fine, fine_of_utf8, fine_of_ok, text_passes}
 use Rattle.sync_wire.proofs.Envelopes.{content_read, content_back, message_again, message_said, envelope_read, envelope_back}
 
 -- ---- envelopes, of a request and of a reply

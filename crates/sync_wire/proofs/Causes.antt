@@ -1,16 +1,15 @@
 -- A fault that is told of a field has its cause.
-use Rattle.std.proofs.Common.{◌≡◌, ◌⊎◌, inl, inr, ℕ, zero, suc, ◌+◌, ◌-◌, ◌*◌, ◌/◌, ◌%◌, ◌^◌, ◌<◌, ◌≤◌, All, Bool, true, false, cond, ltb, eqb, List, [], ◌∷◌, ◌++◌, length, take, drop, Result, Ok, Err, refl, sym, ap, subst, ◌∙◌, arith}
-use Rattle.std.proofs.lemmas.Bool.{ltb-true, ltb-false, eqb-true, eqb-false}
+use Rattle.std.proofs.Common.{◌≡◌, ◌⊎◌, inl, inr, ℕ, zero, suc, ◌+◌, ◌-◌, ◌*◌, ◌/◌, ◌%◌, ◌^◌, ◌<◌, ◌≤◌, Bool, true, false, cond, ltb, eqb, List, [], ◌∷◌, ◌++◌, length, take, drop, Result, Ok, Err, refl, sym, ap, subst, arith}
+use Rattle.std.proofs.lemmas.Bool.{ltb-true, ltb-false, eqb-true}
 use Rattle.std.proofs.lemmas.List.Elements.{All-from_recursion}
 use Rattle.std.specs.List.{AllByRecursion}
 use Rattle.sync_wire.specs.declared.fault.WireFault.{WireFault}
 use Rattle.sync_wire.specs.declared.fault.WireFault.TheVariants.{Truncated, BadTag, LongVarint}
-use Rattle.sync_wire.specs.declared.layout.Layout.{Layout}
 use Rattle.sync_wire.specs.Reading.{◌>>=◌}
 use Rattle.sync_wire.specs.Layouts.{allows}
 use Rattle.sync_wire.specs.Fields.{Payload, Number, Fixed, Bytes, Tagged, digits, number_at, fixed_at, bytes_at, payload_at, field_at}
-use Rattle.sync_wire.specs.Spelling.{Spells, IsNumber}
-use Rattle.sync_wire.specs.Causes.{IsCut, IsEndless, IsLarge, IsNumberFault, IsShort, IsBodyFault, IsTagged, IsFieldFault, FaultsHaveCauses}
+use Rattle.sync_wire.specs.Spelling.{IsNumber}
+use Rattle.sync_wire.specs.Causes.{IsNumberFault, IsShort, IsBodyFault, FaultsHaveCauses}
 use Rattle.sync_wire.proofs.Spelled.{digits_takes, number_takes, kind_allowed}
 
 bind_err : {A B : Type 0} (r : Result A WireFault) (f : A → Result B WireFault) (e : WireFault) → (r >>= f) ≡ Err e → (r ≡ Err e) ⊎ ((x : A) × (r ≡ Ok x) × (f x ≡ Err e))

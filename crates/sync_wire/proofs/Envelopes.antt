@@ -1,9 +1,8 @@
 -- Contents and envelopes that are written are read, and those of the one spelling that are read are written.
-use Rattle.std.proofs.Common.{◌≡◌, ℕ, ◌+◌, ◌-◌, ◌^◌, ◌<◌, ◌≤◌, true, false, List, [], ◌∷◌, ◌++◌, length, Option, Some, None, Result, Ok, Err, IsUtf8, refl, sym, ap, subst, ◌∙◌, length-append, arith}
+use Rattle.std.proofs.Common.{◌≡◌, ℕ, ◌-◌, ◌^◌, ◌<◌, ◌≤◌, false, List, [], ◌++◌, length, Option, Some, None, Result, Ok, Err, IsUtf8, refl, sym, ap, subst, ◌∙◌, length-append, arith}
 use Rattle.std.proofs.lemmas.List.{append-nil}
 use Rattle.field_values.specs.declared.name.NameFault.{NameFault}
 use Rattle.field_values.specs.Names.{field_of, names_fault}
-use Rattle.field_values.specs.Value.{value_text, value_of}
 use Rattle.field_values.proofs.Values.{texts_write_back_lem, values_read_back_lem}
 use Rattle.field_values.proofs.FaultLemmas.{faults_are_told_lem}
 use Rattle.hybrid_clock.specs.declared.stamp.Stamp.{Stamp}
@@ -21,7 +20,7 @@ use Rattle.sync_wire.specs.declared.layout.Layout.TheVariants as layouts
 use Rattle.sync_wire.specs.Reading.{◌>>=◌}
 use Rattle.sync_wire.specs.Envelope.{Written, content_check, content_at, unless, message_from, Outline, envelope_check, outline_at, opened, message_in, envelope_at}
 use Rattle.sync_wire.specs.Gather.{with_text, with_part}
-use Rattle.sync_wire.specs.Canon.{text_field, bytes_field, content_spelled, Parts, envelope_spelled, written_of, parts_of, content_bytes}
+use Rattle.sync_wire.specs.Canon.{text_field, bytes_field, content_spelled, Parts, envelope_spelled, written_of, parts_of}
 use Rattle.sync_wire.specs.Laws.{HasTexts}
 use Rattle.sync_wire.proofs.Spelled.{bind_ok}
 use Rattle.sync_wire.proofs.Gather.{IsOn, is_over}

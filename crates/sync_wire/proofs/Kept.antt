@@ -1,10 +1,10 @@
 -- Bytes that begin with fields without a fault, the last of which is kept.
-use Rattle.std.proofs.Common.{◌≡◌, ℕ, ◌-◌, Bool, true, List, [], ◌∷◌, ◌++◌, length, Option, Some, None, Ok, refl}
+use Rattle.std.proofs.Common.{◌≡◌, ℕ, Bool, true, List, [], ◌∷◌, Option, Some, None, Ok, refl}
 use Rattle.sync_wire.specs.declared.fault.WireFault.{WireFault}
 use Rattle.sync_wire.specs.declared.layout.Layout.{Layout}
 use Rattle.sync_wire.specs.Reading.{answer}
 use Rattle.sync_wire.specs.Fields.{Tagged, field_at}
-use Rattle.sync_wire.specs.Spelling.{IsField, BeginsWithKept}
+use Rattle.sync_wire.specs.Spelling.{BeginsWithKept}
 use Rattle.sync_wire.proofs.Spelled.{field_takes}
 
 -- this field is kept

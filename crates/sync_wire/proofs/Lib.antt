@@ -13,3 +13,4 @@ pub mod Bodies
 pub mod Readings
 pub mod Plain
 pub mod Causes
+pub mod Last

@@ -4,8 +4,6 @@ use Rattle.hybrid_clock.specs.declared.stamp.Stamp.{Stamp}
 use Rattle.field_merge.specs.declared.message.Message.{Message}
 use Rattle.sync_wire.specs.declared.fault.WireFault.{WireFault}
 use Rattle.sync_wire.specs.declared.layout.Layout.TheVariants as layouts
-use Rattle.sync_wire.specs.declared.request.SyncRequest.{SyncRequest}
-use Rattle.sync_wire.specs.declared.response.SyncResponse.{SyncResponse}
 use Rattle.sync_wire.specs.Reading.{◌>>=◌}
 use Rattle.sync_wire.specs.Envelope.{Written, content_check, content_of, content_at, message_from, envelope_check, outline_of, outline_at}
 use Rattle.sync_wire.specs.Spelling.{Means, FirstFault}

@@ -1,5 +1,5 @@
 -- What the laws say.
-use Rattle.std.specs.Prelude.{◌≡◌, ◌↔◌, ◌⊎◌, ℕ, ◌+◌, ◌*◌, ◌-◌, ◌^◌, ◌<◌, ◌≤◌, All, List, [], ◌++◌, length, true, false, Result, Ok, Err, IsUtf8}
+use Rattle.std.specs.Prelude.{◌≡◌, ◌≢◌, ◌↔◌, ◌⊎◌, ℕ, ◌^◌, ◌<◌, ◌≤◌, All, List, [], ◌∷◌, ◌++◌, length, nat_lt, false, Result, Ok, Err, IsUtf8}
 use Rattle.std.specs.List.{flat_map, AllByRecursion}
 use Rattle.field_values.specs.Value.{value_text}
 use Rattle.hybrid_clock.specs.declared.stamp.Stamp.{Stamp}
@@ -9,6 +9,8 @@ use Rattle.sync_wire.specs.declared.fault.WireFault.{WireFault}
 use Rattle.sync_wire.specs.declared.layout.Layout.TheVariants as layouts
 use Rattle.sync_wire.specs.declared.request.SyncRequest.{SyncRequest}
 use Rattle.sync_wire.specs.declared.response.SyncResponse.{SyncResponse}
+use Rattle.sync_wire.specs.Fields.{Number, Bytes, Tagged}
+use Rattle.sync_wire.specs.Meaning.{text}
 use Rattle.sync_wire.specs.Spelling.{IsNumber, FirstFault, Means}
 use Rattle.sync_wire.specs.Envelope.{Written, content_check, content_of, content_at, envelope_check, outline_of, outline_at}
 use Rattle.sync_wire.specs.Wire.{IsRequest, IsRequestFault, IsResponse, IsResponseFault, IsMessageContent, IsContentFault}
@@ -100,3 +102,20 @@ pub record NumbersAreShort : Type 0 where
   pub fewest : (text : List ℕ) (n : ℕ) → All (λ b. b < 256) text → IsNumber text n → length (number_bytes n) ≤ length text
   -- and nothing else of that length
   pub one : (text : List ℕ) (n : ℕ) → All (λ b. b < 256) text → IsNumber text n → length text ≡ length (number_bytes n) → text ≡ number_bytes n
+
+-- ---- of a field that may stand once the last counts
+
+-- no field of them has the number
+abbrev pub HasNone : ℕ → List Tagged → Type 0
+HasNone n fields = AllByRecursion (λ t. t.number ≢ n) fields
+
+pub record LastOnesCount : Type 0 where
+  -- a text, or none where no field has its number
+  pub texts : (n place : ℕ) (bytes : List ℕ) (before after : List Tagged) → HasNone n after → text n (before ++ record { number = n; payload = Bytes place bytes } ∷ after) ≡ bytes
+  pub no_text : (n : ℕ) (fields : List Tagged) → HasNone n fields → text n fields ≡ []
+  -- whether an envelope is encrypted: its last number is not 0
+  pub flags : (k : ℕ) (before after : List Tagged) → HasNone 2 after → (outline_of (before ++ record { number = 2; payload = Number k } ∷ after)).encrypted ≡ nat_lt 0 k
+  pub no_flag : (fields : List Tagged) → HasNone 2 fields → (outline_of fields).encrypted ≡ false
+  -- the content of an envelope, with the place where it ends
+  pub contents : (place : ℕ) (bytes : List ℕ) (before after : List Tagged) → HasNone 3 after → (outline_of (before ++ record { number = 3; payload = Bytes place bytes } ∷ after)).content ≡ (place, bytes)
+  pub no_content : (fields : List Tagged) → HasNone 3 fields → (outline_of fields).content ≡ (0, [])

@@ -1,11 +1,9 @@
 -- What bytes mean: a request, a reply, the content of a message.
 use Rattle.std.specs.Prelude.{◌≡◌, ℕ, List, length, Bool, true, false, ◌==◌, ◌||◌, Option, Some, None, Result, Ok, Err, ◌⊎◌, if◌then◌else◌}
-use Rattle.std.specs.List.{filter_map, list_any, AllByRecursion}
-use Rattle.field_values.specs.Names.{field_of, names_fault}
+use Rattle.std.specs.List.{filter_map, list_any}
 use Rattle.hybrid_clock.specs.declared.stamp.Stamp.{Stamp}
 use Rattle.field_merge.specs.declared.message.Message.{Message}
 use Rattle.sync_wire.specs.declared.fault.WireFault.{WireFault}
-use Rattle.sync_wire.specs.declared.layout.Layout.{Layout}
 use Rattle.sync_wire.specs.declared.layout.Layout.TheVariants as layouts
 use Rattle.sync_wire.specs.declared.request.SyncRequest.{SyncRequest}
 use Rattle.sync_wire.specs.declared.response.SyncResponse.{SyncResponse}

@@ -1,6 +1,6 @@
 //! Facts about all bytes and all messages, which a proof can call for.
 ghost use Rattle.sync_wire.specs.Causes.{FaultsHaveCauses};
-ghost use Rattle.sync_wire.specs.Laws.{BytesAreRead, EnvelopesAreRead, WrittenReadBack, PlainWritesBack, NumbersAreShort};
+ghost use Rattle.sync_wire.specs.Laws.{BytesAreRead, EnvelopesAreRead, WrittenReadBack, PlainWritesBack, NumbersAreShort, LastOnesCount};
 
 /// A law: any bytes mean one request or have one first fault as a request, and not both. The same holds of replies, and of
 /// contents under a timestamp.
@@ -33,4 +33,10 @@ pub fn numbers_are_short()
 /// tag that the message doesn't allow, or a content that is not there whole; and its place is that of the cause.
 pub fn faults_have_causes()
     ensures { FaultsHaveCauses }
+{}
+
+/// A law: of a field that may stand once the last counts, whatever stands before it, and one that isn't there is an empty text,
+/// no number but 0, or no content.
+pub fn last_ones_count()
+    ensures { LastOnesCount }
 {}

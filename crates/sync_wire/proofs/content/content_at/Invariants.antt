@@ -1,4 +1,4 @@
-use Rattle.std.proofs.Common.{length, ◌≤◌}
+use Rattle.std.proofs.Common.{length}
 use Rattle.sync_wire.specs.declared.layout.Layout.TheVariants as layouts
 use Rattle.sync_wire.specs.Envelope.{texts_seen, content_check, content_at}
 use Rattle.sync_wire.specs.Gather.{with_text}

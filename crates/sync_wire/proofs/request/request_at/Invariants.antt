@@ -1,4 +1,4 @@
-use Rattle.std.proofs.Common.{length, ◌≤◌}
+use Rattle.std.proofs.Common.{length}
 use Rattle.sync_wire.specs.declared.layout.Layout.TheVariants as layouts
 use Rattle.field_merge.specs.Messages.{AreMessages}
 use Rattle.sync_wire.specs.Spelling.{BeginsWithKept}

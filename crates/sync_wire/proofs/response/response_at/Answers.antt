@@ -1,4 +1,3 @@
-use Rattle.std.proofs.Common.{refl}
 use Rattle.std.proofs.lemmas.Result.{err_from_is_err_and}
 use Rattle.sync_wire.specs.declared.layout.Layout.TheVariants as layouts
 use Rattle.sync_wire.specs.Fields.{tagged_of}

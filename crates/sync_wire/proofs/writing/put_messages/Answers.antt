@@ -1,4 +1,3 @@
-use Rattle.std.proofs.Common.{rules}
 use Rattle.sync_wire.specs.Canon.{message_field}
 use Rattle.sync_wire.specs.Laws.{HasTexts}
 use Rattle.sync_wire.proofs.Written.{all_more, written_more}
