@@ -1,12 +1,11 @@
 -- The plan that words ask for.
-use Rattle.std.specs.Prelude.{◌↔◌}
-use Rattle.std.proofs.Common.{◌≡◌, ◌≢◌, ℕ, zero, suc, ◌<◌, ◌≤◌, Bool, true, false, cond, ◌&&◌, ◌||◌, ◌==◌, not, List, [], ◌∷◌, length, Option, None, Some, ◌⊎◌, inl, inr, Result, Ok, Err, refl, ap, sym, subst, ◌∙◌, arith}
+use Rattle.std.proofs.Common.{◌≡◌, ℕ, zero, suc, ◌≤◌, Bool, true, false, cond, ◌&&◌, ◌||◌, ◌==◌, not, List, [], ◌∷◌, length, Option, None, Some, ◌⊎◌, inl, inr, Result, Ok, Err, refl, ap, sym, subst, ◌∙◌, arith}
 use Rattle.std.specs.Prelude.{codes, bytes_eq, nat_le, slice_index}
 use Rattle.std.specs.Char.{is_ascii_digit}
-use Rattle.std.specs.List.{list_all, Contains, slice_index_or}
+use Rattle.std.specs.List.{list_all, Contains}
 use Rattle.std.specs.Option.{unwrap_or, ok_or}
 use Rattle.std.specs.Str.Parse.{digits_value}
-use Rattle.std.proofs.lemmas.Bool.{and_parts, and_from, or_parts, leb-true, le-leb, eqb-false, ne_eqb, false≢true}
+use Rattle.std.proofs.lemmas.Bool.{and_parts, and_from, leb-true, le-leb, eqb-false, ne_eqb, false≢true}
 use Rattle.std.proofs.lemmas.Slice.Eq.{bytes_eq-Decides}
 use Rattle.hybrid_clock.specs.declared.node.NodeFault.{NodeFault}
 use Rattle.hybrid_clock.specs.Node.{node_of}
@@ -15,9 +14,9 @@ use Rattle.budget_top.specs.declared.words.Mode.{Mode}
 use Rattle.budget_top.specs.declared.words.Mode.TheVariants.{Merge, Device}
 use Rattle.budget_top.specs.declared.words.Plan.{Plan}
 use Rattle.budget_top.specs.declared.words.WordFault.{WordFault}
-use Rattle.budget_top.specs.declared.words.WordFault.TheVariants.{Words, Mode as BadMode, NodeMissing, Node as BadNode, Count, Token, Name}
-use Rattle.budget_top.specs.Line.{Pair, mode, parts, anywhere, has, each_once, is_line, if_line, line_of, line, value_in}
-use Rattle.budget_top.specs.Words.{◌>>=◌, no_store, mode_named, node_given, node_for, is_plain_number, is_within, count_of, count_from, is_name_byte, is_name, name_or, plan_with, planned_by, planned_line, planned}
+use Rattle.budget_top.specs.declared.words.WordFault.TheVariants.{Mode as BadMode, Count, Token, Name}
+use Rattle.budget_top.specs.Line.{Pair, mode, parts, anywhere, has, each_once, is_line, line_of, line, value_in}
+use Rattle.budget_top.specs.Words.{◌>>=◌, no_store, mode_named, node_given, node_for, is_plain_number, is_within, count_of, count_from, is_name_byte, is_name, name_or, planned_by, planned_line}
 use Rattle.budget_top.specs.Asking.{IsAbsent, IsGivenOr, IsModeOf, IsNodeOf, IsCount, IsCountOf, IsNameText, IsPlanOf, PlansAreAsked}
 
 -- ---- what stands under a name

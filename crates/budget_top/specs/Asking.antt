@@ -1,5 +1,5 @@
 -- What a plan takes from the words: each value from its own word.
-use Rattle.std.specs.Prelude.{◌≡◌, ◌≢◌, ◌↔◌, ◌⊎◌, ◌≤◌, ℕ, List, [], length, true, codes, Option, None, Some, Ok, slice_index}
+use Rattle.std.specs.Prelude.{◌≡◌, ◌≢◌, ◌↔◌, ◌⊎◌, ◌≤◌, ℕ, List, length, true, codes, Option, None, Some, Ok, slice_index}
 use Rattle.std.specs.Char.{is_ascii_digit}
 use Rattle.std.specs.List.{list_all, Contains}
 use Rattle.std.specs.Str.Parse.{digits_value}
