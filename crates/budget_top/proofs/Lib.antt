@@ -31,3 +31,4 @@ pub mod Valid
 pub mod CutLines
 pub mod Judged
 pub mod Merging
+pub mod Asking

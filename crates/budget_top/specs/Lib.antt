@@ -24,3 +24,4 @@ pub mod Obeying
 pub mod Valid
 pub mod CutLines
 pub mod Merging
+pub mod Asking

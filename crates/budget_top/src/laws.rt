@@ -6,6 +6,7 @@ ghost use Rattle.budget_top.specs.Obeying.{LinesAreObeyed};
 ghost use Rattle.budget_top.specs.Valid.{StatesStayValid};
 ghost use Rattle.budget_top.specs.CutLines.{LinesAreCut};
 ghost use Rattle.budget_top.specs.Merging.{MergesAgree};
+ghost use Rattle.budget_top.specs.Asking.{PlansAreAsked};
 
 use command_lines::{lines_write_back, replies_are_lines};
 use device_core::{accepted_are_joined, edits_read_back, received_are_joined};
@@ -65,3 +66,9 @@ pub fn merges_agree()
 {
     latest_message();
 }
+
+/// What words ask for. They ask for a plan exactly where they are a command line whose mode word names the plan's mode
+/// and whose options give its values, each its own; what is not given is a default, or none.
+pub fn plans_are_asked()
+    ensures { PlansAreAsked }
+{}

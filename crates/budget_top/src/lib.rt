@@ -23,8 +23,8 @@ mod write;
 pub use dispatch::{refusal_status, run};
 pub use in_memory::run_in_memory;
 pub use laws::{
-    lines_are_cut, lines_are_obeyed, lines_are_written, merges_agree, replies_are_cut,
-    states_stay_valid,
+    lines_are_cut, lines_are_obeyed, lines_are_written, merges_agree, plans_are_asked,
+    replies_are_cut, states_stay_valid,
 };
 pub use planning::plan;
 pub use words::{Mode, Plan, WordFault};

@@ -13,9 +13,8 @@ use Rattle.field_values.specs.Names.{FieldNames, names_cmp, names_fault, AreName
 use Rattle.field_values.proofs.NameLemmas.{names_fault-none}
 use Rattle.field_merge.specs.declared.message.Message.{Message}
 use Rattle.field_merge.specs.Messages.{IsMessage, AreMessages}
-use Rattle.field_merge.specs.Log.{has_field, latest}
+use Rattle.field_merge.specs.Log.{has_field, latest, value_in}
 use Rattle.field_merge.proofs.Orders.{names_exact}
-use Rattle.command_lines.specs.Readings.{value_in}
 
 equal_from_test : (o : Ordering) → is_eq o ≡ true → o ≡ Equal
 equal_from_test Less h = cc

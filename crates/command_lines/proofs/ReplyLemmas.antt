@@ -13,7 +13,7 @@ use Rattle.hybrid_clock.specs.declared.clock.ClockFault.TheVariants.{Drift, Over
 use Rattle.field_merge.specs.declared.message.Message.{Message}
 use Rattle.field_merge.specs.Messages.{message_line}
 use Rattle.field_merge.specs.Lines.{ended}
-use Rattle.field_merge.specs.Log.{fields, messages_after}
+use Rattle.field_merge.specs.Log.{fields, messages_after, value_in}
 use Rattle.field_merge.proofs.EscapeLemmas.{Lacks, Fails-append, escaped-no_feed}
 use Rattle.minute_trie.specs.declared.key.Digit.{Digit}
 use Rattle.minute_trie.specs.declared.key.Digit.TheVariants.{Zero, One, Two}
@@ -29,7 +29,7 @@ use Rattle.command_lines.specs.declared.command.Command.{Command}
 use Rattle.command_lines.specs.declared.command.Command.TheVariants.{Edit, Receive, Fields, Messages, Value, Trie}
 use Rattle.command_lines.specs.declared.reply.Reply.{Reply}
 use Rattle.command_lines.specs.declared.reply.Reply.TheVariants.{Done, Refused}
-use Rattle.command_lines.specs.Readings.{shown, value_in, answer}
+use Rattle.command_lines.specs.Readings.{shown, answer}
 use Rattle.command_lines.specs.Replies.{detail_text, reply_lines, refused_clock, refused}
 use Rattle.command_lines.specs.ReplyLines.{IsLine, AreLines, IsReply, RepliesAreLines}
 use Rattle.command_lines.proofs.Cutting.{pieces, pieces-at}

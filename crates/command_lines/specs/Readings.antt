@@ -1,12 +1,12 @@
 -- The answers of the lines that only read. They depend on the device's messages alone.
-use Rattle.std.specs.Prelude.{ℕ, List, [], ◌∷◌, map, codes, Option, None, Some, option_map}
-use Rattle.field_values.specs.Names.{FieldNames, field_of}
+use Rattle.std.specs.Prelude.{ℕ, List, [], ◌∷◌, map, codes, Option, None, Some}
+use Rattle.field_values.specs.Names.{field_of}
 use Rattle.field_values.specs.declared.value.Value.{Value as AnyValue}
 use Rattle.field_values.specs.Value.{value_text}
 use Rattle.field_merge.specs.declared.message.Message.{Message}
 use Rattle.field_merge.specs.Escapes.{escaped}
 use Rattle.field_merge.specs.Messages.{message_line}
-use Rattle.field_merge.specs.Log.{fields, messages_after, latest}
+use Rattle.field_merge.specs.Log.{fields, messages_after, value_in}
 use Rattle.minute_trie.specs.Trie.{trie_of}
 use Rattle.minute_trie.specs.Json.{trie_text}
 use Rattle.kept_messages.specs.Pairs.{pairs_of}
@@ -19,10 +19,6 @@ use Rattle.command_lines.specs.declared.reply.Reply.TheVariants.{Done}
 abbrev pub shown : Option AnyValue → List ℕ
 shown None = codes "none"
 shown (Some value) = escaped (value_text value)
-
--- the value of a field: that of its latest message
-abbrev pub value_in : List Message → FieldNames → Option AnyValue
-value_in messages field = option_map (λ m. m.value) (latest messages field)
 
 -- what a line that only reads is answered: the latest message of each field, the messages with a greater timestamp's text,
 -- the value of a field, or the text of the trie of all messages. The other lines are answered elsewhere.

@@ -6,11 +6,11 @@ ghost use Rattle.field_values.specs.Names.{field_of};
 ghost use Rattle.field_values.specs.Value.{value_text, IsValue};
 ghost use Rattle.field_merge.specs.Escapes.{escaped};
 ghost use Rattle.field_merge.specs.Messages.{message_line, AreMessages};
-ghost use Rattle.field_merge.specs.Log.{fields};
+ghost use Rattle.field_merge.specs.Log.{fields, value_in};
 ghost use Rattle.minute_trie.specs.Trie.{trie_of};
 ghost use Rattle.minute_trie.specs.Json.{trie_text};
 ghost use Rattle.kept_messages.specs.Pairs.{pairs_of};
-ghost use Rattle.command_lines.specs.Readings.{answer, shown, value_in, IsReading};
+ghost use Rattle.command_lines.specs.Readings.{answer, shown, IsReading};
 
 use crate::command::Command;
 use crate::reply::Reply;

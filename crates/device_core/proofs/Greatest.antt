@@ -1,5 +1,5 @@
 -- The greatest timestamp of messages, and a clock that is not behind messages.
-use Rattle.std.proofs.Common.{◌≡◌, inl, inr, ℕ, suc, ◌-◌, Bool, true, false, cond, List, [], ◌∷◌, Option, Some, length, refl, sym, ap, ◌∙◌, subst, arith, true≢false, Ordering, Less, Equal, Greater}
+use Rattle.std.proofs.Common.{◌≡◌, inl, inr, ℕ, suc, ◌-◌, Bool, true, false, cond, List, [], ◌∷◌, ◌++◌, Option, None, Some, length, refl, sym, ap, ◌∙◌, subst, arith, true≢false, Ordering, Less, Equal, Greater}
 use Rattle.std.specs.Prelude.{slice_get, option_map}
 use Rattle.std.specs.Option.{ForSome}
 use Rattle.std.specs.Ordering.{is_lt, nat_cmp, ordering_then}
@@ -15,6 +15,7 @@ use Rattle.field_merge.specs.Messages.{AreMessages}
 use Rattle.field_merge.proofs.Members.{all_keys}
 use Rattle.field_merge.proofs.Ordered.{head, tail}
 use Rattle.field_merge.proofs.Joining.{stamp_of}
+use Rattle.device_core.specs.Beginning.{DevicesBegin}
 use Rattle.device_core.specs.Device.{later_of, greatest, greatest_of, IsUpTo, IsAhead}
 
 pub up_to_itself : (s : Stamp) → IsUpTo s s
@@ -103,6 +104,27 @@ of_valid g (m ∷ ms) is valid =
 
 last_on : (m n : Message) (ms : List Message) → last_stamp (m ∷ n ∷ ms) ≡ last_stamp (n ∷ ms)
 last_on m n ms = let e : length (m ∷ n ∷ ms) - 1 ≡ suc (length (n ∷ ms) - 1) = omega arith in ap (λ i. option_map (λ (x : Message). x.stamp) (slice_get (m ∷ n ∷ ms) i)) e
+
+pub last_is : (front : List Message) (m : Message) → last_stamp (front ++ m ∷ []) ≡ Some m.stamp
+last_is [] m = refl
+last_is (n ∷ []) m = refl
+last_is (n ∷ o ∷ front) m = last_on n o (front ++ m ∷ []) ∙ last_is (o ∷ front) m
+
+own_node : (node : List ℕ) (o : Option Stamp) → (clock_after node o).node ≡ node
+own_node node None = refl
+own_node node (Some s) = refl
+
+pub devices_begin : DevicesBegin
+devices_begin node ms = record {
+  messages = refl;
+  own = own_node node (last_stamp ms);
+  at_last = λ front m is.
+      let last : last_stamp ms ≡ Some m.stamp = ap last_stamp is ∙ last_is front m in
+      (ap (λ (o : Option Stamp). (clock_after node o).millis) last, ap (λ (o : Option Stamp). (clock_after node o).counter) last);
+  at_start = λ none.
+      let last : last_stamp ms ≡ None = ap last_stamp none in
+      (ap (λ (o : Option Stamp). (clock_after node o).millis) last, ap (λ (o : Option Stamp). (clock_after node o).counter) last);
+}
 
 pub last_valid : (ms : List Message) → AreMessages ms → ForSome (last_stamp ms) IsStamp
 last_valid [] valid = λ s e. cc

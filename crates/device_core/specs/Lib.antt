@@ -1,5 +1,6 @@
 pub mod Edits
 pub mod Device
+pub mod Beginning
 pub mod Greatest
 pub mod ReadBack
 pub mod Answering

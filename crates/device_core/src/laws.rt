@@ -1,9 +1,16 @@
 //! Facts about what a device makes of edits and of messages, which a proof can call for.
 ghost use Rattle.device_core.specs.Accepting.{AcceptedAreJoined};
 ghost use Rattle.device_core.specs.Answering.{WritesAreAnswered, MessagesAreAnswered};
+ghost use Rattle.device_core.specs.Beginning.{DevicesBegin};
 ghost use Rattle.device_core.specs.Greatest.{GreatestIsTold};
 ghost use Rattle.device_core.specs.ReadBack.{EditsReadBack, ReceivedAreJoined};
 ghost use Rattle.device_core.specs.Several.{WritesAreJoined};
+
+/// A law: a device begins with the messages that it is given, and a clock of its node at the time and the
+/// counter of the last of them, or at the start of 1970 where there are none.
+pub fn devices_begin()
+    ensures { DevicesBegin }
+{}
 
 /// A law: of every accepted line some messages have joined, and the records of the new ones, and no
 /// others, are pending; no id that it made has a line feed. The clock keeps its node, and is behind no

@@ -10,9 +10,6 @@ pub use device::Device;
 pub use edit::{BookEdit, Edit, EditFault, LineRefusal, Write};
 pub use kept_messages::StartFault;
 pub use laws::{
-    accepted_are_joined, edits_read_back, greatest_is_told, messages_are_answered,
+    accepted_are_joined, devices_begin, edits_read_back, greatest_is_told, messages_are_answered,
     received_are_joined, writes_are_answered, writes_are_joined,
 };
-
-#[cfg(test)]
-mod tests;

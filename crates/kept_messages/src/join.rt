@@ -1,8 +1,9 @@
 //! Messages that join a log and its trie, and the records of those that are new.
-ghost use Rattle.std.specs.Prelude.{◌≡◌, ◌≢◌, ◌++◌, ◌∷◌, [], map, false, is_none, if◌then◌else◌, IfOk, IfErr, OnOk, OnErr, Err};
+ghost use Rattle.std.specs.Prelude.{◌≡◌, ◌≢◌, ◌++◌, ◌∷◌, ◌&&◌, [], Some, map, false, is_none, if◌then◌else◌, IfOk, IfErr, OnOk, OnErr, Err};
 ghost use Rattle.field_merge.specs.Log.{join, join_one};
 ghost use Rattle.field_merge.specs.Messages.{IsMessage, AreMessages};
-ghost use Rattle.field_merge.specs.Log.{at_stamp};
+ghost use Rattle.field_merge.specs.Log.{at_stamp, has_field, latest};
+ghost use Rattle.field_values.specs.Names.{FieldNames};
 ghost use Rattle.minute_trie.specs.Trie.{is_spent, IsTrieOf};
 ghost use Rattle.kept_messages.specs.News.{new_in};
 ghost use Rattle.kept_messages.specs.Pairs.{pairs_of};
@@ -11,7 +12,7 @@ ghost use Rattle.kept_messages.specs.declared.join.StartFault.TheVariants.{NoMem
 
 use crate::record::{read_record, write_record};
 use budget_ports::Record;
-use field_merge::{Log, Message};
+use field_merge::{Entered, Log, Message};
 use field_values::NoMemory;
 use minute_trie::{Trie, order_free};
 use std::alloc::Global;
@@ -33,8 +34,9 @@ impl From<NoMemory> for StartFault {
     }
 }
 
-/// Joins a message, and adds its timestamp to the log's trie where it is new. Says whether it is.
-fn enter(log: &mut Log, trie: &mut Trie, message: Message) -> Result<bool, NoMemory>
+/// Joins a message, and adds its timestamp to the log's trie where it is new. Says whether it is, and
+/// whether the message is now the latest of its field.
+fn enter(log: &mut Log, trie: &mut Trie, message: Message) -> Result<Entered, NoMemory>
     requires live { log.old.spent ≡ false }
     requires trie_live { is_spent trie.old ≡ false }
     requires right { IsTrieOf (pairs_of log.old.messages) trie.old }
@@ -43,16 +45,17 @@ fn enter(log: &mut Log, trie: &mut Trie, message: Message) -> Result<bool, NoMem
     ensures trie_live { OnOk result (is_spent trie.new ≡ false) }
     ensures right { OnOk result (IsTrieOf (pairs_of log.new.messages) trie.new) }
     ensures joined { OnOk result (log.new.messages ≡ join_one log.old.messages message) }
-    ensures fresh { IfOk result (λ fresh. fresh ≡ is_none (at_stamp log.old.messages message.stamp)) }
+    ensures fresh { IfOk result (λ entered. entered.fresh ≡ is_none (at_stamp log.old.messages message.stamp)) }
+    ensures latest { IfOk result (λ entered. (f : FieldNames) → latest log.new.messages f ≡ (if entered.latest && has_field f message then Some message else latest log.old.messages f)) }
 {
     // The log keeps its messages in another order than that in which they come.
     order_free();
     let stamp = message.stamp;
-    let is_new = log.add(message)?;
-    if is_new {
+    let entered = log.enter(message)?;
+    if entered.fresh {
         trie.insert(&stamp)?;
     }
-    Ok(is_new)
+    Ok(entered)
 }
 
 /// The log of the messages that records keep, joined in the order of the records, and its trie. So of
@@ -101,8 +104,8 @@ fn join_message(
     ensures batch { OnOk result (batch.new.items ≡ batch.old.items ++ map record_of (new_in log.old.messages (message.now ∷ []))) }
 {
     let kept = write_record(alloc, message)?;
-    let is_new = enter(log, trie, message.copy()?)?;
-    push_if(is_new, batch, kept)
+    let entered = enter(log, trie, message.copy()?)?;
+    push_if(entered.fresh, batch, kept)
 }
 
 /// Adds a record where it is new.

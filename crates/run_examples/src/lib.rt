@@ -3,7 +3,11 @@
 #![tactic(auto)]
 
 #[cfg(test)]
+mod device;
+#[cfg(test)]
 mod devices;
+#[cfg(test)]
+mod kept;
 #[cfg(test)]
 mod lines;
 #[cfg(test)]

@@ -1,7 +1,7 @@
 use Rattle.std.proofs.Common.{◌≡◌, subst}
 use Rattle.std.specs.Option.{option_copied}
 use Rattle.field_values.specs.Names.{field_of}
-use Rattle.command_lines.specs.Readings.{value_in}
+use Rattle.field_merge.specs.Log.{value_in}
 use Rattle.command_lines.proofs.ReadingLemmas.{value_in-valid}
 use Rattle.command_lines.proofs.answer.shown_value.Goals as goal
 

@@ -1,4 +1,4 @@
-use Rattle.device_core.proofs.tests.receives.Given as goal
+use Rattle.run_examples.proofs.device.receives.Given as goal
 
 -- the counter's ledger is the blank one's
 abbrev pub ghosts-receive : goal.ghosts-receive

@@ -1,4 +1,4 @@
-use Rattle.device_core.proofs.tests.named.Given as goal
+use Rattle.run_examples.proofs.device.named.Given as goal
 
 -- the counter's ledger is the blank one's
 abbrev pub ghosts-prepare : goal.ghosts-prepare

@@ -1,4 +1,4 @@
-use Rattle.device_core.proofs.tests.refusal_of.Given as goal
+use Rattle.run_examples.proofs.device.refusal_of.Given as goal
 
 -- the counter's ledger is the blank one's
 abbrev pub ghosts-prepare : goal.ghosts-prepare
