@@ -1,12 +1,11 @@
 -- The plan that words ask for.
-use Rattle.std.specs.Prelude.{◌↔◌}
-use Rattle.std.proofs.Common.{◌≡◌, ◌≢◌, ℕ, zero, suc, ◌<◌, ◌≤◌, Bool, true, false, cond, ◌&&◌, ◌||◌, ◌==◌, not, List, [], ◌∷◌, length, Option, None, Some, ◌⊎◌, inl, inr, Result, Ok, Err, refl, ap, sym, subst, ◌∙◌, arith}
+use Rattle.std.proofs.Common.{◌≡◌, ℕ, zero, suc, ◌≤◌, Bool, true, false, cond, ◌&&◌, ◌||◌, ◌==◌, not, List, [], ◌∷◌, length, Option, None, Some, ◌⊎◌, inl, inr, Result, Ok, Err, refl, ap, sym, subst, ◌∙◌, arith}
 use Rattle.std.specs.Prelude.{codes, bytes_eq, nat_le, slice_index}
 use Rattle.std.specs.Char.{is_ascii_digit}
-use Rattle.std.specs.List.{list_all, Contains, slice_index_or}
+use Rattle.std.specs.List.{list_all, Contains}
 use Rattle.std.specs.Option.{unwrap_or, ok_or}
 use Rattle.std.specs.Str.Parse.{digits_value}
-use Rattle.std.proofs.lemmas.Bool.{and_parts, and_from, or_parts, leb-true, le-leb, eqb-false, ne_eqb, false≢true}
+use Rattle.std.proofs.lemmas.Bool.{and_parts, and_from, leb-true, le-leb, eqb-false, ne_eqb, false≢true}
 use Rattle.std.proofs.lemmas.Slice.Eq.{bytes_eq-Decides}
 use Rattle.hybrid_clock.specs.declared.node.NodeFault.{NodeFault}
 use Rattle.hybrid_clock.specs.Node.{node_of}
@@ -15,10 +14,10 @@ use Rattle.budget_top.specs.declared.words.Mode.{Mode}
 use Rattle.budget_top.specs.declared.words.Mode.TheVariants.{Merge, Device}
 use Rattle.budget_top.specs.declared.words.Plan.{Plan}
 use Rattle.budget_top.specs.declared.words.WordFault.{WordFault}
-use Rattle.budget_top.specs.declared.words.WordFault.TheVariants.{Words, Mode as BadMode, NodeMissing, Node as BadNode, Count, Token, Name}
-use Rattle.budget_top.specs.Line.{Pair, mode, parts, anywhere, has, each_once, is_line, if_line, line_of, line, value_in}
-use Rattle.budget_top.specs.Words.{◌>>=◌, no_store, mode_named, node_given, node_for, is_plain_number, is_within, count_of, count_from, is_name_byte, is_name, name_or, plan_with, planned_by, planned_line, planned}
-use Rattle.budget_top.specs.Asking.{IsAbsent, IsGivenOr, IsModeOf, IsNodeOf, IsCount, IsCountOf, IsNameText, IsPlanOf, PlansAreAsked}
+use Rattle.budget_top.specs.declared.words.WordFault.TheVariants.{Mode as BadMode, Count, Token, Name}
+use Rattle.budget_top.specs.Line.{Pair, mode, parts, anywhere, has, each_once, is_line, line_of, line, value_in}
+use Rattle.budget_top.specs.Words.{◌>>=◌, mode_named, node_given, node_for, is_plain_number, is_within, count_of, count_from, is_name_byte, is_name, name_or, planned_by, planned_line}
+use Rattle.budget_top.specs.Asking.{IsAbsent, IsGivenOr, IsModeOf, IsNodeOf, IsStoreOf, IsCount, IsCountOf, IsNameText, IsPlanOf, PlansAreAsked}
 
 -- ---- what stands under a name
 
@@ -111,9 +110,13 @@ then_ok (Err fault) next b e = absurd (cc)
 ok_then : {A B : Type 0} (r : Result A WordFault) (next : A → Result B WordFault) (a : A) (b : B) → r ≡ Ok a → next a ≡ Ok b → (r >>= next) ≡ Ok b
 ok_then r next a b e f = ap (λ x. x >>= next) e ∙ f
 
-store_is : (given : Option (List ℕ)) (store : Option (List ℕ)) → no_store given ≡ Ok store → (given ≡ None) × (store ≡ None)
-store_is None store e = let same : ◌≡◌ {A = Option (List ℕ)} None store = cc in (refl, sym same)
-store_is (Some path) store e = absurd (cc)
+store_is : (pairs : List Pair) (store : Option (List ℕ)) → value_in pairs (codes "store") ≡ store → IsStoreOf pairs store
+store_is pairs None e = value_absent pairs (codes "store") e
+store_is pairs (Some path) e = value_given pairs (codes "store") path e
+
+is_store : (pairs : List Pair) (store : Option (List ℕ)) → each_once pairs ≡ true → IsStoreOf pairs store → value_in pairs (codes "store") ≡ store
+is_store pairs None once absent = absent_value pairs (codes "store") absent
+is_store pairs (Some path) once c = given_value pairs (codes "store") path once c
 
 mode_is : (pairs : List Pair) (m : Mode) → mode_named (unwrap_or (value_in pairs mode) []) ≡ Ok m → IsModeOf pairs m
 mode_is pairs m e = of_given (value_in pairs mode) refl e
@@ -235,17 +238,15 @@ is_named fault pairs name other value once h =
 
 planned_is : (pairs : List Pair) (plan : Plan) → planned_by (value_in pairs) ≡ Ok plan → IsPlanOf pairs plan
 planned_is pairs plan e =
-    let store = then_ok (no_store (value_in pairs (codes "store"))) _ plan e in
-    let m = then_ok (mode_named (unwrap_or (value_in pairs mode) [])) _ plan store.2 in
+    let m = then_ok (mode_named (unwrap_or (value_in pairs mode) [])) _ plan e in
     let node = then_ok (node_for m.0 (value_in pairs (codes "node"))) _ plan m.2 in
     let count = then_ok (count_from (value_in pairs (codes "count"))) _ plan node.2 in
     let token = then_ok (name_or Token (unwrap_or (value_in pairs (codes "token")) (codes "local"))) _ plan count.2 in
     let file = then_ok (name_or Name (unwrap_or (value_in pairs (codes "file")) (codes "home"))) _ plan token.2 in
     let group = then_ok (name_or Name (unwrap_or (value_in pairs (codes "group")) (codes "home"))) _ plan file.2 in
-    let none = store_is (value_in pairs (codes "store")) store.0 store.1 in
     let made : Plan = record {
       mode = m.0;
-      store = None;
+      store = value_in pairs (codes "store");
       node = node.0;
       token = token.0;
       file = file.0;
@@ -257,7 +258,7 @@ planned_is pairs plan e =
     let same : made ≡ plan = let found : ◌≡◌ {A = Result Plan WordFault} (Ok made) (Ok plan) = group.2 in cc in
     subst (IsPlanOf pairs) same (record {
       mode = mode_is pairs m.0 m.1;
-      store = (value_absent pairs (codes "store") none.0, refl);
+      store = store_is pairs made.store refl;
       node = node_is pairs m.0 node.0 node.1;
       count = count_asked pairs count.0 count.1;
       token = name_is Token pairs (codes "token") (codes "local") token.0 token.1;
@@ -271,8 +272,7 @@ is_planned : (pairs : List Pair) (plan : Plan) → each_once pairs ≡ true → 
 is_planned pairs plan once h =
     let listen = or_given pairs (codes "listen") (codes "127.0.0.1:5006") plan.listen once h.listen in
     let peer = or_given pairs (codes "peer") (codes "127.0.0.1:5006") plan.peer once h.peer in
-    let store : ◌≡◌ {A = Option (List ℕ)} None plan.store = sym h.store.1 in
-    ok_then (no_store (value_in pairs (codes "store"))) _ None plan (ap no_store (absent_value pairs (codes "store") h.store.0)) (
+    let store = is_store pairs plan.store once h.store in
     ok_then (mode_named (unwrap_or (value_in pairs mode) [])) _ plan.mode plan (is_mode pairs plan.mode once h.mode) (
     ok_then (node_for plan.mode (value_in pairs (codes "node"))) _ plan.node plan (is_node pairs plan.mode plan.node once h.node) (
     ok_then (count_from (value_in pairs (codes "count"))) _ plan.count plan (asked_count pairs plan.count once h.count) (
@@ -289,7 +289,7 @@ is_planned pairs plan once h =
       count = plan.count;
       listen = listen i;
       peer = peer i;
-    }))))))))
+    })))))))
 
 once_of : (words : List (List ℕ)) (pairs : List Pair) → line words ≡ Some pairs → each_once pairs ≡ true
 once_of words pairs e = of_parts (parts anywhere words) e

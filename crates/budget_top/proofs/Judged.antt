@@ -9,7 +9,7 @@ use Rattle.field_merge.specs.declared.line.LineFault.{LineFault}
 use Rattle.field_merge.specs.declared.line.LineFault.TheVariants.{Columns as BadColumns, Escape as BadEscape, Stamp as BadStamp, Name as BadName, NoMemory}
 use Rattle.field_merge.specs.Lines.{reading}
 use Rattle.command_lines.specs.Commands.{longest_line}
-use Rattle.budget_top.specs.declared.verdict.Word.TheVariants.{Long, Utf8, Columns, Escape, Stamp, Name}
+use Rattle.budget_top.specs.declared.verdict.Word.TheVariants.{Long, Utf8}
 use Rattle.budget_top.specs.Verdicts.{Verdict, word_of, worded, judged_short, judged}
 use Rattle.budget_top.specs.Merging.{IsLineOf, LinesAreJudged}
 

@@ -1,26 +1,24 @@
 -- What a merge writes of the messages of its lines.
 use Rattle.std.specs.Prelude.{◌↔◌}
-use Rattle.std.proofs.Common.{◌≡◌, ◌≢◌, ℕ, zero, suc, ◌+◌, ◌<◌, Bool, true, false, cond, List, [], ◌∷◌, ◌++◌, length, Option, None, Some, ◌⊎◌, inl, inr, Result, Ok, Err, refl, ap, ap₂, sym, subst, ◌∙◌, arith}
-use Rattle.std.specs.List.{find, flat_map, slice_index_or, Contains}
-use Rattle.std.specs.Ordering.{is_eq, is_gt}
+use Rattle.std.proofs.Common.{◌≡◌, ◌≢◌, ℕ, zero, suc, ◌+◌, Bool, true, false, cond, List, [], ◌∷◌, ◌++◌, Option, None, Some, ◌⊎◌, inl, inr, Ok, Err, refl, ap, ap₂, sym, subst, ◌∙◌, arith}
+use Rattle.std.specs.List.{Contains}
+use Rattle.std.specs.Ordering.{is_eq}
 use Rattle.std.specs.Cmp.{tied_itself}
 use Rattle.hybrid_clock.specs.declared.stamp.Stamp.{Stamp}
 use Rattle.hybrid_clock.specs.Order.{stamp_cmp}
 use Rattle.field_merge.specs.declared.message.Message.{Message}
 use Rattle.field_merge.specs.Joining.{HasOneEach, HaveSame, IsLatest, IsLatestOrNone}
 use Rattle.field_merge.specs.Laws.{LatestIsLatest}
-use Rattle.field_merge.specs.Lines.{reading}
 use Rattle.field_merge.specs.Log.{IsRising, has_stamp, at_stamp, join, latest, fields, field_text}
 use Rattle.field_merge.proofs.Fields.{lists_latest}
 use Rattle.field_merge.proofs.Joining.{found, in_any_order, rising, stamp_of}
-use Rattle.field_merge.proofs.Latest.{is_latest}
 use Rattle.field_merge.proofs.Members.{here, there, found_in}
 use Rattle.field_merge.proofs.Ordered.{equal, found_by_key, in_order_nil}
 use Rattle.field_merge.proofs.Orders.{stamps_exact, stamps_total}
 use Rattle.command_lines.proofs.AnswerLemmas.{only_latest}
 use Rattle.budget_top.specs.declared.verdict.Word.{Word}
 use Rattle.budget_top.specs.Lines.{all_lines}
-use Rattle.budget_top.specs.Verdicts.{Verdict, judged, bad_line, bad_lines_from, bad_lines, message_in, messages_of, merge_text}
+use Rattle.budget_top.specs.Verdicts.{Verdict, judged, bad_line, bad_lines_from, bad_lines, message_in, messages_of}
 use Rattle.budget_top.specs.Merging.{IsLineOf, HasLineOf, Counts, IsLatestIn, ListsLatestIn, HaveOneEach, AreGood, MergesAgree}
 use Rattle.budget_top.proofs.Judged.{lines_judged}
 

@@ -1,11 +1,11 @@
 -- What a device does at a line.
-use Rattle.std.proofs.Common.{◌≡◌, ◌⊎◌, inl, inr, ℕ, List, [], ◌∷◌, Bool, true, false, cond, refl, sym, ap, ◌∙◌, subst, Option, None, Some, Result, Ok, Err}
+use Rattle.std.proofs.Common.{◌≡◌, inl, inr, ℕ, List, [], ◌∷◌, Bool, cond, sym, ap, ◌∙◌, Result, Ok, Err}
 use Rattle.field_values.specs.declared.value.Value.{Value}
 use Rattle.field_merge.specs.declared.message.Message.{Message}
 use Rattle.device_core.specs.declared.edit.Edit.TheVariants.{Book}
 use Rattle.device_core.specs.declared.edit.BookEdit.TheVariants.{Set}
 use Rattle.device_core.specs.declared.edit.LineRefusal.{LineRefusal}
-use Rattle.device_core.specs.Device.{State, Accepted, IsAhead, edited, received}
+use Rattle.device_core.specs.Device.{Accepted, IsAhead, edited, received}
 use Rattle.device_core.specs.ReadBack.{EditsReadBack, ReceivedAreJoined}
 use Rattle.command_lines.specs.declared.command.Command.{Command}
 use Rattle.command_lines.specs.declared.command.Command.TheVariants.{Edit, Receive, Fields, Messages, Value as ValueOf, Trie}

@@ -1,5 +1,5 @@
 -- What a plan takes from the words: each value from its own word.
-use Rattle.std.specs.Prelude.{◌≡◌, ◌≢◌, ◌↔◌, ◌⊎◌, ◌≤◌, ℕ, List, [], length, true, codes, Option, None, Some, Ok, slice_index}
+use Rattle.std.specs.Prelude.{◌≡◌, ◌≢◌, ◌↔◌, ◌⊎◌, ◌≤◌, ℕ, List, length, true, codes, Option, None, Some, Ok, slice_index}
 use Rattle.std.specs.Char.{is_ascii_digit}
 use Rattle.std.specs.List.{list_all, Contains}
 use Rattle.std.specs.Str.Parse.{digits_value}
@@ -37,6 +37,11 @@ pub record IsCount (text : List ℕ) (number : ℕ) : Type 0 where
   pub some : 1 ≤ number
   pub few : number ≤ 1_000_000
 
+-- the store is the path that is given, or there is none
+abbrev pub IsStoreOf : List Pair → Option (List ℕ) → Type 0
+IsStoreOf pairs None = IsAbsent pairs (codes "store")
+IsStoreOf pairs (Some path) = Contains pairs (codes "store", path)
+
 -- the count is the number that the given text says, or 1000
 abbrev pub IsCountOf : List Pair → ℕ → Type 0
 IsCountOf pairs count =
@@ -51,8 +56,7 @@ pub record IsNameText (text : List ℕ) : Type 0 where
 -- the plan is what the pairs of a command line ask for
 pub record IsPlanOf (pairs : List Pair) (plan : Plan) : Type 0 where
   pub mode : IsModeOf pairs plan.mode
-  -- no store can be named yet
-  pub store : IsAbsent pairs (codes "store") × (plan.store ≡ None)
+  pub store : IsStoreOf pairs plan.store
   pub node : IsNodeOf pairs plan.mode plan.node
   pub count : IsCountOf pairs plan.count
   pub token : IsGivenOr pairs (codes "token") (codes "local") plan.token × IsNameText plan.token

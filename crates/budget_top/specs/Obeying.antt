@@ -1,5 +1,5 @@
 -- What a device does at a line, for the law on lines.
-use Rattle.std.specs.Prelude.{◌≡◌, ◌⊎◌, ℕ, Bool, true, false, List, [], ◌∷◌, ◌++◌, codes, Option, Some, Result, Ok, Err}
+use Rattle.std.specs.Prelude.{◌≡◌, ◌⊎◌, ℕ, true, false, List, [], ◌∷◌, ◌++◌, codes, Some, Ok, Err}
 use Rattle.std.specs.Str.{is_utf8}
 use Rattle.std.specs.Fmt.{decimal}
 use Rattle.field_values.specs.declared.value.Value.{Value}
@@ -7,7 +7,7 @@ use Rattle.field_merge.specs.declared.message.Message.{Message}
 use Rattle.device_core.specs.declared.edit.Edit.TheVariants.{Book}
 use Rattle.device_core.specs.declared.edit.BookEdit.TheVariants.{Set}
 use Rattle.device_core.specs.declared.edit.LineRefusal.{LineRefusal}
-use Rattle.device_core.specs.Device.{State, Accepted, IsAhead, edited, received}
+use Rattle.device_core.specs.Device.{Accepted, IsAhead, edited, received}
 use Rattle.device_core.specs.ReadBack.{IsReadBack, AreTakenIn}
 use Rattle.command_lines.specs.declared.command.Command.{Command}
 use Rattle.command_lines.specs.declared.command.Command.TheVariants.{Edit, Receive}

@@ -20,11 +20,6 @@ abbrev pub ◌>>=◌ : {A B : Type 0} → Result A WordFault → (A → Result B
 Ok value >>= next = next value
 Err fault >>= next = Err fault
 
--- a store is none yet
-abbrev pub no_store : Option (List ℕ) → Result (Option (List ℕ)) WordFault
-no_store None = Ok None
-no_store (Some path) = Err Words
-
 -- the mode that a word names
 abbrev pub mode_named : List ℕ → Result Mode WordFault
 mode_named word = if bytes_eq word (codes "merge") then Ok Merge else (if bytes_eq word (codes "device") then Ok Device else Err BadMode)
@@ -77,7 +72,7 @@ plan_with given mode node count = do
   group ← name_or Name (unwrap_or (given (codes "group")) (codes "home"))
   Ok (record {
     mode = mode;
-    store = None;
+    store = given (codes "store");
     node = node;
     token = token;
     file = file;
@@ -87,10 +82,9 @@ plan_with given mode node count = do
     peer = unwrap_or (given (codes "peer")) (codes "127.0.0.1:5006");
   })
 
--- the plan, by what is given under each name, or the first fault in it; no store can be named yet
+-- the plan, by what is given under each name, or the first fault in it
 abbrev pub planned_by : (List ℕ → Option (List ℕ)) → Result Plan WordFault
 planned_by given = do
-  store ← no_store (given (codes "store"))
   mode ← mode_named (unwrap_or (given mode) [])
   node ← node_for mode (given (codes "node"))
   count ← count_from (given (codes "count"))

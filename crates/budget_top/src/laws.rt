@@ -68,7 +68,7 @@ pub fn merges_agree()
 }
 
 /// What words ask for. They ask for a plan exactly where they are a command line whose mode word names the plan's mode
-/// and whose options give its values, each its own; what is not given is a default. No store can be named yet.
+/// and whose options give its values, each its own; what is not given is a default, or none.
 pub fn plans_are_asked()
     ensures { PlansAreAsked }
 {}

@@ -68,6 +68,16 @@ fn name_or(alloc: Global, fault: WordFault, text: &str) -> Result<Txt, WordFault
     Ok(Txt::from_text(alloc, text)?)
 }
 
+/// The path of a store, where one is given.
+fn path_of(alloc: Global, path: Option<&str>) -> Result<Option<Txt>, NoMemory>
+    ensures { IfOk result (λ text. text ≡ option_map (λ t. t.now) path.entry) }
+{
+    match path {
+        Some(path) => Ok(Some(Txt::from_text(alloc, path)?)),
+        None => Ok(None),
+    }
+}
+
 /// The plan of a mode with its node and its count, from what else was found in the words.
 fn plan_with(
     alloc: Global,
@@ -87,7 +97,7 @@ fn plan_with(
     let peer = given.get_str("peer").unwrap_or(ADDRESS);
     Ok(Plan {
         mode,
-        store: None,
+        store: path_of(alloc, given.get_str("store"))?,
         node,
         token: name_or(alloc, WordFault::Token, token)?,
         file: name_or(alloc, WordFault::Name, file)?,
@@ -104,9 +114,6 @@ fn plan_of(alloc: Global, given: &ArgMatches<'_>) -> Result<Plan, WordFault>
     ensures err { IfErr result (IsWordFault (planned_by (λ name. first_value (found_of given.now) name))) }
     ensures whole { IfOk result IsPlan }
 {
-    if given.get_str("store").is_some() {
-        return Err(WordFault::Words);
-    }
     let mode = mode_named(given.get_str("mode").unwrap_or(""))?;
     let node = node_for(mode, given.get_str("node"))?;
     let count = count_from(given.get_str("count"))?;

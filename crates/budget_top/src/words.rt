@@ -40,7 +40,7 @@ pub struct Plan {
 /// Why words are refused.
 #[derive(Clone, Copy, Debug, PartialEq, Eq)]
 pub enum WordFault {
-    /// The words are not one mode word and options, each at most once. No store can be named yet.
+    /// The words are not one mode word and options, each at most once.
     Words,
     /// The mode word is neither `merge` nor `device`.
     Mode,
