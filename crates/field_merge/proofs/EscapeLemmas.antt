@@ -1,6 +1,7 @@
 -- Escapes: what stands before, at and behind a backslash.
 use Rattle.std.proofs.Common.{◌≡◌, ◌≢◌, ℕ, zero, suc, ◌+◌, ◌<◌, Bool, true, false, cond, ◌||◌, ◌==◌, eqb, List, [], ◌∷◌, ◌++◌, length, get_or, take, drop, Option, None, Some, MatchOption, Bor, not, ◌≤◌, nat_lt, refl, ap, sym, subst, ◌∙◌, arith, append_assoc, length-append, one-add}
 use Rattle.std.specs.List.{position, position_or_len}
+use Rattle.std.proofs.lemmas.List.Folds.{list_any_at}
 use Rattle.std.proofs.lemmas.Bool.{ne_eqb, eq-eqb, eqb-true, ltb-false, or_parts}
 use Rattle.std.proofs.lemmas.Bool.Decides.{nat_tests}
 use Rattle.std.proofs.lemmas.List.{append-nil, take_all, drop_all, drop_more}
@@ -9,7 +10,7 @@ use Rattle.std.proofs.lemmas.Option.{cond_some}
 use Rattle.std.specs.Option.{is_some}
 use Rattle.std.specs.Bool.{OnTrue}
 use Rattle.memchr.specs.Find.{IsFirstByte, is_byte}
-use Rattle.field_merge.specs.Escapes.{escaped, escaped_byte, is_special, is_letter, unescaped, place_after, bad_escape}
+use Rattle.field_merge.specs.Escapes.{escaped, escaped_byte, is_special, is_letter, unescaped, place_after, bad_escape, has_backslash}
 
 -- each byte of the text fails the test
 abbrev pub Fails : (ℕ → Bool) → List ℕ → Type 0
@@ -220,3 +221,9 @@ pub plain_good : (plain : Bool) (found : Option ℕ) (bs part : List ℕ) → Is
 plain_good true None bs part h e is = subst (λ (t : List ℕ). bad_escape t ≡ None) is (bad_escape-whole bs (lacks_byte 92 bs h))
 plain_good true (Some k) bs part h e is = cc
 plain_good false found bs part h e is = tt
+
+-- what isn't plain has a backslash
+pub plain_not : (plain : Bool) (found : Option ℕ) (bs part : List ℕ) → IsFirstByte (is_byte 92) bs found → is_some found ≡ not plain → bs ≡ part → plain ≡ false → has_backslash part ≡ true
+plain_not true found bs part h e is f = absurd (cc)
+plain_not false None bs part h e is f = absurd (cc)
+plain_not false (Some k) bs part h e is f = subst (λ (t : List ℕ). has_backslash t ≡ true) is (list_any_at (is_byte 92) bs k 0 h.0.high h.1)

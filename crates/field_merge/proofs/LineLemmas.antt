@@ -1,9 +1,12 @@
 -- The parts of a line.
-use Rattle.std.proofs.Common.{◌≡◌, ◌≢◌, ℕ, suc, ◌+◌, List, [], ◌∷◌, ◌++◌, length, Option, None, Some, MatchOption, Bor, refl, ap, sym, subst, ◌∙◌, arith, zero, IfOk, append_assoc, Result, Ok, Err}
+use Rattle.std.proofs.Common.{◌≡◌, ◌≢◌, ℕ, suc, ◌+◌, List, [], ◌∷◌, ◌++◌, length, Option, None, Some, MatchOption, Bor, refl, ap, sym, subst, ◌∙◌, arith, zero, IfOk, IfErr, append_assoc, Result, Ok, Err, true, false}
 use Rattle.std.specs.Prelude.{count_by, ◌==◌, All}
-use Rattle.std.proofs.lemmas.Bool.{eqb-false}
+use Rattle.std.proofs.lemmas.Bool.{eqb-false, or_parts}
 use Rattle.std.proofs.lemmas.List.{append-nil}
-use Rattle.std.proofs.lemmas.List.Splits.{length-slice_split}
+use Rattle.std.proofs.lemmas.List.Splits.{length-slice_split, join_with_byte-slice_split}
+use Rattle.std.proofs.lemmas.List.Folds.{list_any-append}
+use Rattle.std.specs.List.{join_with_byte}
+use Rattle.std.specs.Result.{is_ok}
 use Rattle.field_values.specs.Names.{FieldNames, field_of, names_fault}
 use Rattle.field_values.specs.Value.{value_text}
 use Rattle.field_values.proofs.NameLemmas.{names_fault-none, names_without_fault}
@@ -17,10 +20,10 @@ use Rattle.hybrid_clock.proofs.Texts.{read_valid}
 use Rattle.hybrid_clock.proofs.Writing.{text_reads}
 use Rattle.field_merge.specs.declared.message.Message.{Message}
 use Rattle.field_merge.specs.declared.line.LineFault.{LineFault}
-use Rattle.field_merge.specs.declared.line.LineFault.TheVariants.{Columns}
-use Rattle.field_merge.specs.Escapes.{escaped, unescaped, bad_escape}
+use Rattle.field_merge.specs.declared.line.LineFault.TheVariants.{Columns, NoMemory as OutOfMemory}
+use Rattle.field_merge.specs.Escapes.{escaped, unescaped, bad_escape, has_backslash, ArePlain}
 use Rattle.field_merge.specs.Messages.{IsMessage, message_line}
-use Rattle.field_merge.specs.Lines.{parts, with_names, with_stamp, of_parts, reading}
+use Rattle.field_merge.specs.Lines.{parts, with_names, with_stamp, of_parts, reading, TakesMemory}
 use Rattle.field_merge.proofs.EscapeLemmas.{Lacks, Lacks-from_reads, CutsAt, Fails-append, unescaped-escaped, escaped-no_tab, escaped-no_feed, bad_escape-escaped, bad_escape-tab}
 
 pub parts-none : (xs : List ℕ) → Lacks 9 xs → parts xs ≡ xs ∷ []
@@ -154,3 +157,33 @@ valid_parts (a ∷ b ∷ c ∷ d ∷ e ∷ f ∷ ps) bad m h = absurd (cc)
 -- what a line reads as is a message
 pub reading_is_message : (line : List ℕ) (m : Message) → reading line ≡ Ok m → IsMessage m
 reading_is_message line m h = valid_parts (parts line) (bad_escape line) m h
+
+-- a timestamp and names without a fault are read as a message
+pub reads_well : (stamp dataset row column value : List ℕ) (s : Stamp) → read_stamp (unescaped stamp) ≡ Ok s → names_fault (field_of (unescaped dataset) (unescaped row) (unescaped column)) ≡ None → is_ok (of_parts (stamp ∷ dataset ∷ row ∷ column ∷ value ∷ []) None) ≡ true
+reads_well stamp dataset row column value s read named = rw (read, named) refl
+
+front_plain : (xs rest : List ℕ) → has_backslash (xs ++ (9 ∷ rest)) ≡ false → (has_backslash xs ≡ false) × (has_backslash rest ≡ false)
+front_plain xs rest h = or_parts (has_backslash xs) (has_backslash rest) (sym (list_any-append (λ b. b == 92) xs (9 ∷ rest)) ∙ h)
+
+-- no part of a line without a backslash has one
+pub parts_plain : (line a b c d e : List ℕ) → parts line ≡ a ∷ b ∷ c ∷ d ∷ e ∷ [] → has_backslash line ≡ false → ArePlain a b c d e
+parts_plain line a b c d e cut h =
+    let joined : join_with_byte 9 (a ∷ b ∷ c ∷ d ∷ e ∷ []) ≡ line = ap (join_with_byte 9) (sym cut) ∙ join_with_byte-slice_split 9 line in
+    let whole : has_backslash (a ++ (9 ∷ (b ++ (9 ∷ (c ++ (9 ∷ (d ++ (9 ∷ e)))))))) ≡ false = ap has_backslash joined ∙ h in
+    let one = front_plain a (b ++ (9 ∷ (c ++ (9 ∷ (d ++ (9 ∷ e)))))) whole in
+    let two = front_plain b (c ++ (9 ∷ (d ++ (9 ∷ e)))) one.1 in
+    let three = front_plain c (d ++ (9 ∷ e)) two.1 in
+    let four = front_plain d e three.1 in
+    record { first = one.0; second = two.0; third = three.0; fourth = four.0; fifth = four.1 }
+
+-- where memory is taken, from where it is taken for the parts
+takes_memory : (line a b c d e : List ℕ) → parts line ≡ a ∷ b ∷ c ∷ d ∷ e ∷ [] → bad_escape line ≡ None → (ArePlain a b c d e → is_ok (of_parts (a ∷ b ∷ c ∷ d ∷ e ∷ []) None) ≡ true) → TakesMemory line
+takes_memory line a b c d e cut good read = record {
+  five = ap length cut;
+  good = good;
+  plain = λ h. rw (cut, good) (read (parts_plain line a b c d e cut h));
+}
+
+pub memory_of_parts : (r : Result Message LineFault) (line a b c d e : List ℕ) → parts line ≡ a ∷ b ∷ c ∷ d ∷ e ∷ [] → bad_escape line ≡ None → IfErr r (λ fault. fault ≡ OutOfMemory → ArePlain a b c d e → is_ok (of_parts (a ∷ b ∷ c ∷ d ∷ e ∷ []) None) ≡ true) → IfErr r (λ fault. fault ≡ OutOfMemory → TakesMemory line)
+memory_of_parts (Ok m) line a b c d e cut good h = tt
+memory_of_parts (Err fault) line a b c d e cut good h = λ is. takes_memory line a b c d e cut good (h is)

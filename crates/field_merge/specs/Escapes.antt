@@ -1,6 +1,6 @@
 -- How a part of a line writes the bytes that may not stand in it: by a backslash and a letter.
-use Rattle.std.specs.Prelude.{◌≡◌, ℕ, ◌+◌, List, [], ◌∷◌, ◌++◌, Bool, ◌&&◌, ◌||◌, ◌==◌, if◌then◌else◌, Option, None, Some}
-use Rattle.std.specs.List.{flat_map}
+use Rattle.std.specs.Prelude.{◌≡◌, false, ℕ, ◌+◌, List, [], ◌∷◌, ◌++◌, Bool, ◌&&◌, ◌||◌, ◌==◌, if◌then◌else◌, Option, None, Some}
+use Rattle.std.specs.List.{flat_map, list_any}
 
 -- a byte as a part writes it: 0 is `\0`, TAB `\t`, LF `\n`, a backslash `\\`, and any other byte itself
 abbrev pub escaped_byte : ℕ → List ℕ
@@ -29,6 +29,10 @@ is_special b = (b == 0) || ((b == 9) || ((b == 10) || (b == 92)))
 -- what stands behind a backslash in an escape: `0`, `t`, `n` or a backslash
 abbrev pub is_letter : ℕ → Bool
 is_letter b = (b == 48) || ((b == 116) || ((b == 110) || (b == 92)))
+
+-- whether a text has a backslash
+abbrev pub has_backslash : List ℕ → Bool
+has_backslash text = list_any (λ b. b == 92) text
 
 -- whether two bytes are an escape
 abbrev pub is_escape : ℕ → ℕ → Bool
@@ -67,3 +71,11 @@ bad_escape (b ∷ c ∷ rest) =
 -- the second text is the first, and more behind it or nothing
 abbrev pub BeginsWith : List ℕ → List ℕ → Type 0
 BeginsWith front text = (more : List ℕ) × (text ≡ front ++ more)
+
+-- none of five texts has a backslash
+pub record ArePlain (a b c d e : List ℕ) : Type 0 where
+  pub first : has_backslash a ≡ false
+  pub second : has_backslash b ≡ false
+  pub third : has_backslash c ≡ false
+  pub fourth : has_backslash d ≡ false
+  pub fifth : has_backslash e ≡ false

@@ -1,6 +1,7 @@
 -- What a line reads as.
-use Rattle.std.specs.Prelude.{◌≡◌, ℕ, List, [], ◌∷◌, ◌++◌, length, Option, None, Some, Result, Ok, Err, ◌==◌}
+use Rattle.std.specs.Prelude.{◌≡◌, ℕ, List, [], ◌∷◌, ◌++◌, length, true, false, Option, None, Some, Result, Ok, Err, ◌==◌}
 use Rattle.std.specs.List.{slice_split}
+use Rattle.std.specs.Result.{is_ok}
 use Rattle.field_values.specs.declared.name.NameFault.{NameFault}
 use Rattle.field_values.specs.Names.{FieldNames, field_of, names_fault}
 use Rattle.hybrid_clock.specs.declared.stamp.Stamp.{Stamp}
@@ -9,7 +10,7 @@ use Rattle.hybrid_clock.specs.Reading.{read_stamp}
 use Rattle.field_merge.specs.declared.message.Message.{Message}
 use Rattle.field_merge.specs.declared.line.LineFault.{LineFault}
 use Rattle.field_merge.specs.declared.line.LineFault.TheVariants.{Columns, Escape, Stamp as BadStamp, Name as BadName, NoMemory}
-use Rattle.field_merge.specs.Escapes.{unescaped, bad_escape}
+use Rattle.field_merge.specs.Escapes.{unescaped, bad_escape, has_backslash}
 use Rattle.field_merge.specs.Messages.{message_of}
 
 -- a line with its end
@@ -52,7 +53,8 @@ abbrev pub IsLineFault : Result Message LineFault → LineFault → Type 0
 IsLineFault read NoMemory = Unit {0}
 IsLineFault read found = read ≡ Err found
 
--- a line has to have five parts and no bad escape before memory is taken for it
+-- memory is taken only for a line of five parts without a bad escape, and where it has no backslash at all only for a message's line
 pub record TakesMemory (line : List ℕ) : Type 0 where
   pub five : length (parts line) ≡ 5
   pub good : bad_escape line ≡ None
+  pub plain : has_backslash line ≡ false → is_ok (reading line) ≡ true

@@ -1,5 +1,5 @@
 //! The escapes of a line's parts: `\0`, `\t`, `\n` and `\\` for the bytes 0, 9, 10 and 92.
-ghost use Rattle.std.specs.Prelude.{None, ◌≡◌, ◌<◌, ◌≤◌, ◌++◌, ◌∷◌, length, IfOk, IsTrue, OnErr, OnOk, MatchOption, position, string_bytes};
+ghost use Rattle.std.specs.Prelude.{None, true, false, ◌≡◌, ◌<◌, ◌≤◌, ◌++◌, ◌∷◌, length, IfOk, IsTrue, OnErr, OnOk, MatchOption, position, string_bytes};
 ghost use Rattle.std.specs.Bool.{OnTrue};
 ghost use Rattle.field_merge.specs.Escapes as spec;
 ghost use Rattle.field_merge.specs.Escapes.{escaped, escaped_byte, unescaped};
@@ -53,6 +53,7 @@ fn cut_backslash(part: &str) -> Option<(&str, &str)>
 pub(crate) fn is_plain(part: &str) -> bool
     ensures whole { OnTrue result (unescaped part.now ≡ part.now) }
     ensures good { OnTrue result (spec.bad_escape part.now ≡ None) }
+    ensures other { result ≡ false → spec.has_backslash part.now ≡ true }
 {
     memchr(b'\\', part.as_bytes()).is_none()
 }

@@ -1,10 +1,12 @@
 //! The line of a message, read and written.
-ghost use Rattle.std.specs.Prelude.{◌≡◌, ◌≢◌, ◌==◌, ◌≤◌, ◌∷◌, ◌++◌, [], length, count_by, IfOk, IfErr, OnErr, OnOk, MatchOption, MatchResult, IsUtf8, Ok, Some, None, string_bytes};
+ghost use Rattle.std.specs.Prelude.{◌≡◌, ◌≢◌, ◌==◌, ◌≤◌, ◌∷◌, ◌++◌, [], length, count_by, IfOk, IfErr, OnErr, OnOk, MatchOption, MatchResult, IsUtf8, Ok, Some, None, true, false, string_bytes};
 ghost use Rattle.field_values.specs.Names.{field_of, names_fault, AreNames};
 ghost use Rattle.field_values.specs.Value.{value_of, IsValue};
 ghost use Rattle.hybrid_clock.specs.Stamp.{stamp_text, IsStamp};
 ghost use Rattle.hybrid_clock.specs.Reading.{read_stamp};
-ghost use Rattle.field_merge.specs.Escapes.{escaped, unescaped, BeginsWith};
+ghost use Rattle.field_merge.specs.Escapes.{escaped, unescaped, has_backslash, BeginsWith};
+ghost use Rattle.std.specs.Result.{is_ok};
+ghost use Rattle.field_merge.specs.Escapes.{ArePlain};
 ghost use Rattle.field_merge.specs.Lines.{reading, parts, of_parts, IsLineFault, TakesMemory};
 ghost use Rattle.field_merge.specs.Messages.{IsMessage, message_line, message_body};
 ghost use Rattle.field_merge.specs.declared.line.LineFault.TheVariants.{NoMemory as OutOfMemory};
@@ -101,6 +103,7 @@ fn count_parts(line: &[u8]) -> usize
 fn stamp_in(alloc: Global, part: &str) -> Result<Result<Stamp, StampFault>, NoMemory>
     ensures reading { IfOk result (λ read. read ≡ read_stamp (unescaped part.now)) }
     ensures valid { IfOk result (λ read. IfOk read IsStamp) }
+    ensures memory { OnErr result (has_backslash part.now ≡ true) }
 {
     if is_plain(part) {
         return Ok(Stamp::parse(part.as_bytes()));
@@ -116,10 +119,11 @@ fn field_of_names(
     row: &str,
     column: &str,
 ) -> Result<Result<Field, NameFault>, NoMemory>
-    ensures { let names = field_of dataset.now row.now column.now in
+    ensures reading { let names = field_of dataset.now row.now column.now in
         IfOk result (λ read. MatchResult read
         (λ field. (field ≡ names) × AreNames names × (names_fault names ≡ None))
         (λ fault. names_fault names ≡ Some fault)) }
+    ensures memory { OnErr result (names_fault (field_of dataset.now row.now column.now) ≡ None) }
 {
     match Field::make(alloc, dataset, row, column) {
         Ok(field) => Ok(Ok(field)),
@@ -130,10 +134,12 @@ fn field_of_names(
 
 /// The field that three parts stand for. Parts without a backslash are not copied first.
 fn field_in(alloc: Global, parts: &Parts<'_>) -> Result<Result<Field, NameFault>, NoMemory>
-    ensures { let names = field_of (unescaped parts.now.dataset.now) (unescaped parts.now.row.now) (unescaped parts.now.column.now) in
+    ensures reading { let names = field_of (unescaped parts.now.dataset.now) (unescaped parts.now.row.now) (unescaped parts.now.column.now) in
         IfOk result (λ read. MatchResult read
         (λ field. (field ≡ names) × AreNames names × (names_fault names ≡ None))
         (λ fault. names_fault names ≡ Some fault)) }
+    ensures memory { OnErr result (has_backslash parts.now.dataset.now ≡ false → has_backslash parts.now.row.now ≡ false → has_backslash parts.now.column.now ≡ false
+        → names_fault (field_of (unescaped parts.now.dataset.now) (unescaped parts.now.row.now) (unescaped parts.now.column.now)) ≡ None) }
 {
     if is_plain(parts.dataset) && is_plain(parts.row) && is_plain(parts.column) {
         return field_of_names(alloc, parts.dataset, parts.row, parts.column);
@@ -157,12 +163,15 @@ fn value_in(alloc: Global, part: &str) -> Result<Value, NoMemory>
 }
 
 /// The message that five parts stand for.
+#[tactic(auto, using(crate::proofs::LineLemmas::reads_well))]
 fn message_in(alloc: Global, parts: &Parts<'_>) -> Result<Message, LineFault>
     ensures ok { IfOk result (λ m. of_parts (parts.now.stamp.now ∷ parts.now.dataset.now ∷ parts.now.row.now
         ∷ parts.now.column.now ∷ parts.now.value.now ∷ []) None ≡ Ok m) }
     ensures valid { IfOk result IsMessage }
     ensures err { IfErr result (IsLineFault (of_parts (parts.now.stamp.now ∷ parts.now.dataset.now ∷ parts.now.row.now
         ∷ parts.now.column.now ∷ parts.now.value.now ∷ []) None)) }
+    ensures memory { IfErr result (λ fault. fault ≡ OutOfMemory → ArePlain parts.now.stamp.now parts.now.dataset.now parts.now.row.now parts.now.column.now parts.now.value.now
+        → is_ok (of_parts (parts.now.stamp.now ∷ parts.now.dataset.now ∷ parts.now.row.now ∷ parts.now.column.now ∷ parts.now.value.now ∷ []) None) ≡ true) }
 {
     let stamp = match stamp_in(alloc, parts.stamp)? {
         Ok(stamp) => stamp,
