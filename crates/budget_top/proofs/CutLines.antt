@@ -1,17 +1,13 @@
 -- Lines with their ends, cut again; and the numbers of the bad ones.
-use Rattle.std.proofs.Common.{◌≡◌, ◌≢◌, ℕ, zero, suc, ◌+◌, Bool, true, false, cond, eqb, List, [], ◌∷◌, ◌++◌, length, get_or, Result, Ok, Err, refl, ap, sym, ◌∙◌, arith, append_assoc, append-nil}
-use Rattle.std.specs.Prelude.{codes, All, ◌<◌}
-use Rattle.std.specs.Fmt.{decimal}
-use Rattle.std.specs.List.{flat_map, join_with_byte, onto_first, AllByRecursion}
+use Rattle.std.proofs.Common.{◌≡◌, ◌≢◌, ℕ, zero, suc, ◌+◌, Bool, true, false, cond, eqb, List, [], ◌∷◌, ◌++◌, length, Ok, Err, refl, ap, sym, ◌∙◌, arith, append_assoc, append-nil}
+use Rattle.std.specs.List.{flat_map, join_with_byte, onto_first}
 use Rattle.std.proofs.lemmas.Bool.{eqb-false}
 use Rattle.std.proofs.lemmas.List.Splits.{join_with_byte-slice_split}
-use Rattle.field_merge.specs.declared.message.Message.{Message}
 use Rattle.field_merge.specs.Lines.{ended}
 use Rattle.command_lines.specs.ReplyLines.{IsLine, AreLines}
 use Rattle.command_lines.proofs.Cutting.{pieces-none, pieces-at}
-use Rattle.budget_top.specs.declared.verdict.Word.{Word}
-use Rattle.budget_top.specs.Lines.{is_end, pieces, all_but_last, last_of, whole_lines, last_piece, line_if_some, all_lines}
-use Rattle.budget_top.specs.Verdicts.{Verdict, judged, word_text, bad_line, bad_lines_from, bad_lines}
+use Rattle.budget_top.specs.Lines.{pieces, all_but_last, last_of, whole_lines, last_piece, line_if_some, all_lines}
+use Rattle.budget_top.specs.Verdicts.{Verdict, judged, bad_line, bad_lines_from, bad_lines}
 use Rattle.budget_top.specs.CutLines.{IsMadeOf, LinesAreCut}
 use Rattle.budget_top.proofs.Cutting.{but_last-append, last_of-append}
 

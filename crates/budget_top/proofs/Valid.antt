@@ -1,12 +1,10 @@
 -- The states of a device stay valid.
-use Rattle.std.proofs.Common.{◌≡◌, ℕ, ◌+◌, ◌-◌, ◌<◌, ◌≤◌, ◌/◌, ◌*◌, Bool, true, false, cond, List, [], ◌∷◌, length, Option, None, Some, inl, inr, Result, Ok, Err, refl, ap, sym, subst, ◌∙◌, arith}
+use Rattle.std.proofs.Common.{◌≡◌, ℕ, ◌+◌, ◌-◌, ◌<◌, ◌≤◌, ◌/◌, ◌*◌, Bool, true, false, cond, List, [], ◌∷◌, length, Option, None, Some, inl, inr, Result, Ok, Err, refl, subst, arith}
 use Rattle.std.specs.Prelude.{nat_lt, max, if◌then◌else◌}
 use Rattle.std.specs.Str.{is_utf8}
 use Rattle.std.proofs.lemmas.Bool.{ltb-true, ltb-false}
 use Rattle.field_values.specs.declared.name.NameFault.{NameFault}
-use Rattle.field_values.specs.declared.value.Value.{Value}
 use Rattle.field_values.specs.Names.{FieldNames, names_fault}
-use Rattle.field_values.specs.Value.{IsValue}
 use Rattle.field_values.proofs.NameLemmas.{names_without_fault}
 use Rattle.hybrid_clock.specs.declared.clock.ClockFault.{ClockFault}
 use Rattle.hybrid_clock.specs.declared.clock.ClockFault.TheVariants.{Drift, Overflow, Beyond}
@@ -22,13 +20,12 @@ use Rattle.field_merge.proofs.Members.{all_from, all_of}
 use Rattle.device_core.specs.declared.edit.Edit.{Edit}
 use Rattle.device_core.specs.declared.edit.Edit.TheVariants.{Book}
 use Rattle.device_core.specs.declared.edit.BookEdit.TheVariants.{Set}
-use Rattle.device_core.specs.declared.edit.EditFault.{EditFault}
 use Rattle.device_core.specs.declared.edit.EditFault.TheVariants.{TooManyWrites}
 use Rattle.device_core.specs.declared.edit.LineRefusal.{LineRefusal}
 use Rattle.device_core.specs.declared.edit.LineRefusal.TheVariants.{Edit as OfEdit}
 use Rattle.device_core.specs.declared.edit.Write.{Write}
 use Rattle.device_core.specs.Device.{State, Accepted, begun, first_in_row, stamped, written, writing, edited, taken_in, received}
-use Rattle.device_core.specs.Edits.{AreWrites, IsEdit, write_unless, writes_of}
+use Rattle.device_core.specs.Edits.{AreWrites, IsEdit, write_unless}
 use Rattle.device_core.proofs.Greatest.{last_valid}
 use Rattle.device_core.proofs.Stamping.{stamped_valid}
 use Rattle.command_lines.specs.Commands.{command, IsCommand}
