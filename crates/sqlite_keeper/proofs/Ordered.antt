@@ -48,9 +48,9 @@ module _ {X : Type 0} (Below : X → X → Type 0) (apart : (a b : X) → Below 
       let first : x ≡ y = elim (a x (inl refl)) [
         | inl e ↦ e
         | inr later ↦ elim (b y (inl refl)) [
-            | inl e ↦ sym e
-            | inr also ↦ absurd (apart x y (all_has (Below x) xs y p.0 also) (all_has (Below y) ys x q.0 later))
-          ]
+          | inl e ↦ sym e
+          | inr also ↦ absurd (apart x y (all_has (Below x) xs y p.0 also) (all_has (Below y) ys x q.0 later))
+        ]
       ] in
       let past : (z : X) (zs : List X) → AllByRecursion (Below z) zs → (e : X) → Has zs e → e ≡ z → ⊥ = λ z zs up e h is.
       let self : Below z z = subst (Below z) is (all_has (Below z) zs e up h) in apart z z self self in
@@ -193,7 +193,7 @@ rise_push (s ∷ []) r up low = (up.0, (less_is _ low, tt), (above_some s.key r.
 rise_push (s ∷ t ∷ rs) r up low = (
   up.0,
   all_push (λ q. Under s.key q.key) (t ∷ rs) r up.1
-  (text_total.trans s.key (last_key (t ∷ rs)) r.key (below_last s.key t.key (map (λ r. r.key) rs) (all_keys (Under s.key) (t ∷ rs) up.1)) (less_is _ low)),
+      (text_total.trans s.key (last_key (t ∷ rs)) r.key (below_last s.key t.key (map (λ r. r.key) rs) (all_keys (Under s.key) (t ∷ rs) up.1)) (less_is _ low)),
   rise_push (t ∷ rs) r up.2 low,
 )
 

@@ -41,10 +41,7 @@ fn version_in(alloc: Global, rows: &[Row]) -> Result<Txt, Error>
 }
 
 /// The text `version` of a store, empty where it has none.
-pub(crate) fn try_version<S: Alter>(
-    alloc: Global,
-    conn: &mut Connection<S>,
-) -> Result<Txt, Error>
+pub(crate) fn try_version<S: Alter>(alloc: Global, conn: &mut Connection<S>) -> Result<Txt, Error>
     ensures version { HasCleanDisk (state S.Store conn.new) → Sound S.Store conn.old → IfOk result (IsVersion (contents_now S.Store conn.old)) }
     ensures sound { Sound S.Store conn.old → Sound S.Store conn.new }
     ensures told { HasCleanDisk (state S.Store conn.new) → Sound S.Store conn.old → IsTrue (state S.Store conn.new).is_open → IsTrue (state S.Store conn.old).is_open }

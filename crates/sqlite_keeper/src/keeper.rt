@@ -87,16 +87,15 @@ impl<S: Alter> SqliteKeeper<S> {
     /// is another the fault tells it. Where the connection refuses the statement, the tables and the
     /// version are made in one commit; where it refuses that as well, the keeper is shut, and its count
     /// is 1. What `in_order` gives is what `ordered` asks.
-    pub fn adopt(
-        alloc: Global,
-        connection: Connection<S>,
-    ) -> Result<SqliteKeeper<S>, Unadopted<S>>
+    pub fn adopt(alloc: Global, connection: Connection<S>) -> Result<SqliteKeeper<S>, Unadopted<S>>
         requires idle { connection.in_transaction ≡ false }
         requires ordered { IsInOrder S.Store connection }
         ensures count { IfOk result (λ k. k.faults ≡ (if k.is_shut then 1 else 0)) }
         ensures kept { IfOk result (λ k. connection.schema ≡ keeper_schema → k.is_shut ≡ false → HasCleanDisk (state S.Store k.conn) → TellsAll S.Store k × (contents_now S.Store k.conn ≡ contents_now S.Store connection) × (get (contents_now S.Store connection).texts version_name ≡ Some version_one)) }
         ensures made { IfOk result (λ k. connection.schema ≡ no_schema → k.is_shut ≡ false → HasCleanDisk (state S.Store k.conn) → TellsAll S.Store k × (contents_now S.Store k.conn ≡ new_contents)) }
         ensures alone { IfOk result (λ k. IsAlone (TellsAll S.Store k) (contents_now S.Store k.conn) (MayBeLeft S.Store k)) }
+        ensures ours { IfOk result (λ k. k.is_ours ≡ true → (connection.schema ≡ keeper_schema) ⊎ (connection.schema ≡ no_schema)) }
+        ensures clean { IfOk result (λ k. doubt (state S.Store connection).is_clean ≤ doubt (state S.Store k.conn).is_clean) }
         ensures version { IfErr result (λ u. connection.schema ≡ keeper_schema → HasCleanDisk (state S.Store u.connection) → TellsVersion (contents_now S.Store connection) u.fault) }
         ensures new { IfErr result (λ u. connection.schema ≡ no_schema → HasCleanDisk (state S.Store u.connection) → u.fault ≡ AdoptFault.NoMemory) }
         ensures idle { IfErr result (λ u. u.connection.in_transaction ≡ false) }
@@ -157,6 +156,7 @@ impl<S: Alter> SqliteKeeper<S> {
         ensures count { IfOk result (λ k. k.faults ≡ (if k.is_shut then 1 else 0)) }
         ensures made { IfOk result (λ k. IsTrue is_new → k.is_shut ≡ false → HasCleanDisk (state S.Store k.conn) → TellsAll S.Store k × (contents_now S.Store k.conn ≡ new_contents)) }
         ensures alone { IfOk result (λ k. IsAlone (TellsAll S.Store k) (contents_now S.Store k.conn) (MayBeLeft S.Store k)) }
+        ensures ours { IfOk result (λ k. k.is_ours ≡ true → IsTrue is_new) }
         ensures fault { IfErr result (λ u. u.fault ≡ AdoptFault.NoMemory) }
         ensures idle { IfErr result (λ u. u.connection.in_transaction ≡ false) }
         ensures same { IfErr result (λ u. IsTrue is_new → HasCleanDisk (state S.Store u.connection) → IsTrue (state S.Store u.connection).is_open → (state S.Store u.connection).now ≡ (state S.Store connection).now) }
@@ -189,6 +189,13 @@ impl<S: Alter> SqliteKeeper<S> {
         ensures { result ≡ self.now.is_shut }
     {
         self.is_shut
+    }
+
+    /// The connection.
+    pub fn into_connection(self) -> Connection<S>
+        ensures { result ≡ self.conn }
+    {
+        self.conn
     }
 }
 

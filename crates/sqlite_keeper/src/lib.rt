@@ -4,10 +4,14 @@
 mod adopting;
 mod asking;
 mod keeper;
-mod reading;
 mod layout;
 mod order;
+mod reading;
+mod shut;
+mod taking;
 mod writing;
 
-pub use order::in_order;
 pub use keeper::{AdoptFault, SqliteKeeper, Unadopted};
+pub use order::in_order;
+pub use shut::ShutKeeper;
+pub use taking::{StoreFault, open, take};

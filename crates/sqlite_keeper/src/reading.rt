@@ -27,10 +27,7 @@ fn text_in(rows: &[Row]) -> Result<Option<Txt>, Error>
 }
 
 /// The text under a name, if there is one.
-pub(crate) fn try_get<S: Alter>(
-    conn: &mut Connection<S>,
-    name: &Txt,
-) -> Result<Option<Txt>, Error>
+pub(crate) fn try_get<S: Alter>(conn: &mut Connection<S>, name: &Txt) -> Result<Option<Txt>, Error>
     ensures text { HasCleanDisk (state S.Store conn.new) → Sound S.Store conn.old → IfOk result (λ o. o ≡ maps.get (contents_now S.Store conn.old).texts name.now) }
     ensures sound { Sound S.Store conn.old → Sound S.Store conn.new }
     ensures told { HasCleanDisk (state S.Store conn.new) → Sound S.Store conn.old → IsTrue (state S.Store conn.new).is_open → IsTrue (state S.Store conn.old).is_open }

@@ -26,7 +26,11 @@ fn put<S: Alter>(conn: &mut Connection<S>, name: &str, text: &str) -> Result<(),
 }
 
 /// Replaces a text, where the connection is still open.
-pub(crate) fn try_put<S: Alter>(conn: &mut Connection<S>, name: &str, text: &str) -> Result<(), Error>
+pub(crate) fn try_put<S: Alter>(
+    conn: &mut Connection<S>,
+    name: &str,
+    text: &str,
+) -> Result<(), Error>
     ensures sound { Sound S.Store conn.old → Sound S.Store conn.new }
     ensures told { HasCleanDisk (state S.Store conn.new) → Sound S.Store conn.old → IsTrue (state S.Store conn.new).is_open → IsTrue (state S.Store conn.old).is_open }
     ensures done { HasCleanDisk (state S.Store conn.new) → Sound S.Store conn.old → OnOk result (contents_now S.Store conn.new ≡ with_text (contents_now S.Store conn.old) name.now text.now) }
