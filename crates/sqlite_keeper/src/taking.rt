@@ -2,6 +2,8 @@
 ghost use Rattle.std.specs.Prelude.{◌≡◌, ◌⊎◌, if◌then◌else◌, IfOk};
 ghost use Rattle.budget_ports.specs.Keeper.{IsAlone};
 ghost use Rattle.sqlite.specs.Held.{state};
+ghost use Rattle.sqlite_catalog.specs.Listing.{IsSound};
+ghost use Rattle.sqlite_keeper.specs.Tables.{no_schema};
 ghost use Rattle.sqlite_keeper.specs.Contents.{contents_of, contents_now};
 ghost use Rattle.sqlite_keeper.specs.Keeping.{TellsAll, MayBeLeft};
 ghost use Rattle.sqlite_keeper.specs.Adopting.{new_contents};
@@ -30,12 +32,12 @@ pub enum StoreFault {
 /// A keeper over a store that was opened: what was not committed is rolled back, the store is read
 /// again in order, and taken as `SqliteKeeper::adopt` does. Where it is not, it is let go.
 ///
-/// A keeper that tells has what was committed last, or what a new store has.
+/// A keeper that tells has what was committed last, or, where nothing was listed, what a new store has.
 pub fn take<S: Alter + Drop>(
     alloc: Global,
     connection: Connection<S>,
 ) -> Result<SqliteKeeper<S>, StoreFault>
-    ensures again { IfOk result (λ k. TellsAll S.Store k → (contents_now S.Store k.conn ≡ contents_of (state S.Store connection).committed.trees) ⊎ (contents_now S.Store k.conn ≡ new_contents)) }
+    ensures again { IfOk result (λ k. TellsAll S.Store k → (contents_now S.Store k.conn ≡ contents_of (state S.Store connection).committed.trees) ⊎ ((contents_now S.Store k.conn ≡ new_contents) × IsSound no_schema (state S.Store connection).committed.trees)) }
     ensures alone { IfOk result (λ k. IsAlone (TellsAll S.Store k) (contents_now S.Store k.conn) (MayBeLeft S.Store k)) }
     ensures count { IfOk result (λ k. k.faults ≡ (if k.is_shut then 1 else 0)) }
 {
