@@ -1,0 +1,13 @@
+pub mod Texts
+pub mod Lists
+pub mod Maps
+pub mod RowRules
+pub mod GetLemmas
+pub mod PutLemmas
+pub mod Calls
+pub mod AppendLemmas
+pub mod Ordered
+pub mod SinceLemmas
+pub mod Layouts
+pub mod MakeLemmas
+pub mod OrderLemmas

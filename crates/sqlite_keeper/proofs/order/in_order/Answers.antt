@@ -1,0 +1,36 @@
+use Rattle.std.proofs.Common.{◌≡◌, ◌∙◌, false, sym, subst₂, arith}
+use Rattle.sqlite.specs.Held.{state}
+use Rattle.sqlite_catalog.specs.Listing.{IsSound}
+use Rattle.sqlite_trees.specs.View.{IsClean}
+use Rattle.sqlite_keeper.proofs.OrderLemmas.{fresh, rows_rise, open_of}
+use Rattle.sqlite_keeper.proofs.order.in_order.Goals as goal
+
+pub over-requires : goal.over-requires
+over-requires g c clean =
+    let store = c.into_store-store.result in
+    fresh (g.S.Store.view c.args.connection.store) (g.S.Store.view store) (g.met.S.Store.broken_if_shut store) c.into_store-store.ensures.undone (c.into_store-store.ensures.numbered clean) (sym (c.if-is_broken.ensures clean)) clean
+
+pub returns-in-Ok-clause-ordered : goal.returns-in-Ok-clause-ordered
+returns-in-Ok-clause-ordered g c clean is_open is =
+    let store = c.into_store-store.result in
+    let early : IsClean (g.S.Store.view store) = omega (arith, c.in-Ok.ensures.clean) in
+    let sound : (g.S.Store.view store).is_broken ≡ false = sym (c.if-is_broken.ensures early) in
+    rows_rise (g.S.Store.view store) (state g.S.Store c.in-Ok.again).now.trees c.in-Ok.again.schema (c.in-Ok.ensures.trees clean) (g.met.S.Alter.listed store sound) (g.met.S.Store.ordered store sound)
+    (c.schema-schema.ensures.live is_open).0.lists.listed is
+
+pub returns-in-Ok-clause-rows : goal.returns-in-Ok-clause-rows
+returns-in-Ok-clause-rows g c clean =
+    let store = c.into_store-store.result in
+    let early : IsClean (g.S.Store.view store) = omega (arith, c.in-Ok.ensures.clean) in
+    let sound : (g.S.Store.view store).is_broken ≡ false = sym (c.if-is_broken.ensures early) in
+    let is_open = open_of (g.S.Store.view store) (g.met.S.Store.broken_if_shut store) sound in
+    ((c.in-Ok.ensures.opens clean).0.is_open, c.in-Ok.ensures.trees clean ∙ (c.into_store-store.ensures.undone.undone is_open).0)
+
+pub returns-in-Ok-clause-blank : goal.returns-in-Ok-clause-blank
+returns-in-Ok-clause-blank g c clean is =
+    let store = c.into_store-store.result in
+    let early : IsClean (g.S.Store.view store) = omega (arith, c.in-Ok.ensures.clean) in
+    let sound : (g.S.Store.view store).is_broken ≡ false = sym (c.if-is_broken.ensures early) in
+    let is_open = open_of (g.S.Store.view store) (g.met.S.Store.broken_if_shut store) sound in
+    let rows = c.in-Ok.ensures.trees clean ∙ (c.into_store-store.ensures.undone.undone is_open).0 in
+    subst₂ IsSound is rows (c.schema-schema.ensures.live (c.in-Ok.ensures.opens clean).0.is_open).0

@@ -1,0 +1,5 @@
+pub mod Tables
+pub mod Contents
+pub mod Keeping
+pub mod Queries
+pub mod Adopting

@@ -1,0 +1,265 @@
+//! The keeper over a connection.
+ghost use Rattle.std.specs.Prelude.{◌≡◌, ◌≤◌, ◌⊎◌, true, false, if◌then◌else◌, Some, Result, Err, IsTrue, IfOk, IfErr};
+ghost use Rattle.std.specs.FinMap.{get};
+ghost use Rattle.sqlite.specs.State.{HasCleanDisk};
+ghost use Rattle.sqlite.specs.Held.{state};
+ghost use Rattle.sqlite_trees.specs.View.{doubt};
+ghost use Rattle.budget_ports.specs.Faults.{count_after};
+ghost use Rattle.budget_ports.specs.Keeper.{has_failed, IsAlone};
+ghost use Rattle.sqlite_keeper.specs.Contents.{contents_now};
+ghost use Rattle.sqlite_keeper.specs.Keeping.{TellsAll, MayBeLeft};
+ghost use Rattle.sqlite_keeper.specs.Tables.{keeper_schema, no_schema};
+ghost use Rattle.sqlite_keeper.specs.Adopting.{IsInOrder, IsNew, TellsVersion, new_contents, version_name, version_one};
+
+use crate::adopting::{is_memory, make, try_version};
+use crate::layout::{is_blank, is_ours};
+use crate::reading::{try_get, try_names, try_since};
+use crate::writing::{try_append, try_put};
+use budget_ports::{Keeper, PortFault, Record};
+use field_values::{Items, Txt};
+use sqlite::{Alter, Connection, Error};
+use std::alloc::Global;
+use std::marker::Model;
+
+/// A keeper over a connection to a store with the keeper's two tables.
+///
+/// It tells its contents while it is not shut, its tables are the keeper's alone, and the connection
+/// is open over a disk that has returned what was written. A shut keeper fails at each call.
+#[derive(Drop)]
+pub struct SqliteKeeper<S: Alter> {
+    conn: Connection<S>,
+    alloc: Global,
+    is_shut: bool,
+    is_ours: bool,
+    faults: u64,
+}
+
+impl<S: Alter> Model for SqliteKeeper<S> {
+    ghost use Rattle.std.specs.Prelude.{◌≡◌, true, false};
+    ghost use Rattle.sqlite_keeper.specs.Keeping.{Keeping, keeping_code};
+    ghost use Rattle.sqlite_keeper.specs.Contents.{Sound};
+
+    ghost Value = { Keeping S };
+
+    ghost coded = { keeping_code S.code };
+
+    ghost view = { λ k. record { conn = k.conn; is_shut = k.is_shut; is_ours = k.is_ours; faults = k.faults } };
+
+    ghost invariant = { λ k. k.is_shut ≡ false → k.is_ours ≡ true → Sound S.Store k.conn };
+}
+
+/// Want of memory is told as such, and any other refusal is counted.
+fn refuse(faults: &mut u64, error: Error) -> PortFault
+    ensures { faults.new ≡ count_after (has_failed {T = Unit {0}} (Err result)) faults.old }
+{
+    if is_memory(&error) {
+        return PortFault::NoMemory;
+    }
+    *faults = faults.saturating_add(1);
+    PortFault::Failed
+}
+
+/// Why a store was not taken.
+#[derive(Debug, Drop)]
+pub enum AdoptFault {
+    /// It is of another version, or of one that it does not tell: then `found` is empty.
+    Version {
+        /// The text `version` of the store.
+        found: Txt,
+    },
+    /// There was not enough memory.
+    NoMemory,
+}
+
+/// A store that was not taken: why, and its connection, outside a transaction.
+#[derive(Drop)]
+pub struct Unadopted<S: Alter> {
+    /// Why it was not taken.
+    pub fault: AdoptFault,
+    /// The connection as it was given, with the contents that it had.
+    pub connection: Connection<S>,
+}
+
+impl<S: Alter> SqliteKeeper<S> {
+    /// Takes a store: one of this version as it is, and where it has no tables it makes them.
+    ///
+    /// The first statement asks for the text `version`. Where it is `1` the store is taken, and where it
+    /// is another the fault tells it. Where the connection refuses the statement, the tables and the
+    /// version are made in one commit; where it refuses that as well, the keeper is shut, and its count
+    /// is 1. What `in_order` gives is what `ordered` asks.
+    pub fn adopt(alloc: Global, connection: Connection<S>) -> Result<SqliteKeeper<S>, Unadopted<S>>
+        requires idle { connection.in_transaction ≡ false }
+        requires ordered { IsInOrder S.Store connection }
+        ensures count { IfOk result (λ k. k.faults ≡ (if k.is_shut then 1 else 0)) }
+        ensures kept { IfOk result (λ k. connection.schema ≡ keeper_schema → k.is_shut ≡ false → HasCleanDisk (state S.Store k.conn) → TellsAll S.Store k × (contents_now S.Store k.conn ≡ contents_now S.Store connection) × (get (contents_now S.Store connection).texts version_name ≡ Some version_one)) }
+        ensures made { IfOk result (λ k. connection.schema ≡ no_schema → k.is_shut ≡ false → HasCleanDisk (state S.Store k.conn) → TellsAll S.Store k × (contents_now S.Store k.conn ≡ new_contents)) }
+        ensures alone { IfOk result (λ k. IsAlone (TellsAll S.Store k) (contents_now S.Store k.conn) (MayBeLeft S.Store k)) }
+        ensures ours { IfOk result (λ k. k.is_ours ≡ true → (connection.schema ≡ keeper_schema) ⊎ (connection.schema ≡ no_schema)) }
+        ensures clean { IfOk result (λ k. doubt (state S.Store connection).is_clean ≤ doubt (state S.Store k.conn).is_clean) }
+        ensures version { IfErr result (λ u. connection.schema ≡ keeper_schema → HasCleanDisk (state S.Store u.connection) → TellsVersion (contents_now S.Store connection) u.fault) }
+        ensures new { IfErr result (λ u. connection.schema ≡ no_schema → HasCleanDisk (state S.Store u.connection) → u.fault ≡ AdoptFault.NoMemory) }
+        ensures idle { IfErr result (λ u. u.connection.in_transaction ≡ false) }
+        ensures same { IfErr result (λ u. connection.schema ≡ keeper_schema ⊎ connection.schema ≡ no_schema → HasCleanDisk (state S.Store u.connection) → IsTrue (state S.Store u.connection).is_open → contents_now S.Store u.connection ≡ contents_now S.Store connection) }
+    {
+        let mut connection = connection;
+        let _settled = connection.is_autocommit();
+        let has_tables = is_ours(connection.schema());
+        let is_new = is_blank(connection.schema());
+        match try_version(alloc, &mut connection) {
+            Ok(found) => {
+                if found.as_str() != "1" {
+                    let fault = AdoptFault::Version { found };
+                    return Err(Unadopted { fault, connection });
+                }
+                Ok(SqliteKeeper {
+                    conn: connection,
+                    alloc,
+                    is_shut: false,
+                    is_ours: has_tables,
+                    faults: 0,
+                })
+            }
+            Err(error) => {
+                if is_memory(&error) {
+                    let fault = AdoptFault::NoMemory;
+                    return Err(Unadopted { fault, connection });
+                }
+                if has_tables {
+                    return Ok(SqliteKeeper::shut(alloc, connection));
+                }
+                SqliteKeeper::begin(alloc, connection, is_new)
+            }
+        }
+    }
+
+    /// A keeper that fails at each call, and has failed once.
+    fn shut(alloc: Global, connection: Connection<S>) -> SqliteKeeper<S>
+        ensures { result ≡ record { conn = connection; is_shut = true; is_ours = false; faults = 1 } }
+    {
+        SqliteKeeper {
+            conn: connection,
+            alloc,
+            is_shut: true,
+            is_ours: false,
+            faults: 1,
+        }
+    }
+
+    /// Makes the tables, and takes the store.
+    fn begin(
+        alloc: Global,
+        connection: Connection<S>,
+        is_new: bool,
+    ) -> Result<SqliteKeeper<S>, Unadopted<S>>
+        requires idle { connection.in_transaction ≡ false }
+        requires new { IsTrue is_new → IsNew S.Store connection }
+        ensures count { IfOk result (λ k. k.faults ≡ (if k.is_shut then 1 else 0)) }
+        ensures made { IfOk result (λ k. IsTrue is_new → k.is_shut ≡ false → HasCleanDisk (state S.Store k.conn) → TellsAll S.Store k × (contents_now S.Store k.conn ≡ new_contents)) }
+        ensures alone { IfOk result (λ k. IsAlone (TellsAll S.Store k) (contents_now S.Store k.conn) (MayBeLeft S.Store k)) }
+        ensures ours { IfOk result (λ k. k.is_ours ≡ true → IsTrue is_new) }
+        ensures fault { IfErr result (λ u. u.fault ≡ AdoptFault.NoMemory) }
+        ensures idle { IfErr result (λ u. u.connection.in_transaction ≡ false) }
+        ensures same { IfErr result (λ u. IsTrue is_new → HasCleanDisk (state S.Store u.connection) → IsTrue (state S.Store u.connection).is_open → (state S.Store u.connection).now ≡ (state S.Store connection).now) }
+        ensures told { IfErr result (λ u. IsTrue is_new → HasCleanDisk (state S.Store u.connection) → IsTrue (state S.Store u.connection).is_open → IsTrue (state S.Store connection).is_open) }
+        ensures clean { IfErr result (λ u. doubt (state S.Store connection).is_clean ≤ doubt (state S.Store u.connection).is_clean) }
+        ensures ok_clean { IfOk result (λ k. doubt (state S.Store connection).is_clean ≤ doubt (state S.Store k.conn).is_clean) }
+    {
+        let mut connection = connection;
+        let _settled = connection.is_autocommit();
+        match make(&mut connection) {
+            Ok(()) => Ok(SqliteKeeper {
+                conn: connection,
+                alloc,
+                is_shut: false,
+                is_ours: is_new,
+                faults: 0,
+            }),
+            Err(error) => {
+                if is_memory(&error) {
+                    let fault = AdoptFault::NoMemory;
+                    return Err(Unadopted { fault, connection });
+                }
+                Ok(SqliteKeeper::shut(alloc, connection))
+            }
+        }
+    }
+
+    /// Whether the keeper is shut: each call fails then.
+    pub fn is_shut(&self) -> bool
+        ensures { result ≡ self.now.is_shut }
+    {
+        self.is_shut
+    }
+
+    /// The connection.
+    pub fn into_connection(self) -> Connection<S>
+        ensures { result ≡ self.conn }
+    {
+        self.conn
+    }
+}
+
+impl<S: Alter> Keeper for SqliteKeeper<S> {
+    ghost tells = { TellsAll S.Store };
+
+    ghost contents = { λ k. contents_now S.Store k.conn };
+
+    ghost left = { MayBeLeft S.Store };
+
+    ghost faults = { λ k. k.faults };
+
+    fn append(&mut self, group: &Txt, batch: &[Record]) -> Result<(), PortFault> {
+        if self.is_shut {
+            self.faults = self.faults.saturating_add(1);
+            return Err(PortFault::Failed);
+        }
+        match try_append(&mut self.conn, group, batch) {
+            Ok(()) => Ok(()),
+            Err(error) => Err(refuse(&mut self.faults, error)),
+        }
+    }
+
+    fn since(&mut self, group: &Txt, after: &Txt) -> Result<Items<Record>, PortFault> {
+        if self.is_shut {
+            self.faults = self.faults.saturating_add(1);
+            return Err(PortFault::Failed);
+        }
+        match try_since(self.alloc, &mut self.conn, group, after) {
+            Ok(records) => Ok(records),
+            Err(error) => Err(refuse(&mut self.faults, error)),
+        }
+    }
+
+    fn put(&mut self, name: &Txt, text: &Txt) -> Result<(), PortFault> {
+        if self.is_shut {
+            self.faults = self.faults.saturating_add(1);
+            return Err(PortFault::Failed);
+        }
+        match try_put(&mut self.conn, name.as_str(), text.as_str()) {
+            Ok(()) => Ok(()),
+            Err(error) => Err(refuse(&mut self.faults, error)),
+        }
+    }
+
+    fn get(&mut self, name: &Txt) -> Result<Option<Txt>, PortFault> {
+        if self.is_shut {
+            self.faults = self.faults.saturating_add(1);
+            return Err(PortFault::Failed);
+        }
+        match try_get(&mut self.conn, name) {
+            Ok(text) => Ok(text),
+            Err(error) => Err(refuse(&mut self.faults, error)),
+        }
+    }
+
+    fn names(&mut self) -> Result<Items<Txt>, PortFault> {
+        if self.is_shut {
+            self.faults = self.faults.saturating_add(1);
+            return Err(PortFault::Failed);
+        }
+        match try_names(self.alloc, &mut self.conn) {
+            Ok(names) => Ok(names),
+            Err(error) => Err(refuse(&mut self.faults, error)),
+        }
+    }
+}

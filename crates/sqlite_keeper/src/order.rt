@@ -1,0 +1,37 @@
+//! The order of the rows, which a connection alone does not tell.
+ghost use Rattle.std.specs.Prelude.{◌≡◌, ◌≤◌, false, IfOk, IfErr, IsTrue};
+ghost use Rattle.sqlite.specs.State.{HasCleanDisk};
+ghost use Rattle.sqlite.specs.Held.{state};
+ghost use Rattle.sqlite_catalog.specs.Listing.{IsSound};
+ghost use Rattle.sqlite_keeper.specs.Adopting.{IsInOrder};
+ghost use Rattle.sqlite_keeper.specs.Tables.{no_schema};
+
+use sqlite::{Alter, Connection, Error, ErrorCode};
+use std::alloc::Global;
+
+/// Rolls back what is not committed, and reads and checks the store again: so the connection is known
+/// to keep the rows of its tables in order, as `SqliteKeeper::adopt` asks.
+///
+/// Where the store cannot be read again, it is let go, and the error says why.
+pub fn in_order<S: Alter + Drop>(
+    alloc: Global,
+    connection: Connection<S>,
+) -> Result<Connection<S>, Error>
+    ensures ordered { IfOk result (IsInOrder S.Store) }
+    ensures idle { IfOk result (λ c. c.in_transaction ≡ false) }
+    ensures settled { IfOk result (λ c. HasCleanDisk (state S.Store c) → IsTrue (state S.Store c).is_open → (state S.Store c).now ≡ (state S.Store c).committed) }
+    ensures rows { IfOk result (λ c. HasCleanDisk (state S.Store c) → IsTrue (state S.Store c).is_open × ((state S.Store c).now.trees ≡ (state S.Store connection).committed.trees)) }
+    ensures blank { IfOk result (λ c. HasCleanDisk (state S.Store c) → c.schema ≡ no_schema → IsSound no_schema (state S.Store connection).committed.trees) }
+{
+    let store = connection.into_store();
+    if store.is_broken() {
+        return Err(Error::SqliteFailure(ErrorCode::Closed));
+    }
+    match Connection::over(alloc, store) {
+        Ok(again) => {
+            let _schema = again.schema();
+            Ok(again)
+        }
+        Err((error, _store)) => Err(error),
+    }
+}

@@ -1,0 +1,83 @@
+//! What the program does with a store that it has opened.
+ghost use Rattle.std.specs.Prelude.{◌≡◌, ◌⊎◌, if◌then◌else◌, IfOk};
+ghost use Rattle.budget_ports.specs.Keeper.{IsAlone};
+ghost use Rattle.sqlite.specs.Held.{state};
+ghost use Rattle.sqlite_catalog.specs.Listing.{IsSound};
+ghost use Rattle.sqlite_keeper.specs.Tables.{no_schema};
+ghost use Rattle.sqlite_keeper.specs.Contents.{contents_of, contents_now};
+ghost use Rattle.sqlite_keeper.specs.Keeping.{TellsAll, MayBeLeft};
+ghost use Rattle.sqlite_keeper.specs.Adopting.{new_contents};
+
+use crate::adopting::is_memory;
+use crate::keeper::{AdoptFault, SqliteKeeper, Unadopted};
+use crate::order::in_order;
+use field_values::Txt;
+use sqlite::{Alter, Connection, File, FileStore};
+use std::alloc::Global;
+
+/// Why there is no keeper over a store.
+#[derive(Debug, Drop)]
+pub enum StoreFault {
+    /// The store could not be read again.
+    Unopened,
+    /// It is of another version, or of one that it does not tell: then `found` is empty.
+    Version {
+        /// The text `version` of the store.
+        found: Txt,
+    },
+    /// There was not enough memory.
+    NoMemory,
+}
+
+/// A keeper over a store that was opened: what was not committed is rolled back, the store is read
+/// again in order, and taken as `SqliteKeeper::adopt` does. Where it is not, it is let go.
+///
+/// A keeper that tells has what was committed last, or, where nothing was listed, what a new store has.
+pub fn take<S: Alter + Drop>(
+    alloc: Global,
+    connection: Connection<S>,
+) -> Result<SqliteKeeper<S>, StoreFault>
+    ensures again { IfOk result (λ k. TellsAll S.Store k → (contents_now S.Store k.conn ≡ contents_of (state S.Store connection).committed.trees) ⊎ ((contents_now S.Store k.conn ≡ new_contents) × IsSound no_schema (state S.Store connection).committed.trees)) }
+    ensures alone { IfOk result (λ k. IsAlone (TellsAll S.Store k) (contents_now S.Store k.conn) (MayBeLeft S.Store k)) }
+    ensures count { IfOk result (λ k. k.faults ≡ (if k.is_shut then 1 else 0)) }
+{
+    let ordered = match in_order(alloc, connection) {
+        Ok(ordered) => ordered,
+        Err(error) => {
+            if is_memory(&error) {
+                return Err(StoreFault::NoMemory);
+            }
+            return Err(StoreFault::Unopened);
+        }
+    };
+    match SqliteKeeper::adopt(alloc, ordered) {
+        Ok(keeper) => Ok(keeper),
+        Err(unadopted) => {
+            let Unadopted {
+                fault,
+                connection: _,
+            } = unadopted;
+            match fault {
+                AdoptFault::Version { found } => Err(StoreFault::Version { found }),
+                AdoptFault::NoMemory => Err(StoreFault::NoMemory),
+            }
+        }
+    }
+}
+
+/// A keeper over the store in a file, which is made where it is not there.
+///
+/// A file that cannot be opened, or that is no store, is told as `Unopened`.
+pub fn open(rt: &HostRuntime, path: &str) -> Result<SqliteKeeper<FileStore<File>>, StoreFault>
+    ensures count { IfOk result (λ k. k.faults ≡ (if k.is_shut then 1 else 0)) }
+{
+    match Connection::open(rt, path) {
+        Ok(connection) => take(rt.alloc(), connection),
+        Err(error) => {
+            if is_memory(&error) {
+                return Err(StoreFault::NoMemory);
+            }
+            Err(StoreFault::Unopened)
+        }
+    }
+}

@@ -1,0 +1,117 @@
+//! One put and one append, each a commit.
+ghost use Rattle.std.specs.Prelude.{◌≡◌, ◌≤◌, ◌⊎◌, [], ◌∷◌, IsTrue, OnOk, OnErr};
+ghost use Rattle.sqlite_keeper.specs.Contents.{Contents, Sound, Stands, Inside, Adds, Fell, contents_now, with_text, appended, MayLeave};
+ghost use Rattle.sqlite.specs.State.{HasCleanDisk, Survives};
+ghost use Rattle.sqlite.specs.Held.{state};
+ghost use Rattle.sqlite_trees.specs.View.{doubt};
+
+use budget_ports::Record;
+use field_values::Txt;
+use sqlite::{Alter, Connection, Error, Transaction, params};
+
+/// Replaces a text.
+fn put<S: Alter>(conn: &mut Connection<S>, name: &str, text: &str) -> Result<(), Error>
+    ensures done { HasCleanDisk (state S.Store conn.new) → Stands S.Store conn.old → OnOk result (Stands S.Store conn.new × (contents_now S.Store conn.new ≡ with_text (contents_now S.Store conn.old) name.now text.now)) }
+    ensures failed { HasCleanDisk (state S.Store conn.new) → Stands S.Store conn.old → IsTrue (state S.Store conn.new).is_open → OnErr result (Stands S.Store conn.new × (contents_now S.Store conn.new ≡ contents_now S.Store conn.old)) }
+    ensures left { HasCleanDisk (state S.Store conn.new) → Stands S.Store conn.old → (k : Contents) → MayLeave S.Store conn.new k → MayLeave S.Store conn.old k ⊎ (k ≡ with_text (contents_now S.Store conn.old) name.now text.now) }
+    ensures alone { HasCleanDisk (state S.Store conn.new) → Stands S.Store conn.old → OnOk result ((k : Contents) → MayLeave S.Store conn.new k → k ≡ contents_now S.Store conn.new) }
+    ensures clean { doubt (state S.Store conn.old).is_clean ≤ doubt (state S.Store conn.new).is_clean }
+{
+    let _schema = conn.schema();
+    conn.execute(
+        "INSERT INTO named (name, body) VALUES (?1, ?2) ON CONFLICT (name) DO UPDATE SET body = excluded.body",
+        params![name, text],
+    )?;
+    Ok(())
+}
+
+/// Replaces a text, where the connection is still open.
+pub(crate) fn try_put<S: Alter>(
+    conn: &mut Connection<S>,
+    name: &str,
+    text: &str,
+) -> Result<(), Error>
+    ensures sound { Sound S.Store conn.old → Sound S.Store conn.new }
+    ensures told { HasCleanDisk (state S.Store conn.new) → Sound S.Store conn.old → IsTrue (state S.Store conn.new).is_open → IsTrue (state S.Store conn.old).is_open }
+    ensures done { HasCleanDisk (state S.Store conn.new) → Sound S.Store conn.old → OnOk result (contents_now S.Store conn.new ≡ with_text (contents_now S.Store conn.old) name.now text.now) }
+    ensures failed { HasCleanDisk (state S.Store conn.new) → Sound S.Store conn.old → IsTrue (state S.Store conn.new).is_open → OnErr result (contents_now S.Store conn.new ≡ contents_now S.Store conn.old) }
+    ensures left { HasCleanDisk (state S.Store conn.new) → Sound S.Store conn.old → (k : Contents) → MayLeave S.Store conn.new k → MayLeave S.Store conn.old k ⊎ (IsTrue (state S.Store conn.old).is_open × (k ≡ with_text (contents_now S.Store conn.old) name.now text.now)) }
+    ensures alone { HasCleanDisk (state S.Store conn.new) → Sound S.Store conn.old → OnOk result ((k : Contents) → MayLeave S.Store conn.new k → IsTrue (state S.Store conn.new).is_open × (k ≡ contents_now S.Store conn.new)) }
+    ensures clean { doubt (state S.Store conn.old).is_clean ≤ doubt (state S.Store conn.new).is_clean }
+{
+    let _ready = conn.prepare(
+        "INSERT INTO named (name, body) VALUES (?1, ?2) ON CONFLICT (name) DO UPDATE SET body = excluded.body",
+    )?;
+    put(conn, name, text)
+}
+
+/// Adds one record within a transaction.
+fn add<S: Alter>(tx: &mut Transaction<'_, S>, group: &Txt, kept: &Record) -> Result<(), Error>
+    ensures same_reference { tx.new.conn.ghost_name ≡ tx.old.conn.ghost_name }
+    ensures done { HasCleanDisk (state S.Store tx.new.conn.now) → Inside S.Store tx.old.conn.now → OnOk result (Adds S.Store tx.old.conn.now tx.new.conn.now group.now (kept.now ∷ [])) }
+    ensures fell { HasCleanDisk (state S.Store tx.new.conn.now) → Inside S.Store tx.old.conn.now → OnErr result (Fell S.Store tx.old.conn.now tx.new.conn.now) }
+    ensures survives { Survives (state S.Store tx.old.conn.now) (state S.Store tx.new.conn.now) (λ _. ⊥) }
+{
+    let ran = tx.execute(
+        "INSERT INTO items (grp, stamp, body) VALUES (?1, ?2, ?3) ON CONFLICT DO NOTHING",
+        params![group.as_str(), kept.key.as_str(), kept.body.as_str()],
+    );
+    match ran {
+        Ok(_) => Ok(()),
+        Err(error) => Err(error),
+    }
+}
+
+/// Adds the records within a transaction, in turn.
+fn add_all<S: Alter>(
+    tx: &mut Transaction<'_, S>,
+    group: &Txt,
+    batch: &[Record],
+) -> Result<(), Error>
+    ensures same_reference { tx.new.conn.ghost_name ≡ tx.old.conn.ghost_name }
+    ensures done { HasCleanDisk (state S.Store tx.new.conn.now) → Inside S.Store tx.old.conn.now → OnOk result (Adds S.Store tx.old.conn.now tx.new.conn.now group.now batch.now) }
+    ensures fell { HasCleanDisk (state S.Store tx.new.conn.now) → Inside S.Store tx.old.conn.now → OnErr result (Fell S.Store tx.old.conn.now tx.new.conn.now) }
+    ensures survives { Survives (state S.Store tx.old.conn.now) (state S.Store tx.new.conn.now) (λ _. ⊥) }
+{
+    for kept in batch {
+        add(tx, group, kept)?;
+    }
+    Ok(())
+}
+
+/// Adds the records whose key is not there, in one commit.
+fn append<S: Alter>(conn: &mut Connection<S>, group: &Txt, batch: &[Record]) -> Result<(), Error>
+    ensures done { HasCleanDisk (state S.Store conn.new) → Stands S.Store conn.old → OnOk result (Stands S.Store conn.new × (contents_now S.Store conn.new ≡ appended (contents_now S.Store conn.old) group.now batch.now)) }
+    ensures failed { HasCleanDisk (state S.Store conn.new) → Stands S.Store conn.old → IsTrue (state S.Store conn.new).is_open → OnErr result (Stands S.Store conn.new × (contents_now S.Store conn.new ≡ contents_now S.Store conn.old)) }
+    ensures left { HasCleanDisk (state S.Store conn.new) → Stands S.Store conn.old → (k : Contents) → MayLeave S.Store conn.new k → MayLeave S.Store conn.old k ⊎ (k ≡ appended (contents_now S.Store conn.old) group.now batch.now) }
+    ensures alone { HasCleanDisk (state S.Store conn.new) → Stands S.Store conn.old → OnOk result ((k : Contents) → MayLeave S.Store conn.new k → k ≡ contents_now S.Store conn.new) }
+    ensures clean { doubt (state S.Store conn.old).is_clean ≤ doubt (state S.Store conn.new).is_clean }
+{
+    let _schema = conn.schema();
+    if !conn.is_autocommit() {
+        return Err(Error::InvalidQuery);
+    }
+    let mut tx = conn.transaction();
+    add_all(&mut tx, group, batch)?;
+    tx.commit()
+}
+
+/// Adds the records whose key is not there, in one commit, where the connection is still open.
+pub(crate) fn try_append<S: Alter>(
+    conn: &mut Connection<S>,
+    group: &Txt,
+    batch: &[Record],
+) -> Result<(), Error>
+    ensures sound { Sound S.Store conn.old → Sound S.Store conn.new }
+    ensures told { HasCleanDisk (state S.Store conn.new) → Sound S.Store conn.old → IsTrue (state S.Store conn.new).is_open → IsTrue (state S.Store conn.old).is_open }
+    ensures done { HasCleanDisk (state S.Store conn.new) → Sound S.Store conn.old → OnOk result (contents_now S.Store conn.new ≡ appended (contents_now S.Store conn.old) group.now batch.now) }
+    ensures failed { HasCleanDisk (state S.Store conn.new) → Sound S.Store conn.old → IsTrue (state S.Store conn.new).is_open → OnErr result (contents_now S.Store conn.new ≡ contents_now S.Store conn.old) }
+    ensures left { HasCleanDisk (state S.Store conn.new) → Sound S.Store conn.old → (k : Contents) → MayLeave S.Store conn.new k → MayLeave S.Store conn.old k ⊎ (IsTrue (state S.Store conn.old).is_open × (k ≡ appended (contents_now S.Store conn.old) group.now batch.now)) }
+    ensures alone { HasCleanDisk (state S.Store conn.new) → Sound S.Store conn.old → OnOk result ((k : Contents) → MayLeave S.Store conn.new k → IsTrue (state S.Store conn.new).is_open × (k ≡ contents_now S.Store conn.new)) }
+    ensures clean { doubt (state S.Store conn.old).is_clean ≤ doubt (state S.Store conn.new).is_clean }
+{
+    let _ready = conn.prepare(
+        "INSERT INTO items (grp, stamp, body) VALUES (?1, ?2, ?3) ON CONFLICT DO NOTHING",
+    )?;
+    append(conn, group, batch)
+}
