@@ -6,6 +6,7 @@ pub mod column;
 mod fault;
 mod indexes;
 pub mod kind;
+mod laws;
 mod months;
 mod row_rules;
 pub mod rows;
@@ -14,5 +15,6 @@ mod txs;
 mod write;
 
 pub use book::Book;
+pub use laws::{live_rows_are_told, rows_follow_fields, windows_span};
 pub use fault::{EditFault, RecurPart, RulePart};
 pub use write::{RowName, Write, WriteValue};
