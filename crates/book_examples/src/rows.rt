@@ -70,7 +70,12 @@ fn account_of<G: Ledger>(blank: Blank, alloc: Global, book: &Book, id: &str) -> 
 }
 
 /// A copy of a transaction.
-fn tx_of<G: Ledger>(blank: Blank, alloc: Global, book: &Book, id: &str) -> Result<Option<TxRow>, Fail>
+fn tx_of<G: Ledger>(
+    blank: Blank,
+    alloc: Global,
+    book: &Book,
+    id: &str,
+) -> Result<Option<TxRow>, Fail>
     requires name { blank.name ≡ G.name }
     requires parts { blank.parts ≡ G.parts }
     requires some { 1 ≤ G.parts }
@@ -110,15 +115,18 @@ fn kinds(rt: HostRuntime) -> Result<(), Fail> {
         book.set(&closed_at, &Value::read(alloc, flag)?)?;
         let order_at = Field::make(alloc, "accounts", "bank", "sort_order")?;
         book.set(&order_at, &Value::read(alloc, number)?)?;
-        let Some(row) = book.account(&Txt::from_text(alloc, "bank")?) else {
-            return Err(Fail);
-        };
+        let row = book
+            .account(&Txt::from_text(alloc, "bank")?)
+            .expect(&rt, "a row");
         assert_eq!(rt; row.closed, closed);
         assert_eq!(rt; row.sort_order, order);
         assert_eq!(rt; row.offbudget, false);
         assert_eq!(rt; row.name.is_none(), true);
         assert_eq!(rt; row.id.as_str(), "bank");
-        assert_eq!(rt; book.account(&Txt::from_text(alloc, "cash")?).is_none(), true);
+        assert_eq!(rt;
+            book.account(&Txt::from_text(alloc, "cash")?).is_none(),
+            true
+        );
         assert_eq!(rt; book.accounts().len(), 1);
     }
     Ok(())
@@ -142,9 +150,7 @@ fn days(rt: HostRuntime) -> Result<(), Fail> {
     ];
     for (text, day) in rows {
         let book = book_of(alloc, &[("transactions", "t", "date", text)])?;
-        let Some(row) = tx_of::<Brand>(Blank::new(1), alloc, &book, "t")? else {
-            return Err(Fail);
-        };
+        let row = tx_of::<Brand>(Blank::new(1), alloc, &book, "t")?.expect(&rt, "a row");
         assert_eq!(rt; row.date, day);
         let month = day.map(|d| d / 100);
         assert_eq!(rt; book.month_of(&Txt::from_text(alloc, "t")?), month);
@@ -159,10 +165,32 @@ fn windows(rt: HostRuntime) -> Result<(), Fail> {
     let alloc = rt.alloc();
     let rows: [(&[Line], Option<(u32, u32)>); 7] = [
         (&[], None),
-        (&[("zero_budgets", "202402-food", "amount", "N:1")], Some((202_402, 202_402))),
-        (&[("zero_budgets", "202413-food", "amount", "N:1"), ("zero_budgets", "202402", "amount", "N:1")], None),
-        (&[("zero_budget_months", "2024-03", "buffered", "0:"), ("zero_budget_months", "2024-13", "buffered", "0:"), ("zero_budget_months", "2025-01-", "buffered", "0:")], Some((202_403, 202_403))),
-        (&[("zero_budgets", "202402-food", "colour", "N:1"), ("notes", "202402-food", "note", "S:x")], None),
+        (
+            &[("zero_budgets", "202402-food", "amount", "N:1")],
+            Some((202_402, 202_402)),
+        ),
+        (
+            &[
+                ("zero_budgets", "202413-food", "amount", "N:1"),
+                ("zero_budgets", "202402", "amount", "N:1"),
+            ],
+            None,
+        ),
+        (
+            &[
+                ("zero_budget_months", "2024-03", "buffered", "0:"),
+                ("zero_budget_months", "2024-13", "buffered", "0:"),
+                ("zero_budget_months", "2025-01-", "buffered", "0:"),
+            ],
+            Some((202_403, 202_403)),
+        ),
+        (
+            &[
+                ("zero_budgets", "202402-food", "colour", "N:1"),
+                ("notes", "202402-food", "note", "S:x"),
+            ],
+            None,
+        ),
         (
             &[
                 ("transactions", "a", "date", "N:20240115"),
@@ -209,19 +237,48 @@ const SPLIT: [Line; 14] = [
 fn splits(rt: HostRuntime) -> Result<(), Fail> {
     let alloc = rt.alloc();
     let mut book = book_of(alloc, &SPLIT)?;
-    assert_eq!(rt; parts_of::<Brand>(Blank::new(1), alloc, &book, "t")?.as_str(), "a b c ");
-    assert_eq!(rt; parts_of::<Brand>(Blank::new(1), alloc, &book, "a")?.as_str(), "");
-    assert_eq!(rt; account_of::<Brand>(Blank::new(1), alloc, &book, "bank")?.as_str(), "b t ");
-    for (id, alive) in [("t", true), ("a", true), ("c", false), ("d", false), ("e", true), ("gone", false), ("none", false)] {
+    assert_eq!(rt;
+        parts_of::<Brand>(Blank::new(1), alloc, &book, "t")?.as_str(),
+        "a b c "
+    );
+    assert_eq!(rt;
+        parts_of::<Brand>(Blank::new(1), alloc, &book, "a")?.as_str(),
+        ""
+    );
+    assert_eq!(rt;
+        account_of::<Brand>(Blank::new(1), alloc, &book, "bank")?.as_str(),
+        "b t "
+    );
+    for (id, alive) in [
+        ("t", true),
+        ("a", true),
+        ("c", false),
+        ("d", false),
+        ("e", true),
+        ("gone", false),
+        ("none", false),
+    ] {
         assert_eq!(rt; book.alive(&Txt::from_text(alloc, id)?), alive);
     }
     set(alloc, &mut book, &("transactions", "b", "parent_id", "S:e"))?;
     set(alloc, &mut book, &("transactions", "b", "acct", "S:cash"))?;
     set(alloc, &mut book, &("transactions", "t", "tombstone", "N:1"))?;
-    assert_eq!(rt; parts_of::<Brand>(Blank::new(1), alloc, &book, "t")?.as_str(), "a c ");
-    assert_eq!(rt; parts_of::<Brand>(Blank::new(1), alloc, &book, "e")?.as_str(), "b ");
-    assert_eq!(rt; account_of::<Brand>(Blank::new(1), alloc, &book, "bank")?.as_str(), "t ");
-    assert_eq!(rt; account_of::<Brand>(Blank::new(1), alloc, &book, "cash")?.as_str(), "b ");
+    assert_eq!(rt;
+        parts_of::<Brand>(Blank::new(1), alloc, &book, "t")?.as_str(),
+        "a c "
+    );
+    assert_eq!(rt;
+        parts_of::<Brand>(Blank::new(1), alloc, &book, "e")?.as_str(),
+        "b "
+    );
+    assert_eq!(rt;
+        account_of::<Brand>(Blank::new(1), alloc, &book, "bank")?.as_str(),
+        "t "
+    );
+    assert_eq!(rt;
+        account_of::<Brand>(Blank::new(1), alloc, &book, "cash")?.as_str(),
+        "b "
+    );
     assert_eq!(rt; book.alive(&Txt::from_text(alloc, "a")?), false);
     assert_eq!(rt; book.alive(&Txt::from_text(alloc, "b")?), true);
     Ok(())
@@ -242,9 +299,14 @@ fn copies(rt: HostRuntime) -> Result<(), Fail> {
     assert_eq!(rt; given.copy()?, given);
     let plain = WriteValue::Plain(Value::read(alloc, "S:Bank")?);
     assert_eq!(rt; plain.copy()?, plain);
-    let taken = EditFault::NameTaken { id: Txt::from_text(alloc, "food")? };
+    let taken = EditFault::NameTaken {
+        id: Txt::from_text(alloc, "food")?,
+    };
     assert_eq!(rt; taken.copy()?, taken);
-    let rule = EditFault::BadRule { part: RulePart::Actions, at: 3 };
+    let rule = EditFault::BadRule {
+        part: RulePart::Actions,
+        at: 3,
+    };
     assert_eq!(rt; rule.copy()?, rule);
     Ok(())
 }

@@ -70,8 +70,10 @@ module _ {Row : Type 0} (t : Table Row) (is : IsTable t) where
         not_it : (d : Column) → is_some (t.kind d) ≡ true → (b : Bool) → same_column d c ≡ b → (if b then Some v else g d) ≡ g d
         not_it d k true e = absurd (true≢false (sym k ∙ ap (λ x. is_some (t.kind x)) (column_is d c e) ∙ unknown))
         not_it d k false e = refl
+
         same_value : (d : Column) → is_some (t.kind d) ≡ true → set_one d ≡ g d
         same_value d k = not_it d k (same_column d c) refl
+
         same_test : (d : Column) → (is_some (t.kind d) && is_some (set_one d)) ≡ (is_some (t.kind d) && is_some (g d))
         same_test d = by (is_some (t.kind d)) refl
           where
@@ -126,9 +128,9 @@ module _ (values : Values) (f : FieldNames) (v : Value) (ds : Dataset) where
   this_field : (c : Column) → dataset_of f.dataset ≡ Some ds → column_of f.column ≡ Some c → (q : Text) (d : Column) → values_at (with_value values f v) ds q d ≡ (if eq_by_cmp text_cmp q f.row && same_column d c then Some v else values_at values ds q d)
   this_field c at_ds at_c q d =
       ap (λ (b : Bool). if b then Some v else values_at values ds q d)
-        (ap (λ x. pointwise nat_eq (dataset_name ds) x && (pointwise nat_eq q f.row && pointwise nat_eq (column_name d) f.column)) (dataset_named f.dataset ds at_ds)
-        ∙ ap (λ b. b && (pointwise nat_eq q f.row && pointwise nat_eq (column_name d) f.column)) (is_text_itself (dataset_name ds))
-        ∙ ap₂ (λ (a b : Bool). a && b) (texts_ties q f.row) (ap (pointwise nat_eq (column_name d)) (column_named f.column c at_c) ∙ names_tell d c))
+      (ap (λ x. pointwise nat_eq (dataset_name ds) x && (pointwise nat_eq q f.row && pointwise nat_eq (column_name d) f.column)) (dataset_named f.dataset ds at_ds)
+      ∙ ap (λ b. b && (pointwise nat_eq q f.row && pointwise nat_eq (column_name d) f.column)) (is_text_itself (dataset_name ds))
+      ∙ ap₂ (λ (a b : Bool). a && b) (texts_ties q f.row) (ap (pointwise nat_eq (column_name d)) (column_named f.column c at_c) ∙ names_tell d c))
 
   module _ {Row : Type 0} (t : Table Row) (rows : Texts Row) (are : AreTableOf t ds values rows) where
     pub stays_table : ((q : Text) (d : Column) → values_at (with_value values f v) ds q d ≡ values_at values ds q d) → AreTableOf t ds (with_value values f v) rows
@@ -143,187 +145,189 @@ other f h differs k = differs (sym h ∙ k)
 module _ (values : Values) (f : FieldNames) (v : Value) (rows : Rows) (are : AreRowsOf values rows) where
   go : (o : Option Dataset) (k : Option Column) → dataset_of f.dataset ≡ o → column_of f.column ≡ k → AreRowsOf (with_value values f v) (with_known o k f.row v rows)
   go None k a b = record {
-      accounts = stays_table values f v Accounts account_table rows.accounts are.accounts (other_dataset values f v Accounts (λ h. no_some Accounts (sym a ∙ h)));
-      groups = stays_table values f v CategoryGroups group_table rows.groups are.groups (other_dataset values f v CategoryGroups (λ h. no_some CategoryGroups (sym a ∙ h)));
-      categories = stays_table values f v Categories category_table rows.categories are.categories (other_dataset values f v Categories (λ h. no_some Categories (sym a ∙ h)));
-      payees = stays_table values f v Payees payee_table rows.payees are.payees (other_dataset values f v Payees (λ h. no_some Payees (sym a ∙ h)));
-      txs = stays_table values f v Transactions tx_table rows.txs are.txs (other_dataset values f v Transactions (λ h. no_some Transactions (sym a ∙ h)));
-      budgets = stays_table values f v ZeroBudgets budget_table rows.budgets are.budgets (other_dataset values f v ZeroBudgets (λ h. no_some ZeroBudgets (sym a ∙ h)));
-      months = stays_table values f v ZeroBudgetMonths month_table rows.months are.months (other_dataset values f v ZeroBudgetMonths (λ h. no_some ZeroBudgetMonths (sym a ∙ h)));
-      notes = stays_table values f v Notes note_table rows.notes are.notes (other_dataset values f v Notes (λ h. no_some Notes (sym a ∙ h)));
-      rules = stays_table values f v Rules rule_table rows.rules are.rules (other_dataset values f v Rules (λ h. no_some Rules (sym a ∙ h)));
-      schedules = stays_table values f v Schedules schedule_table rows.schedules are.schedules (other_dataset values f v Schedules (λ h. no_some Schedules (sym a ∙ h)));
-    }
+    accounts = stays_table values f v Accounts account_table rows.accounts are.accounts (other_dataset values f v Accounts (λ h. no_some Accounts (sym a ∙ h)));
+    groups = stays_table values f v CategoryGroups group_table rows.groups are.groups (other_dataset values f v CategoryGroups (λ h. no_some CategoryGroups (sym a ∙ h)));
+    categories = stays_table values f v Categories category_table rows.categories are.categories (other_dataset values f v Categories (λ h. no_some Categories (sym a ∙ h)));
+    payees = stays_table values f v Payees payee_table rows.payees are.payees (other_dataset values f v Payees (λ h. no_some Payees (sym a ∙ h)));
+    txs = stays_table values f v Transactions tx_table rows.txs are.txs (other_dataset values f v Transactions (λ h. no_some Transactions (sym a ∙ h)));
+    budgets = stays_table values f v ZeroBudgets budget_table rows.budgets are.budgets (other_dataset values f v ZeroBudgets (λ h. no_some ZeroBudgets (sym a ∙ h)));
+    months = stays_table values f v ZeroBudgetMonths month_table rows.months are.months (other_dataset values f v ZeroBudgetMonths (λ h. no_some ZeroBudgetMonths (sym a ∙ h)));
+    notes = stays_table values f v Notes note_table rows.notes are.notes (other_dataset values f v Notes (λ h. no_some Notes (sym a ∙ h)));
+    rules = stays_table values f v Rules rule_table rows.rules are.rules (other_dataset values f v Rules (λ h. no_some Rules (sym a ∙ h)));
+    schedules = stays_table values f v Schedules schedule_table rows.schedules are.schedules (other_dataset values f v Schedules (λ h. no_some Schedules (sym a ∙ h)));
+  }
   go (Some ds) None a b = record {
-      accounts = stays_table values f v Accounts account_table rows.accounts are.accounts (other_column values f v Accounts b);
-      groups = stays_table values f v CategoryGroups group_table rows.groups are.groups (other_column values f v CategoryGroups b);
-      categories = stays_table values f v Categories category_table rows.categories are.categories (other_column values f v Categories b);
-      payees = stays_table values f v Payees payee_table rows.payees are.payees (other_column values f v Payees b);
-      txs = stays_table values f v Transactions tx_table rows.txs are.txs (other_column values f v Transactions b);
-      budgets = stays_table values f v ZeroBudgets budget_table rows.budgets are.budgets (other_column values f v ZeroBudgets b);
-      months = stays_table values f v ZeroBudgetMonths month_table rows.months are.months (other_column values f v ZeroBudgetMonths b);
-      notes = stays_table values f v Notes note_table rows.notes are.notes (other_column values f v Notes b);
-      rules = stays_table values f v Rules rule_table rows.rules are.rules (other_column values f v Rules b);
-      schedules = stays_table values f v Schedules schedule_table rows.schedules are.schedules (other_column values f v Schedules b);
-    }
+    accounts = stays_table values f v Accounts account_table rows.accounts are.accounts (other_column values f v Accounts b);
+    groups = stays_table values f v CategoryGroups group_table rows.groups are.groups (other_column values f v CategoryGroups b);
+    categories = stays_table values f v Categories category_table rows.categories are.categories (other_column values f v Categories b);
+    payees = stays_table values f v Payees payee_table rows.payees are.payees (other_column values f v Payees b);
+    txs = stays_table values f v Transactions tx_table rows.txs are.txs (other_column values f v Transactions b);
+    budgets = stays_table values f v ZeroBudgets budget_table rows.budgets are.budgets (other_column values f v ZeroBudgets b);
+    months = stays_table values f v ZeroBudgetMonths month_table rows.months are.months (other_column values f v ZeroBudgetMonths b);
+    notes = stays_table values f v Notes note_table rows.notes are.notes (other_column values f v Notes b);
+    rules = stays_table values f v Rules rule_table rows.rules are.rules (other_column values f v Rules b);
+    schedules = stays_table values f v Schedules schedule_table rows.schedules are.schedules (other_column values f v Schedules b);
+  }
   go (Some Accounts) (Some c) a b = record {
-      accounts = table_follows values f v Accounts account_table rows.accounts are.accounts account_is c a b;
-      groups = stays_table values f v CategoryGroups group_table rows.groups are.groups (other_dataset values f v CategoryGroups (other f a (λ h. cc)));
-      categories = stays_table values f v Categories category_table rows.categories are.categories (other_dataset values f v Categories (other f a (λ h. cc)));
-      payees = stays_table values f v Payees payee_table rows.payees are.payees (other_dataset values f v Payees (other f a (λ h. cc)));
-      txs = stays_table values f v Transactions tx_table rows.txs are.txs (other_dataset values f v Transactions (other f a (λ h. cc)));
-      budgets = stays_table values f v ZeroBudgets budget_table rows.budgets are.budgets (other_dataset values f v ZeroBudgets (other f a (λ h. cc)));
-      months = stays_table values f v ZeroBudgetMonths month_table rows.months are.months (other_dataset values f v ZeroBudgetMonths (other f a (λ h. cc)));
-      notes = stays_table values f v Notes note_table rows.notes are.notes (other_dataset values f v Notes (other f a (λ h. cc)));
-      rules = stays_table values f v Rules rule_table rows.rules are.rules (other_dataset values f v Rules (other f a (λ h. cc)));
-      schedules = stays_table values f v Schedules schedule_table rows.schedules are.schedules (other_dataset values f v Schedules (other f a (λ h. cc)));
-    }
+    accounts = table_follows values f v Accounts account_table rows.accounts are.accounts account_is c a b;
+    groups = stays_table values f v CategoryGroups group_table rows.groups are.groups (other_dataset values f v CategoryGroups (other f a (λ h. cc)));
+    categories = stays_table values f v Categories category_table rows.categories are.categories (other_dataset values f v Categories (other f a (λ h. cc)));
+    payees = stays_table values f v Payees payee_table rows.payees are.payees (other_dataset values f v Payees (other f a (λ h. cc)));
+    txs = stays_table values f v Transactions tx_table rows.txs are.txs (other_dataset values f v Transactions (other f a (λ h. cc)));
+    budgets = stays_table values f v ZeroBudgets budget_table rows.budgets are.budgets (other_dataset values f v ZeroBudgets (other f a (λ h. cc)));
+    months = stays_table values f v ZeroBudgetMonths month_table rows.months are.months (other_dataset values f v ZeroBudgetMonths (other f a (λ h. cc)));
+    notes = stays_table values f v Notes note_table rows.notes are.notes (other_dataset values f v Notes (other f a (λ h. cc)));
+    rules = stays_table values f v Rules rule_table rows.rules are.rules (other_dataset values f v Rules (other f a (λ h. cc)));
+    schedules = stays_table values f v Schedules schedule_table rows.schedules are.schedules (other_dataset values f v Schedules (other f a (λ h. cc)));
+  }
   go (Some CategoryGroups) (Some c) a b = record {
-      accounts = stays_table values f v Accounts account_table rows.accounts are.accounts (other_dataset values f v Accounts (other f a (λ h. cc)));
-      groups = table_follows values f v CategoryGroups group_table rows.groups are.groups group_is c a b;
-      categories = stays_table values f v Categories category_table rows.categories are.categories (other_dataset values f v Categories (other f a (λ h. cc)));
-      payees = stays_table values f v Payees payee_table rows.payees are.payees (other_dataset values f v Payees (other f a (λ h. cc)));
-      txs = stays_table values f v Transactions tx_table rows.txs are.txs (other_dataset values f v Transactions (other f a (λ h. cc)));
-      budgets = stays_table values f v ZeroBudgets budget_table rows.budgets are.budgets (other_dataset values f v ZeroBudgets (other f a (λ h. cc)));
-      months = stays_table values f v ZeroBudgetMonths month_table rows.months are.months (other_dataset values f v ZeroBudgetMonths (other f a (λ h. cc)));
-      notes = stays_table values f v Notes note_table rows.notes are.notes (other_dataset values f v Notes (other f a (λ h. cc)));
-      rules = stays_table values f v Rules rule_table rows.rules are.rules (other_dataset values f v Rules (other f a (λ h. cc)));
-      schedules = stays_table values f v Schedules schedule_table rows.schedules are.schedules (other_dataset values f v Schedules (other f a (λ h. cc)));
-    }
+    accounts = stays_table values f v Accounts account_table rows.accounts are.accounts (other_dataset values f v Accounts (other f a (λ h. cc)));
+    groups = table_follows values f v CategoryGroups group_table rows.groups are.groups group_is c a b;
+    categories = stays_table values f v Categories category_table rows.categories are.categories (other_dataset values f v Categories (other f a (λ h. cc)));
+    payees = stays_table values f v Payees payee_table rows.payees are.payees (other_dataset values f v Payees (other f a (λ h. cc)));
+    txs = stays_table values f v Transactions tx_table rows.txs are.txs (other_dataset values f v Transactions (other f a (λ h. cc)));
+    budgets = stays_table values f v ZeroBudgets budget_table rows.budgets are.budgets (other_dataset values f v ZeroBudgets (other f a (λ h. cc)));
+    months = stays_table values f v ZeroBudgetMonths month_table rows.months are.months (other_dataset values f v ZeroBudgetMonths (other f a (λ h. cc)));
+    notes = stays_table values f v Notes note_table rows.notes are.notes (other_dataset values f v Notes (other f a (λ h. cc)));
+    rules = stays_table values f v Rules rule_table rows.rules are.rules (other_dataset values f v Rules (other f a (λ h. cc)));
+    schedules = stays_table values f v Schedules schedule_table rows.schedules are.schedules (other_dataset values f v Schedules (other f a (λ h. cc)));
+  }
   go (Some Categories) (Some c) a b = record {
-      accounts = stays_table values f v Accounts account_table rows.accounts are.accounts (other_dataset values f v Accounts (other f a (λ h. cc)));
-      groups = stays_table values f v CategoryGroups group_table rows.groups are.groups (other_dataset values f v CategoryGroups (other f a (λ h. cc)));
-      categories = table_follows values f v Categories category_table rows.categories are.categories category_is c a b;
-      payees = stays_table values f v Payees payee_table rows.payees are.payees (other_dataset values f v Payees (other f a (λ h. cc)));
-      txs = stays_table values f v Transactions tx_table rows.txs are.txs (other_dataset values f v Transactions (other f a (λ h. cc)));
-      budgets = stays_table values f v ZeroBudgets budget_table rows.budgets are.budgets (other_dataset values f v ZeroBudgets (other f a (λ h. cc)));
-      months = stays_table values f v ZeroBudgetMonths month_table rows.months are.months (other_dataset values f v ZeroBudgetMonths (other f a (λ h. cc)));
-      notes = stays_table values f v Notes note_table rows.notes are.notes (other_dataset values f v Notes (other f a (λ h. cc)));
-      rules = stays_table values f v Rules rule_table rows.rules are.rules (other_dataset values f v Rules (other f a (λ h. cc)));
-      schedules = stays_table values f v Schedules schedule_table rows.schedules are.schedules (other_dataset values f v Schedules (other f a (λ h. cc)));
-    }
+    accounts = stays_table values f v Accounts account_table rows.accounts are.accounts (other_dataset values f v Accounts (other f a (λ h. cc)));
+    groups = stays_table values f v CategoryGroups group_table rows.groups are.groups (other_dataset values f v CategoryGroups (other f a (λ h. cc)));
+    categories = table_follows values f v Categories category_table rows.categories are.categories category_is c a b;
+    payees = stays_table values f v Payees payee_table rows.payees are.payees (other_dataset values f v Payees (other f a (λ h. cc)));
+    txs = stays_table values f v Transactions tx_table rows.txs are.txs (other_dataset values f v Transactions (other f a (λ h. cc)));
+    budgets = stays_table values f v ZeroBudgets budget_table rows.budgets are.budgets (other_dataset values f v ZeroBudgets (other f a (λ h. cc)));
+    months = stays_table values f v ZeroBudgetMonths month_table rows.months are.months (other_dataset values f v ZeroBudgetMonths (other f a (λ h. cc)));
+    notes = stays_table values f v Notes note_table rows.notes are.notes (other_dataset values f v Notes (other f a (λ h. cc)));
+    rules = stays_table values f v Rules rule_table rows.rules are.rules (other_dataset values f v Rules (other f a (λ h. cc)));
+    schedules = stays_table values f v Schedules schedule_table rows.schedules are.schedules (other_dataset values f v Schedules (other f a (λ h. cc)));
+  }
   go (Some Payees) (Some c) a b = record {
-      accounts = stays_table values f v Accounts account_table rows.accounts are.accounts (other_dataset values f v Accounts (other f a (λ h. cc)));
-      groups = stays_table values f v CategoryGroups group_table rows.groups are.groups (other_dataset values f v CategoryGroups (other f a (λ h. cc)));
-      categories = stays_table values f v Categories category_table rows.categories are.categories (other_dataset values f v Categories (other f a (λ h. cc)));
-      payees = table_follows values f v Payees payee_table rows.payees are.payees payee_is c a b;
-      txs = stays_table values f v Transactions tx_table rows.txs are.txs (other_dataset values f v Transactions (other f a (λ h. cc)));
-      budgets = stays_table values f v ZeroBudgets budget_table rows.budgets are.budgets (other_dataset values f v ZeroBudgets (other f a (λ h. cc)));
-      months = stays_table values f v ZeroBudgetMonths month_table rows.months are.months (other_dataset values f v ZeroBudgetMonths (other f a (λ h. cc)));
-      notes = stays_table values f v Notes note_table rows.notes are.notes (other_dataset values f v Notes (other f a (λ h. cc)));
-      rules = stays_table values f v Rules rule_table rows.rules are.rules (other_dataset values f v Rules (other f a (λ h. cc)));
-      schedules = stays_table values f v Schedules schedule_table rows.schedules are.schedules (other_dataset values f v Schedules (other f a (λ h. cc)));
-    }
+    accounts = stays_table values f v Accounts account_table rows.accounts are.accounts (other_dataset values f v Accounts (other f a (λ h. cc)));
+    groups = stays_table values f v CategoryGroups group_table rows.groups are.groups (other_dataset values f v CategoryGroups (other f a (λ h. cc)));
+    categories = stays_table values f v Categories category_table rows.categories are.categories (other_dataset values f v Categories (other f a (λ h. cc)));
+    payees = table_follows values f v Payees payee_table rows.payees are.payees payee_is c a b;
+    txs = stays_table values f v Transactions tx_table rows.txs are.txs (other_dataset values f v Transactions (other f a (λ h. cc)));
+    budgets = stays_table values f v ZeroBudgets budget_table rows.budgets are.budgets (other_dataset values f v ZeroBudgets (other f a (λ h. cc)));
+    months = stays_table values f v ZeroBudgetMonths month_table rows.months are.months (other_dataset values f v ZeroBudgetMonths (other f a (λ h. cc)));
+    notes = stays_table values f v Notes note_table rows.notes are.notes (other_dataset values f v Notes (other f a (λ h. cc)));
+    rules = stays_table values f v Rules rule_table rows.rules are.rules (other_dataset values f v Rules (other f a (λ h. cc)));
+    schedules = stays_table values f v Schedules schedule_table rows.schedules are.schedules (other_dataset values f v Schedules (other f a (λ h. cc)));
+  }
   go (Some Transactions) (Some c) a b = record {
-      accounts = stays_table values f v Accounts account_table rows.accounts are.accounts (other_dataset values f v Accounts (other f a (λ h. cc)));
-      groups = stays_table values f v CategoryGroups group_table rows.groups are.groups (other_dataset values f v CategoryGroups (other f a (λ h. cc)));
-      categories = stays_table values f v Categories category_table rows.categories are.categories (other_dataset values f v Categories (other f a (λ h. cc)));
-      payees = stays_table values f v Payees payee_table rows.payees are.payees (other_dataset values f v Payees (other f a (λ h. cc)));
-      txs = table_follows values f v Transactions tx_table rows.txs are.txs tx_is c a b;
-      budgets = stays_table values f v ZeroBudgets budget_table rows.budgets are.budgets (other_dataset values f v ZeroBudgets (other f a (λ h. cc)));
-      months = stays_table values f v ZeroBudgetMonths month_table rows.months are.months (other_dataset values f v ZeroBudgetMonths (other f a (λ h. cc)));
-      notes = stays_table values f v Notes note_table rows.notes are.notes (other_dataset values f v Notes (other f a (λ h. cc)));
-      rules = stays_table values f v Rules rule_table rows.rules are.rules (other_dataset values f v Rules (other f a (λ h. cc)));
-      schedules = stays_table values f v Schedules schedule_table rows.schedules are.schedules (other_dataset values f v Schedules (other f a (λ h. cc)));
-    }
+    accounts = stays_table values f v Accounts account_table rows.accounts are.accounts (other_dataset values f v Accounts (other f a (λ h. cc)));
+    groups = stays_table values f v CategoryGroups group_table rows.groups are.groups (other_dataset values f v CategoryGroups (other f a (λ h. cc)));
+    categories = stays_table values f v Categories category_table rows.categories are.categories (other_dataset values f v Categories (other f a (λ h. cc)));
+    payees = stays_table values f v Payees payee_table rows.payees are.payees (other_dataset values f v Payees (other f a (λ h. cc)));
+    txs = table_follows values f v Transactions tx_table rows.txs are.txs tx_is c a b;
+    budgets = stays_table values f v ZeroBudgets budget_table rows.budgets are.budgets (other_dataset values f v ZeroBudgets (other f a (λ h. cc)));
+    months = stays_table values f v ZeroBudgetMonths month_table rows.months are.months (other_dataset values f v ZeroBudgetMonths (other f a (λ h. cc)));
+    notes = stays_table values f v Notes note_table rows.notes are.notes (other_dataset values f v Notes (other f a (λ h. cc)));
+    rules = stays_table values f v Rules rule_table rows.rules are.rules (other_dataset values f v Rules (other f a (λ h. cc)));
+    schedules = stays_table values f v Schedules schedule_table rows.schedules are.schedules (other_dataset values f v Schedules (other f a (λ h. cc)));
+  }
   go (Some ZeroBudgets) (Some c) a b = record {
-      accounts = stays_table values f v Accounts account_table rows.accounts are.accounts (other_dataset values f v Accounts (other f a (λ h. cc)));
-      groups = stays_table values f v CategoryGroups group_table rows.groups are.groups (other_dataset values f v CategoryGroups (other f a (λ h. cc)));
-      categories = stays_table values f v Categories category_table rows.categories are.categories (other_dataset values f v Categories (other f a (λ h. cc)));
-      payees = stays_table values f v Payees payee_table rows.payees are.payees (other_dataset values f v Payees (other f a (λ h. cc)));
-      txs = stays_table values f v Transactions tx_table rows.txs are.txs (other_dataset values f v Transactions (other f a (λ h. cc)));
-      budgets = table_follows values f v ZeroBudgets budget_table rows.budgets are.budgets budget_is c a b;
-      months = stays_table values f v ZeroBudgetMonths month_table rows.months are.months (other_dataset values f v ZeroBudgetMonths (other f a (λ h. cc)));
-      notes = stays_table values f v Notes note_table rows.notes are.notes (other_dataset values f v Notes (other f a (λ h. cc)));
-      rules = stays_table values f v Rules rule_table rows.rules are.rules (other_dataset values f v Rules (other f a (λ h. cc)));
-      schedules = stays_table values f v Schedules schedule_table rows.schedules are.schedules (other_dataset values f v Schedules (other f a (λ h. cc)));
-    }
+    accounts = stays_table values f v Accounts account_table rows.accounts are.accounts (other_dataset values f v Accounts (other f a (λ h. cc)));
+    groups = stays_table values f v CategoryGroups group_table rows.groups are.groups (other_dataset values f v CategoryGroups (other f a (λ h. cc)));
+    categories = stays_table values f v Categories category_table rows.categories are.categories (other_dataset values f v Categories (other f a (λ h. cc)));
+    payees = stays_table values f v Payees payee_table rows.payees are.payees (other_dataset values f v Payees (other f a (λ h. cc)));
+    txs = stays_table values f v Transactions tx_table rows.txs are.txs (other_dataset values f v Transactions (other f a (λ h. cc)));
+    budgets = table_follows values f v ZeroBudgets budget_table rows.budgets are.budgets budget_is c a b;
+    months = stays_table values f v ZeroBudgetMonths month_table rows.months are.months (other_dataset values f v ZeroBudgetMonths (other f a (λ h. cc)));
+    notes = stays_table values f v Notes note_table rows.notes are.notes (other_dataset values f v Notes (other f a (λ h. cc)));
+    rules = stays_table values f v Rules rule_table rows.rules are.rules (other_dataset values f v Rules (other f a (λ h. cc)));
+    schedules = stays_table values f v Schedules schedule_table rows.schedules are.schedules (other_dataset values f v Schedules (other f a (λ h. cc)));
+  }
   go (Some ZeroBudgetMonths) (Some c) a b = record {
-      accounts = stays_table values f v Accounts account_table rows.accounts are.accounts (other_dataset values f v Accounts (other f a (λ h. cc)));
-      groups = stays_table values f v CategoryGroups group_table rows.groups are.groups (other_dataset values f v CategoryGroups (other f a (λ h. cc)));
-      categories = stays_table values f v Categories category_table rows.categories are.categories (other_dataset values f v Categories (other f a (λ h. cc)));
-      payees = stays_table values f v Payees payee_table rows.payees are.payees (other_dataset values f v Payees (other f a (λ h. cc)));
-      txs = stays_table values f v Transactions tx_table rows.txs are.txs (other_dataset values f v Transactions (other f a (λ h. cc)));
-      budgets = stays_table values f v ZeroBudgets budget_table rows.budgets are.budgets (other_dataset values f v ZeroBudgets (other f a (λ h. cc)));
-      months = table_follows values f v ZeroBudgetMonths month_table rows.months are.months month_is c a b;
-      notes = stays_table values f v Notes note_table rows.notes are.notes (other_dataset values f v Notes (other f a (λ h. cc)));
-      rules = stays_table values f v Rules rule_table rows.rules are.rules (other_dataset values f v Rules (other f a (λ h. cc)));
-      schedules = stays_table values f v Schedules schedule_table rows.schedules are.schedules (other_dataset values f v Schedules (other f a (λ h. cc)));
-    }
+    accounts = stays_table values f v Accounts account_table rows.accounts are.accounts (other_dataset values f v Accounts (other f a (λ h. cc)));
+    groups = stays_table values f v CategoryGroups group_table rows.groups are.groups (other_dataset values f v CategoryGroups (other f a (λ h. cc)));
+    categories = stays_table values f v Categories category_table rows.categories are.categories (other_dataset values f v Categories (other f a (λ h. cc)));
+    payees = stays_table values f v Payees payee_table rows.payees are.payees (other_dataset values f v Payees (other f a (λ h. cc)));
+    txs = stays_table values f v Transactions tx_table rows.txs are.txs (other_dataset values f v Transactions (other f a (λ h. cc)));
+    budgets = stays_table values f v ZeroBudgets budget_table rows.budgets are.budgets (other_dataset values f v ZeroBudgets (other f a (λ h. cc)));
+    months = table_follows values f v ZeroBudgetMonths month_table rows.months are.months month_is c a b;
+    notes = stays_table values f v Notes note_table rows.notes are.notes (other_dataset values f v Notes (other f a (λ h. cc)));
+    rules = stays_table values f v Rules rule_table rows.rules are.rules (other_dataset values f v Rules (other f a (λ h. cc)));
+    schedules = stays_table values f v Schedules schedule_table rows.schedules are.schedules (other_dataset values f v Schedules (other f a (λ h. cc)));
+  }
   go (Some Notes) (Some c) a b = record {
-      accounts = stays_table values f v Accounts account_table rows.accounts are.accounts (other_dataset values f v Accounts (other f a (λ h. cc)));
-      groups = stays_table values f v CategoryGroups group_table rows.groups are.groups (other_dataset values f v CategoryGroups (other f a (λ h. cc)));
-      categories = stays_table values f v Categories category_table rows.categories are.categories (other_dataset values f v Categories (other f a (λ h. cc)));
-      payees = stays_table values f v Payees payee_table rows.payees are.payees (other_dataset values f v Payees (other f a (λ h. cc)));
-      txs = stays_table values f v Transactions tx_table rows.txs are.txs (other_dataset values f v Transactions (other f a (λ h. cc)));
-      budgets = stays_table values f v ZeroBudgets budget_table rows.budgets are.budgets (other_dataset values f v ZeroBudgets (other f a (λ h. cc)));
-      months = stays_table values f v ZeroBudgetMonths month_table rows.months are.months (other_dataset values f v ZeroBudgetMonths (other f a (λ h. cc)));
-      notes = table_follows values f v Notes note_table rows.notes are.notes note_is c a b;
-      rules = stays_table values f v Rules rule_table rows.rules are.rules (other_dataset values f v Rules (other f a (λ h. cc)));
-      schedules = stays_table values f v Schedules schedule_table rows.schedules are.schedules (other_dataset values f v Schedules (other f a (λ h. cc)));
-    }
+    accounts = stays_table values f v Accounts account_table rows.accounts are.accounts (other_dataset values f v Accounts (other f a (λ h. cc)));
+    groups = stays_table values f v CategoryGroups group_table rows.groups are.groups (other_dataset values f v CategoryGroups (other f a (λ h. cc)));
+    categories = stays_table values f v Categories category_table rows.categories are.categories (other_dataset values f v Categories (other f a (λ h. cc)));
+    payees = stays_table values f v Payees payee_table rows.payees are.payees (other_dataset values f v Payees (other f a (λ h. cc)));
+    txs = stays_table values f v Transactions tx_table rows.txs are.txs (other_dataset values f v Transactions (other f a (λ h. cc)));
+    budgets = stays_table values f v ZeroBudgets budget_table rows.budgets are.budgets (other_dataset values f v ZeroBudgets (other f a (λ h. cc)));
+    months = stays_table values f v ZeroBudgetMonths month_table rows.months are.months (other_dataset values f v ZeroBudgetMonths (other f a (λ h. cc)));
+    notes = table_follows values f v Notes note_table rows.notes are.notes note_is c a b;
+    rules = stays_table values f v Rules rule_table rows.rules are.rules (other_dataset values f v Rules (other f a (λ h. cc)));
+    schedules = stays_table values f v Schedules schedule_table rows.schedules are.schedules (other_dataset values f v Schedules (other f a (λ h. cc)));
+  }
   go (Some Rules) (Some c) a b = record {
-      accounts = stays_table values f v Accounts account_table rows.accounts are.accounts (other_dataset values f v Accounts (other f a (λ h. cc)));
-      groups = stays_table values f v CategoryGroups group_table rows.groups are.groups (other_dataset values f v CategoryGroups (other f a (λ h. cc)));
-      categories = stays_table values f v Categories category_table rows.categories are.categories (other_dataset values f v Categories (other f a (λ h. cc)));
-      payees = stays_table values f v Payees payee_table rows.payees are.payees (other_dataset values f v Payees (other f a (λ h. cc)));
-      txs = stays_table values f v Transactions tx_table rows.txs are.txs (other_dataset values f v Transactions (other f a (λ h. cc)));
-      budgets = stays_table values f v ZeroBudgets budget_table rows.budgets are.budgets (other_dataset values f v ZeroBudgets (other f a (λ h. cc)));
-      months = stays_table values f v ZeroBudgetMonths month_table rows.months are.months (other_dataset values f v ZeroBudgetMonths (other f a (λ h. cc)));
-      notes = stays_table values f v Notes note_table rows.notes are.notes (other_dataset values f v Notes (other f a (λ h. cc)));
-      rules = table_follows values f v Rules rule_table rows.rules are.rules rule_is c a b;
-      schedules = stays_table values f v Schedules schedule_table rows.schedules are.schedules (other_dataset values f v Schedules (other f a (λ h. cc)));
-    }
+    accounts = stays_table values f v Accounts account_table rows.accounts are.accounts (other_dataset values f v Accounts (other f a (λ h. cc)));
+    groups = stays_table values f v CategoryGroups group_table rows.groups are.groups (other_dataset values f v CategoryGroups (other f a (λ h. cc)));
+    categories = stays_table values f v Categories category_table rows.categories are.categories (other_dataset values f v Categories (other f a (λ h. cc)));
+    payees = stays_table values f v Payees payee_table rows.payees are.payees (other_dataset values f v Payees (other f a (λ h. cc)));
+    txs = stays_table values f v Transactions tx_table rows.txs are.txs (other_dataset values f v Transactions (other f a (λ h. cc)));
+    budgets = stays_table values f v ZeroBudgets budget_table rows.budgets are.budgets (other_dataset values f v ZeroBudgets (other f a (λ h. cc)));
+    months = stays_table values f v ZeroBudgetMonths month_table rows.months are.months (other_dataset values f v ZeroBudgetMonths (other f a (λ h. cc)));
+    notes = stays_table values f v Notes note_table rows.notes are.notes (other_dataset values f v Notes (other f a (λ h. cc)));
+    rules = table_follows values f v Rules rule_table rows.rules are.rules rule_is c a b;
+    schedules = stays_table values f v Schedules schedule_table rows.schedules are.schedules (other_dataset values f v Schedules (other f a (λ h. cc)));
+  }
   go (Some Schedules) (Some c) a b = record {
-      accounts = stays_table values f v Accounts account_table rows.accounts are.accounts (other_dataset values f v Accounts (other f a (λ h. cc)));
-      groups = stays_table values f v CategoryGroups group_table rows.groups are.groups (other_dataset values f v CategoryGroups (other f a (λ h. cc)));
-      categories = stays_table values f v Categories category_table rows.categories are.categories (other_dataset values f v Categories (other f a (λ h. cc)));
-      payees = stays_table values f v Payees payee_table rows.payees are.payees (other_dataset values f v Payees (other f a (λ h. cc)));
-      txs = stays_table values f v Transactions tx_table rows.txs are.txs (other_dataset values f v Transactions (other f a (λ h. cc)));
-      budgets = stays_table values f v ZeroBudgets budget_table rows.budgets are.budgets (other_dataset values f v ZeroBudgets (other f a (λ h. cc)));
-      months = stays_table values f v ZeroBudgetMonths month_table rows.months are.months (other_dataset values f v ZeroBudgetMonths (other f a (λ h. cc)));
-      notes = stays_table values f v Notes note_table rows.notes are.notes (other_dataset values f v Notes (other f a (λ h. cc)));
-      rules = stays_table values f v Rules rule_table rows.rules are.rules (other_dataset values f v Rules (other f a (λ h. cc)));
-      schedules = table_follows values f v Schedules schedule_table rows.schedules are.schedules schedule_is c a b;
-    }
+    accounts = stays_table values f v Accounts account_table rows.accounts are.accounts (other_dataset values f v Accounts (other f a (λ h. cc)));
+    groups = stays_table values f v CategoryGroups group_table rows.groups are.groups (other_dataset values f v CategoryGroups (other f a (λ h. cc)));
+    categories = stays_table values f v Categories category_table rows.categories are.categories (other_dataset values f v Categories (other f a (λ h. cc)));
+    payees = stays_table values f v Payees payee_table rows.payees are.payees (other_dataset values f v Payees (other f a (λ h. cc)));
+    txs = stays_table values f v Transactions tx_table rows.txs are.txs (other_dataset values f v Transactions (other f a (λ h. cc)));
+    budgets = stays_table values f v ZeroBudgets budget_table rows.budgets are.budgets (other_dataset values f v ZeroBudgets (other f a (λ h. cc)));
+    months = stays_table values f v ZeroBudgetMonths month_table rows.months are.months (other_dataset values f v ZeroBudgetMonths (other f a (λ h. cc)));
+    notes = stays_table values f v Notes note_table rows.notes are.notes (other_dataset values f v Notes (other f a (λ h. cc)));
+    rules = stays_table values f v Rules rule_table rows.rules are.rules (other_dataset values f v Rules (other f a (λ h. cc)));
+    schedules = table_follows values f v Schedules schedule_table rows.schedules are.schedules schedule_is c a b;
+  }
 
   pub rows_follow : AreRowsOf (with_value values f v) (with_field rows f v)
   rows_follow = go (dataset_of f.dataset) (column_of f.column) refl refl
 
 pub one_book : (values : Values) (r s : Rows) → AreRowsOf values r → AreRowsOf values s → r ≡ s
 one_book values r s a b = λ i. record {
-    accounts = map.same_map text_total text_same r.accounts s.accounts (λ q. a.accounts q ∙ sym (b.accounts q)) i;
-    groups = map.same_map text_total text_same r.groups s.groups (λ q. a.groups q ∙ sym (b.groups q)) i;
-    categories = map.same_map text_total text_same r.categories s.categories (λ q. a.categories q ∙ sym (b.categories q)) i;
-    payees = map.same_map text_total text_same r.payees s.payees (λ q. a.payees q ∙ sym (b.payees q)) i;
-    txs = map.same_map text_total text_same r.txs s.txs (λ q. a.txs q ∙ sym (b.txs q)) i;
-    budgets = map.same_map text_total text_same r.budgets s.budgets (λ q. a.budgets q ∙ sym (b.budgets q)) i;
-    months = map.same_map text_total text_same r.months s.months (λ q. a.months q ∙ sym (b.months q)) i;
-    notes = map.same_map text_total text_same r.notes s.notes (λ q. a.notes q ∙ sym (b.notes q)) i;
-    rules = map.same_map text_total text_same r.rules s.rules (λ q. a.rules q ∙ sym (b.rules q)) i;
-    schedules = map.same_map text_total text_same r.schedules s.schedules (λ q. a.schedules q ∙ sym (b.schedules q)) i;
-  }
+  accounts = map.same_map text_total text_same r.accounts s.accounts (λ q. a.accounts q ∙ sym (b.accounts q)) i;
+  groups = map.same_map text_total text_same r.groups s.groups (λ q. a.groups q ∙ sym (b.groups q)) i;
+  categories = map.same_map text_total text_same r.categories s.categories (λ q. a.categories q ∙ sym (b.categories q)) i;
+  payees = map.same_map text_total text_same r.payees s.payees (λ q. a.payees q ∙ sym (b.payees q)) i;
+  txs = map.same_map text_total text_same r.txs s.txs (λ q. a.txs q ∙ sym (b.txs q)) i;
+  budgets = map.same_map text_total text_same r.budgets s.budgets (λ q. a.budgets q ∙ sym (b.budgets q)) i;
+  months = map.same_map text_total text_same r.months s.months (λ q. a.months q ∙ sym (b.months q)) i;
+  notes = map.same_map text_total text_same r.notes s.notes (λ q. a.notes q ∙ sym (b.notes q)) i;
+  rules = map.same_map text_total text_same r.rules s.rules (λ q. a.rules q ∙ sym (b.rules q)) i;
+  schedules = map.same_map text_total text_same r.schedules s.schedules (λ q. a.schedules q ∙ sym (b.schedules q)) i;
+}
 
 pub no_fields : AreRowsOf (λ f. None) no_rows
 no_fields = record {
-    accounts = λ q. map.get-empty _ q ∙ sym (nothing account_table q);
-    groups = λ q. map.get-empty _ q ∙ sym (nothing group_table q);
-    categories = λ q. map.get-empty _ q ∙ sym (nothing category_table q);
-    payees = λ q. map.get-empty _ q ∙ sym (nothing payee_table q);
-    txs = λ q. map.get-empty _ q ∙ sym (nothing tx_table q);
-    budgets = λ q. map.get-empty _ q ∙ sym (nothing budget_table q);
-    months = λ q. map.get-empty _ q ∙ sym (nothing month_table q);
-    notes = λ q. map.get-empty _ q ∙ sym (nothing note_table q);
-    rules = λ q. map.get-empty _ q ∙ sym (nothing rule_table q);
-    schedules = λ q. map.get-empty _ q ∙ sym (nothing schedule_table q);
-  }
+  accounts = λ q. map.get-empty _ q ∙ sym (nothing account_table q);
+  groups = λ q. map.get-empty _ q ∙ sym (nothing group_table q);
+  categories = λ q. map.get-empty _ q ∙ sym (nothing category_table q);
+  payees = λ q. map.get-empty _ q ∙ sym (nothing payee_table q);
+  txs = λ q. map.get-empty _ q ∙ sym (nothing tx_table q);
+  budgets = λ q. map.get-empty _ q ∙ sym (nothing budget_table q);
+  months = λ q. map.get-empty _ q ∙ sym (nothing month_table q);
+  notes = λ q. map.get-empty _ q ∙ sym (nothing note_table q);
+  rules = λ q. map.get-empty _ q ∙ sym (nothing rule_table q);
+  schedules = λ q. map.get-empty _ q ∙ sym (nothing schedule_table q);
+}
   where
     none_known : (p : Column → Bool) → ((c : Column) → p c ≡ false) → (xs : List Column) → list_any p xs ≡ false
     none_known p h [] = refl
     none_known p h (x ∷ xs) = rw h (none_known p h xs)
+
     never_there : (b : Bool) → (b && false) ≡ false
     never_there true = refl
     never_there false = refl
+
     nothing : {Row : Type 0} (t : Table Row) (q : Text) → row_at t q (λ d. None) ≡ None
     nothing t q = ap (λ b. if b then Some (t.row q (λ d. Null)) else None) (none_known (λ d. is_some (t.kind d) && false) (λ c. never_there (is_some (t.kind c))) all_columns)
 

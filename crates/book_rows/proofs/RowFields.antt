@@ -58,15 +58,15 @@ account_after id PostsTransaction v g = refl
 
 pub account_is : IsTable account_table
 account_is = record {
-    after = account_after;
-    depends = λ id f g h.
-        let e0 = h Name refl in
-        let e1 = h Offbudget refl in
-        let e2 = h Closed refl in
-        let e3 = h SortOrder refl in
-        let e4 = h Tombstone refl in
-        cc;
-  }
+  after = account_after;
+  depends = λ id f g h.
+      let e0 = h Name refl in
+      let e1 = h Offbudget refl in
+      let e2 = h Closed refl in
+      let e3 = h SortOrder refl in
+      let e4 = h Tombstone refl in
+      cc;
+}
 
 group_after : (id : Text) (c : Column) (v : Value) (g : Column → Value) → group_table.row id (with_one c v g) ≡ group_table.set c v (group_table.row id g)
 group_after id Acct v g = refl
@@ -108,15 +108,15 @@ group_after id PostsTransaction v g = refl
 
 pub group_is : IsTable group_table
 group_is = record {
-    after = group_after;
-    depends = λ id f g h.
-        let e0 = h Name refl in
-        let e1 = h IsIncome refl in
-        let e2 = h SortOrder refl in
-        let e3 = h Hidden refl in
-        let e4 = h Tombstone refl in
-        cc;
-  }
+  after = group_after;
+  depends = λ id f g h.
+      let e0 = h Name refl in
+      let e1 = h IsIncome refl in
+      let e2 = h SortOrder refl in
+      let e3 = h Hidden refl in
+      let e4 = h Tombstone refl in
+      cc;
+}
 
 category_after : (id : Text) (c : Column) (v : Value) (g : Column → Value) → category_table.row id (with_one c v g) ≡ category_table.set c v (category_table.row id g)
 category_after id Acct v g = refl
@@ -158,16 +158,16 @@ category_after id PostsTransaction v g = refl
 
 pub category_is : IsTable category_table
 category_is = record {
-    after = category_after;
-    depends = λ id f g h.
-        let e0 = h Name refl in
-        let e1 = h CatGroup refl in
-        let e2 = h IsIncome refl in
-        let e3 = h SortOrder refl in
-        let e4 = h Hidden refl in
-        let e5 = h Tombstone refl in
-        cc;
-  }
+  after = category_after;
+  depends = λ id f g h.
+      let e0 = h Name refl in
+      let e1 = h CatGroup refl in
+      let e2 = h IsIncome refl in
+      let e3 = h SortOrder refl in
+      let e4 = h Hidden refl in
+      let e5 = h Tombstone refl in
+      cc;
+}
 
 payee_after : (id : Text) (c : Column) (v : Value) (g : Column → Value) → payee_table.row id (with_one c v g) ≡ payee_table.set c v (payee_table.row id g)
 payee_after id Acct v g = refl
@@ -209,13 +209,13 @@ payee_after id PostsTransaction v g = refl
 
 pub payee_is : IsTable payee_table
 payee_is = record {
-    after = payee_after;
-    depends = λ id f g h.
-        let e0 = h Name refl in
-        let e1 = h TransferAcct refl in
-        let e2 = h Tombstone refl in
-        cc;
-  }
+  after = payee_after;
+  depends = λ id f g h.
+      let e0 = h Name refl in
+      let e1 = h TransferAcct refl in
+      let e2 = h Tombstone refl in
+      cc;
+}
 
 tx_after : (id : Text) (c : Column) (v : Value) (g : Column → Value) → tx_table.row id (with_one c v g) ≡ tx_table.set c v (tx_table.row id g)
 tx_after id Acct v g = refl
@@ -257,27 +257,27 @@ tx_after id PostsTransaction v g = refl
 
 pub tx_is : IsTable tx_table
 tx_is = record {
-    after = tx_after;
-    depends = λ id f g h.
-        let e0 = h Acct refl in
-        let e1 = h Date refl in
-        let e2 = h Amount refl in
-        let e3 = h Description refl in
-        let e4 = h Category refl in
-        let e5 = h Notes refl in
-        let e6 = h ImportedDescription refl in
-        let e7 = h FinancialId refl in
-        let e8 = h TransferredId refl in
-        let e9 = h Schedule refl in
-        let e10 = h IsParent refl in
-        let e11 = h IsChild refl in
-        let e12 = h ParentId refl in
-        let e13 = h Cleared refl in
-        let e14 = h Reconciled refl in
-        let e15 = h SortOrder refl in
-        let e16 = h Tombstone refl in
-        cc;
-  }
+  after = tx_after;
+  depends = λ id f g h.
+      let e0 = h Acct refl in
+      let e1 = h Date refl in
+      let e2 = h Amount refl in
+      let e3 = h Description refl in
+      let e4 = h Category refl in
+      let e5 = h Notes refl in
+      let e6 = h ImportedDescription refl in
+      let e7 = h FinancialId refl in
+      let e8 = h TransferredId refl in
+      let e9 = h Schedule refl in
+      let e10 = h IsParent refl in
+      let e11 = h IsChild refl in
+      let e12 = h ParentId refl in
+      let e13 = h Cleared refl in
+      let e14 = h Reconciled refl in
+      let e15 = h SortOrder refl in
+      let e16 = h Tombstone refl in
+      cc;
+}
 
 budget_after : (id : Text) (c : Column) (v : Value) (g : Column → Value) → budget_table.row id (with_one c v g) ≡ budget_table.set c v (budget_table.row id g)
 budget_after id Acct v g = refl
@@ -319,14 +319,14 @@ budget_after id PostsTransaction v g = refl
 
 pub budget_is : IsTable budget_table
 budget_is = record {
-    after = budget_after;
-    depends = λ id f g h.
-        let e0 = h Month refl in
-        let e1 = h Category refl in
-        let e2 = h Amount refl in
-        let e3 = h Carryover refl in
-        cc;
-  }
+  after = budget_after;
+  depends = λ id f g h.
+      let e0 = h Month refl in
+      let e1 = h Category refl in
+      let e2 = h Amount refl in
+      let e3 = h Carryover refl in
+      cc;
+}
 
 month_after : (id : Text) (c : Column) (v : Value) (g : Column → Value) → month_table.row id (with_one c v g) ≡ month_table.set c v (month_table.row id g)
 month_after id Acct v g = refl
@@ -368,11 +368,11 @@ month_after id PostsTransaction v g = refl
 
 pub month_is : IsTable month_table
 month_is = record {
-    after = month_after;
-    depends = λ id f g h.
-        let e0 = h Buffered refl in
-        cc;
-  }
+  after = month_after;
+  depends = λ id f g h.
+      let e0 = h Buffered refl in
+      cc;
+}
 
 note_after : (id : Text) (c : Column) (v : Value) (g : Column → Value) → note_table.row id (with_one c v g) ≡ note_table.set c v (note_table.row id g)
 note_after id Acct v g = refl
@@ -414,11 +414,11 @@ note_after id PostsTransaction v g = refl
 
 pub note_is : IsTable note_table
 note_is = record {
-    after = note_after;
-    depends = λ id f g h.
-        let e0 = h Note refl in
-        cc;
-  }
+  after = note_after;
+  depends = λ id f g h.
+      let e0 = h Note refl in
+      cc;
+}
 
 rule_after : (id : Text) (c : Column) (v : Value) (g : Column → Value) → rule_table.row id (with_one c v g) ≡ rule_table.set c v (rule_table.row id g)
 rule_after id Acct v g = refl
@@ -460,15 +460,15 @@ rule_after id PostsTransaction v g = refl
 
 pub rule_is : IsTable rule_table
 rule_is = record {
-    after = rule_after;
-    depends = λ id f g h.
-        let e0 = h Stage refl in
-        let e1 = h ConditionsOp refl in
-        let e2 = h Conditions refl in
-        let e3 = h Actions refl in
-        let e4 = h Tombstone refl in
-        cc;
-  }
+  after = rule_after;
+  depends = λ id f g h.
+      let e0 = h Stage refl in
+      let e1 = h ConditionsOp refl in
+      let e2 = h Conditions refl in
+      let e3 = h Actions refl in
+      let e4 = h Tombstone refl in
+      cc;
+}
 
 schedule_after : (id : Text) (c : Column) (v : Value) (g : Column → Value) → schedule_table.row id (with_one c v g) ≡ schedule_table.set c v (schedule_table.row id g)
 schedule_after id Acct v g = refl
@@ -510,14 +510,13 @@ schedule_after id PostsTransaction v g = refl
 
 pub schedule_is : IsTable schedule_table
 schedule_is = record {
-    after = schedule_after;
-    depends = λ id f g h.
-        let e0 = h Rule refl in
-        let e1 = h Name refl in
-        let e2 = h NextDate refl in
-        let e3 = h Completed refl in
-        let e4 = h PostsTransaction refl in
-        let e5 = h Tombstone refl in
-        cc;
-  }
-
+  after = schedule_after;
+  depends = λ id f g h.
+      let e0 = h Rule refl in
+      let e1 = h Name refl in
+      let e2 = h NextDate refl in
+      let e3 = h Completed refl in
+      let e4 = h PostsTransaction refl in
+      let e5 = h Tombstone refl in
+      cc;
+}

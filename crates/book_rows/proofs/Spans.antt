@@ -60,23 +60,23 @@ module _ (P Q R : ℕ → Type 0) (left : (m : ℕ) → P m → R m) (right : (m
   pub hull_spans : (a b : Option (ℕ × ℕ)) → Spans P a → Spans Q b → Spans R (hull a b)
   hull_spans None None p q = λ m h. pick m (p m) (q m) (split m h)
   hull_spans None (Some w) p q = record {
-      first = right w.0 q.first;
-      last = right w.1 q.last;
-      from = λ m h. pick m (λ x. absurd (p m x)) (q.from m) (split m h);
-      up_to = λ m h. pick m (λ x. absurd (p m x)) (q.up_to m) (split m h);
-    }
+    first = right w.0 q.first;
+    last = right w.1 q.last;
+    from = λ m h. pick m (λ x. absurd (p m x)) (q.from m) (split m h);
+    up_to = λ m h. pick m (λ x. absurd (p m x)) (q.up_to m) (split m h);
+  }
   hull_spans (Some v) None p q = record {
-      first = left v.0 p.first;
-      last = left v.1 p.last;
-      from = λ m h. pick m (p.from m) (λ x. absurd (q m x)) (split m h);
-      up_to = λ m h. pick m (p.up_to m) (λ x. absurd (q m x)) (split m h);
-    }
+    first = left v.0 p.first;
+    last = left v.1 p.last;
+    from = λ m h. pick m (p.from m) (λ x. absurd (q m x)) (split m h);
+    up_to = λ m h. pick m (p.up_to m) (λ x. absurd (q m x)) (split m h);
+  }
   hull_spans (Some v) (Some w) p q = record {
-      first = at_one (min v.0 w.0) v.0 w.0 p.first q.first (least_is v.0 w.0);
-      last = at_one (max v.1 w.1) v.1 w.1 p.last q.last (greatest_is v.1 w.1);
-      from = λ m h. pick m (λ x. let l = p.from m x in omega arith) (λ x. let l = q.from m x in omega arith) (split m h);
-      up_to = λ m h. pick m (λ x. let l = p.up_to m x in omega arith) (λ x. let l = q.up_to m x in omega arith) (split m h);
-    }
+    first = at_one (min v.0 w.0) v.0 w.0 p.first q.first (least_is v.0 w.0);
+    last = at_one (max v.1 w.1) v.1 w.1 p.last q.last (greatest_is v.1 w.1);
+    from = λ m h. pick m (λ x. let l = p.from m x in omega arith) (λ x. let l = q.from m x in omega arith) (split m h);
+    up_to = λ m h. pick m (λ x. let l = p.up_to m x in omega arith) (λ x. let l = q.up_to m x in omega arith) (split m h);
+  }
 
 -- two spans of the same months are one
 pub one_span : (P Q : ℕ → Type 0) → ((m : ℕ) → P m → Q m) → ((m : ℕ) → Q m → P m) → (a b : Option (ℕ × ℕ)) → Spans P a → Spans Q b → a ≡ b
@@ -98,11 +98,11 @@ month_is k m h = nat_cmp-IsAntisymmetric k m (is_equal _ h)
 own_span : (o : Option ℕ) → Spans (λ m. is_month_of m o ≡ true) (month_span o)
 own_span None = λ m h. never h
 own_span (Some k) = record {
-    first = (eq_by_cmp_equiv nat_cmp_total).refl k;
-    last = (eq_by_cmp_equiv nat_cmp_total).refl k;
-    from = λ m h. let e = month_is k m h in omega arith;
-    up_to = λ m h. let e = month_is k m h in omega arith;
-  }
+  first = (eq_by_cmp_equiv nat_cmp_total).refl k;
+  last = (eq_by_cmp_equiv nat_cmp_total).refl k;
+  from = λ m h. let e = month_is k m h in omega arith;
+  up_to = λ m h. let e = month_is k m h in omega arith;
+}
 
 pub list_spans : {X : Type 0} (month : X → Option ℕ) (xs : List X) → Spans (λ m. list_any (λ x. is_month_of m (month x)) xs ≡ true) (span_of month xs)
 list_spans month [] = λ m h. never h
@@ -141,8 +141,10 @@ window_is index named rows is dates ids of_dates of_ids = ap₂ (λ (a b : Optio
   where
     HasDay : ℕ → Type 0
     HasDay m = list_any (λ e. is_month_of m (month_of_row e.1)) (map.entries rows.txs) ≡ true
+
     InBudget : ℕ → Type 0
     InBudget m = list_any (λ e. is_month_of m (budget_month e.0)) (map.entries rows.budgets) ≡ true
+
     InMonth : ℕ → Type 0
     InMonth m = list_any (λ e. is_month_of m (month_row_month e.0)) (map.entries rows.months) ≡ true
 
@@ -154,13 +156,14 @@ window_is index named rows is dates ids of_dates of_ids = ap₂ (λ (a b : Optio
 
     budgets : Option (ℕ × ℕ)
     budgets = span_of (λ e. budget_month e.0) (map.entries rows.budgets)
+
     months : Option (ℕ × ℕ)
     months = span_of (λ e. month_row_month e.0) (map.entries rows.months)
 
     by_id : ids ≡ hull budgets months
     by_id = one_span (HasMonth named) (λ m. has_named rows.budgets rows.months m ≡ true) (λ m h. sym (is.named m) ∙ h) (λ m h. is.named m ∙ h) ids (hull budgets months) of_ids
         (hull_spans InBudget InMonth (λ m. has_named rows.budgets rows.months m ≡ true) (λ m h. or_left _ _ h) (λ m h. or_right _ _ h) (λ m h. or_cases _ _ h) budgets months
-          (list_spans (λ e. budget_month e.0) (map.entries rows.budgets)) (list_spans (λ e. month_row_month e.0) (map.entries rows.months)))
+        (list_spans (λ e. budget_month e.0) (map.entries rows.budgets)) (list_spans (λ e. month_row_month e.0) (map.entries rows.months)))
 
 -- ---- the window in the words of rows
 some_there : {X : Type 0} (p : X → Bool) (o : Option X) → some_and p o ≡ true → (x : X) × ((o ≡ Some x) × (p x ≡ true))
@@ -220,15 +223,15 @@ pub windows_span_lem : WindowsSpan
 windows_span_lem rows =
     hull_spans (HasTxIn rows) (λ m. HasBudgetIn rows m ⊎ HasMonthIn rows m) (HasRowIn rows) (λ m h. inl h) (λ m h. inr h) (λ m h. h) _ _
     (respan _ (HasTxIn rows)
-      (λ m h. let found = any_row (λ x. is_month_of m (month_of_row x)) rows.txs h in let row = some_there _ _ found.1 in (found.0, row.0, row.1.0, month_told m _ row.1.1))
-      (λ m h. row_any (λ x. is_month_of m (month_of_row x)) rows.txs h.0 (there_some _ _ h.1 h.2 (month_tells m _ h.3)))
-      _ (list_spans (λ e. month_of_row e.1) (map.entries rows.txs)))
+    (λ m h. let found = any_row (λ x. is_month_of m (month_of_row x)) rows.txs h in let row = some_there _ _ found.1 in (found.0, row.0, row.1.0, month_told m _ row.1.1))
+    (λ m h. row_any (λ x. is_month_of m (month_of_row x)) rows.txs h.0 (there_some _ _ h.1 h.2 (month_tells m _ h.3)))
+    _ (list_spans (λ e. month_of_row e.1) (map.entries rows.txs)))
     (hull_spans (HasBudgetIn rows) (HasMonthIn rows) (λ m. HasBudgetIn rows m ⊎ HasMonthIn rows m) (λ m h. inl h) (λ m h. inr h) (λ m h. h) _ _
-      (respan _ (HasBudgetIn rows)
-        (λ m h. let found = any_key (λ id. is_month_of m (budget_month id)) (map.entries rows.budgets) h in (found.0, found.1.0, map.get-entries rows.budgets found.0 ∙ found.1.1.0, month_told m _ found.1.1.1))
-        (λ m h. key_any (λ id. is_month_of m (budget_month id)) h.0 h.1 (map.entries rows.budgets) (sym (map.get-entries rows.budgets h.0) ∙ h.2) (month_tells m _ h.3))
-        _ (list_spans (λ e. budget_month e.0) (map.entries rows.budgets)))
-      (respan _ (HasMonthIn rows)
-        (λ m h. let found = any_key (λ id. is_month_of m (month_row_month id)) (map.entries rows.months) h in (found.0, found.1.0, map.get-entries rows.months found.0 ∙ found.1.1.0, month_told m _ found.1.1.1))
-        (λ m h. key_any (λ id. is_month_of m (month_row_month id)) h.0 h.1 (map.entries rows.months) (sym (map.get-entries rows.months h.0) ∙ h.2) (month_tells m _ h.3))
-        _ (list_spans (λ e. month_row_month e.0) (map.entries rows.months))))
+    (respan _ (HasBudgetIn rows)
+    (λ m h. let found = any_key (λ id. is_month_of m (budget_month id)) (map.entries rows.budgets) h in (found.0, found.1.0, map.get-entries rows.budgets found.0 ∙ found.1.1.0, month_told m _ found.1.1.1))
+    (λ m h. key_any (λ id. is_month_of m (budget_month id)) h.0 h.1 (map.entries rows.budgets) (sym (map.get-entries rows.budgets h.0) ∙ h.2) (month_tells m _ h.3))
+    _ (list_spans (λ e. budget_month e.0) (map.entries rows.budgets)))
+    (respan _ (HasMonthIn rows)
+    (λ m h. let found = any_key (λ id. is_month_of m (month_row_month id)) (map.entries rows.months) h in (found.0, found.1.0, map.get-entries rows.months found.0 ∙ found.1.1.0, month_told m _ found.1.1.1))
+    (λ m h. key_any (λ id. is_month_of m (month_row_month id)) h.0 h.1 (map.entries rows.months) (sym (map.get-entries rows.months h.0) ∙ h.2) (month_tells m _ h.3))
+    _ (list_spans (λ e. month_row_month e.0) (map.entries rows.months))))

@@ -15,6 +15,6 @@ mod txs;
 mod write;
 
 pub use book::Book;
-pub use laws::{live_rows_are_told, rows_follow_fields, windows_span};
 pub use fault::{EditFault, RecurPart, RulePart};
+pub use laws::{live_rows_are_told, rows_follow_fields, windows_span};
 pub use write::{RowName, Write, WriteValue};

@@ -3,8 +3,8 @@ use Rattle.book_rows.proofs.laws.rows_follow_fields.Goals as goal
 
 pub returns : goal.returns
 returns c = record {
-    none = no_fields;
-    set = λ values rows field value are. rows_follow values field value rows are;
-    one = one_book;
-    unknown = unknown_stays;
-  }
+  none = no_fields;
+  set = λ values rows field value are. rows_follow values field value rows are;
+  one = one_book;
+  unknown = unknown_stays;
+}
