@@ -2,8 +2,7 @@
 ghost use Rattle.std.specs.Prelude.{◌≡◌, ◌≤◌, IfOk, OnOk, false};
 ghost use Rattle.field_values.specs.Value.{IsValue};
 
-use book_rows::rows::TxRow;
-use book_rows::{Book, EditFault, RowName, RulePart, Write, WriteValue};
+use book_rows::{Book, EditFault, Kind, RowName, RulePart, TxRow, Write, WriteValue, kind_of};
 use field_values::{Field, Items, Steps, Txt, Value};
 use std::alloc::Global;
 use std::marker::Brand;
@@ -87,6 +86,25 @@ fn tx_of<G: Ledger>(
     }
 }
 
+/// The ids of the parts of a transaction.
+fn parts(alloc: Global, book: &Book, id: &str) -> Result<String, Fail>
+    requires { book.now.spent ≡ false }
+{
+    parts_of::<Brand>(Blank::new(1), alloc, book, id)
+}
+
+/// The ids of the transactions of an account.
+fn account(alloc: Global, book: &Book, id: &str) -> Result<String, Fail>
+    requires { book.now.spent ≡ false }
+{
+    account_of::<Brand>(Blank::new(1), alloc, book, id)
+}
+
+/// A copy of a transaction.
+fn tx(alloc: Global, book: &Book, id: &str) -> Result<Option<TxRow>, Fail> {
+    tx_of::<Brand>(Blank::new(1), alloc, book, id)
+}
+
 /// A flag is set by the number 1 alone, a number that is no whole one reads as 0, and a column that isn't known makes no row.
 #[test]
 fn kinds(rt: HostRuntime) -> Result<(), Fail> {
@@ -150,7 +168,7 @@ fn days(rt: HostRuntime) -> Result<(), Fail> {
     ];
     for (text, day) in rows {
         let book = book_of(alloc, &[("transactions", "t", "date", text)])?;
-        let row = tx_of::<Brand>(Blank::new(1), alloc, &book, "t")?.expect(&rt, "a row");
+        let row = tx(alloc, &book, "t")?.expect(&rt, "a row");
         assert_eq!(rt; row.date, day);
         let month = day.map(|d| d / 100);
         assert_eq!(rt; book.month_of(&Txt::from_text(alloc, "t")?), month);
@@ -237,18 +255,9 @@ const SPLIT: [Line; 14] = [
 fn splits(rt: HostRuntime) -> Result<(), Fail> {
     let alloc = rt.alloc();
     let mut book = book_of(alloc, &SPLIT)?;
-    assert_eq!(rt;
-        parts_of::<Brand>(Blank::new(1), alloc, &book, "t")?.as_str(),
-        "a b c "
-    );
-    assert_eq!(rt;
-        parts_of::<Brand>(Blank::new(1), alloc, &book, "a")?.as_str(),
-        ""
-    );
-    assert_eq!(rt;
-        account_of::<Brand>(Blank::new(1), alloc, &book, "bank")?.as_str(),
-        "b t "
-    );
+    assert_eq!(rt; parts(alloc, &book, "t")?.as_str(), "a b c ");
+    assert_eq!(rt; parts(alloc, &book, "a")?.as_str(), "");
+    assert_eq!(rt; account(alloc, &book, "bank")?.as_str(), "b t ");
     for (id, alive) in [
         ("t", true),
         ("a", true),
@@ -263,44 +272,60 @@ fn splits(rt: HostRuntime) -> Result<(), Fail> {
     set(alloc, &mut book, &("transactions", "b", "parent_id", "S:e"))?;
     set(alloc, &mut book, &("transactions", "b", "acct", "S:cash"))?;
     set(alloc, &mut book, &("transactions", "t", "tombstone", "N:1"))?;
-    assert_eq!(rt;
-        parts_of::<Brand>(Blank::new(1), alloc, &book, "t")?.as_str(),
-        "a c "
-    );
-    assert_eq!(rt;
-        parts_of::<Brand>(Blank::new(1), alloc, &book, "e")?.as_str(),
-        "b "
-    );
-    assert_eq!(rt;
-        account_of::<Brand>(Blank::new(1), alloc, &book, "bank")?.as_str(),
-        "t "
-    );
-    assert_eq!(rt;
-        account_of::<Brand>(Blank::new(1), alloc, &book, "cash")?.as_str(),
-        "b "
-    );
+    assert_eq!(rt; parts(alloc, &book, "t")?.as_str(), "a c ");
+    assert_eq!(rt; parts(alloc, &book, "e")?.as_str(), "b ");
+    assert_eq!(rt; account(alloc, &book, "bank")?.as_str(), "t ");
+    assert_eq!(rt; account(alloc, &book, "cash")?.as_str(), "b ");
     assert_eq!(rt; book.alive(&Txt::from_text(alloc, "a")?), false);
     assert_eq!(rt; book.alive(&Txt::from_text(alloc, "b")?), true);
     Ok(())
 }
 
-/// Copies of what holds memory.
+/// How columns are read.
 #[test]
-fn copies(rt: HostRuntime) -> Result<(), Fail> {
+fn columns(rt: HostRuntime) -> Result<(), Fail> {
+    let rows: [(&str, &str, Option<Kind>); 7] = [
+        ("accounts", "offbudget", Some(Kind::Flag)),
+        ("transactions", "amount", Some(Kind::Int)),
+        ("schedules", "next_date", Some(Kind::Day)),
+        ("notes", "note", Some(Kind::Text)),
+        ("notes", "tombstone", None),
+        ("prefs", "name", None),
+        ("accounts", "Name", None),
+    ];
+    for (dataset, column, kind) in rows {
+        assert_eq!(rt; kind_of(dataset, column), kind);
+    }
+    Ok(())
+}
+
+/// A copy of a write.
+#[test]
+fn copies_of_writes(rt: HostRuntime) -> Result<(), Fail> {
     let alloc = rt.alloc();
     let write = Write {
         dataset: Txt::from_text(alloc, "payees")?,
-        row: RowName::Made(1),
-        column: Txt::from_text(alloc, "transfer_acct")?,
-        value: WriteValue::IdOf(0),
+        row: RowName::Given(Txt::from_text(alloc, "bank")?),
+        column: Txt::from_text(alloc, "name")?,
+        value: WriteValue::Plain(Value::Null),
     };
     assert_eq!(rt; write.copy()?, write);
-    let given = RowName::Given(Txt::from_text(alloc, "bank")?);
-    assert_eq!(rt; given.copy()?, given);
-    let plain = WriteValue::Plain(Value::read(alloc, "S:Bank")?);
-    assert_eq!(rt; plain.copy()?, plain);
+    Ok(())
+}
+
+/// Copies of a name and of a value that stand for a made id.
+#[test]
+fn copies_of_made_ids(rt: HostRuntime) -> Result<(), Fail> {
+    assert_eq!(rt; RowName::Made(1).copy()?, RowName::Made(1));
+    assert_eq!(rt; WriteValue::IdOf(2).copy()?, WriteValue::IdOf(2));
+    Ok(())
+}
+
+/// A copy of a refusal.
+#[test]
+fn copies_of_faults(rt: HostRuntime) -> Result<(), Fail> {
     let taken = EditFault::NameTaken {
-        id: Txt::from_text(alloc, "food")?,
+        id: Txt::from_text(rt.alloc(), "food")?,
     };
     assert_eq!(rt; taken.copy()?, taken);
     let rule = EditFault::BadRule {
