@@ -107,16 +107,20 @@ fn main(rt: HostRuntime) -> ExitCode {
     };
     let mut source = StdinSource::new(rt.stdin());
     let mut sink = StdoutSink::new(writer);
-    let mut ports = Ports::new(alloc, &rt);
+    let ports = Ports::new(alloc, &rt);
+    let mut keeper = ports.keeper;
+    let mut link = ports.link;
+    let mut door = ports.door;
+    let mut clock = ports.clock;
     ExitCode::from(status_over::<Brand, _, _, _, _, _, _>(
         alloc,
         &words,
         &mut source,
         &mut sink,
-        &mut ports.keeper,
-        &mut ports.link,
-        &mut ports.door,
-        &mut ports.clock,
+        &mut keeper,
+        &mut link,
+        &mut door,
+        &mut clock,
         Blank::new(1),
     ))
 }
