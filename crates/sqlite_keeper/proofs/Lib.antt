@@ -11,3 +11,4 @@ pub mod SinceLemmas
 pub mod Layouts
 pub mod MakeLemmas
 pub mod OrderLemmas
+pub mod Relisted

@@ -4,7 +4,7 @@ ghost use Rattle.sqlite.specs.State.{HasCleanDisk};
 ghost use Rattle.sqlite.specs.Held.{state};
 ghost use Rattle.sqlite_catalog.specs.Listing.{IsSound};
 ghost use Rattle.sqlite_keeper.specs.Adopting.{IsInOrder};
-ghost use Rattle.sqlite_keeper.specs.Tables.{no_schema};
+ghost use Rattle.sqlite_keeper.specs.Tables.{keeper_schema, no_schema};
 
 use sqlite::{Alter, Connection, Error, ErrorCode};
 use std::alloc::Global;
@@ -21,6 +21,7 @@ pub fn in_order<S: Alter + Drop>(
     ensures idle { IfOk result (λ c. c.in_transaction ≡ false) }
     ensures settled { IfOk result (λ c. HasCleanDisk (state S.Store c) → IsTrue (state S.Store c).is_open → (state S.Store c).now ≡ (state S.Store c).committed) }
     ensures rows { IfOk result (λ c. HasCleanDisk (state S.Store c) → IsTrue (state S.Store c).is_open × ((state S.Store c).now.trees ≡ (state S.Store connection).committed.trees)) }
+    ensures ours { IfOk result (λ c. HasCleanDisk (state S.Store c) → IsSound keeper_schema (state S.Store connection).committed.trees → c.schema ≡ keeper_schema) }
     ensures blank { IfOk result (λ c. HasCleanDisk (state S.Store c) → c.schema ≡ no_schema → IsSound no_schema (state S.Store connection).committed.trees) }
 {
     let store = connection.into_store();

@@ -1,9 +1,10 @@
 //! What the program does with a store that it has opened.
-ghost use Rattle.std.specs.Prelude.{◌≡◌, ◌⊎◌, if◌then◌else◌, IfOk};
+ghost use Rattle.std.specs.Prelude.{◌≡◌, ◌⊎◌, false, if◌then◌else◌, IfOk};
 ghost use Rattle.budget_ports.specs.Keeper.{IsAlone};
+ghost use Rattle.sqlite.specs.State.{HasCleanDisk};
 ghost use Rattle.sqlite.specs.Held.{state};
 ghost use Rattle.sqlite_catalog.specs.Listing.{IsSound};
-ghost use Rattle.sqlite_keeper.specs.Tables.{no_schema};
+ghost use Rattle.sqlite_keeper.specs.Tables.{keeper_schema, no_schema};
 ghost use Rattle.sqlite_keeper.specs.Contents.{contents_of, contents_now};
 ghost use Rattle.sqlite_keeper.specs.Keeping.{TellsAll, MayBeLeft};
 ghost use Rattle.sqlite_keeper.specs.Adopting.{new_contents};
@@ -32,12 +33,14 @@ pub enum StoreFault {
 /// A keeper over a store that was opened: what was not committed is rolled back, the store is read
 /// again in order, and taken as `SqliteKeeper::adopt` does. Where it is not, it is let go.
 ///
-/// A keeper that tells has what was committed last, or, where nothing was listed, what a new store has.
+/// A keeper that tells has what was committed last, or, where nothing was listed, what a new store has;
+/// over the keeper's tables it tells, unless it is shut or the disk has returned something else.
 pub fn take<S: Alter + Drop>(
     alloc: Global,
     connection: Connection<S>,
 ) -> Result<SqliteKeeper<S>, StoreFault>
     ensures again { IfOk result (λ k. TellsAll S.Store k → (contents_now S.Store k.conn ≡ contents_of (state S.Store connection).committed.trees) ⊎ ((contents_now S.Store k.conn ≡ new_contents) × IsSound no_schema (state S.Store connection).committed.trees)) }
+    ensures kept { IfOk result (λ k. IsSound keeper_schema (state S.Store connection).committed.trees → k.is_shut ≡ false → HasCleanDisk (state S.Store k.conn) → TellsAll S.Store k × (contents_now S.Store k.conn ≡ contents_of (state S.Store connection).committed.trees)) }
     ensures alone { IfOk result (λ k. IsAlone (TellsAll S.Store k) (contents_now S.Store k.conn) (MayBeLeft S.Store k)) }
     ensures count { IfOk result (λ k. k.faults ≡ (if k.is_shut then 1 else 0)) }
 {

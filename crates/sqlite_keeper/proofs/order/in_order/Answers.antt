@@ -1,7 +1,8 @@
-use Rattle.std.proofs.Common.{◌≡◌, ◌∙◌, false, sym, subst₂, arith}
+use Rattle.std.proofs.Common.{◌≡◌, ◌∙◌, false, sym, subst, subst₂, arith}
 use Rattle.sqlite.specs.Held.{state}
 use Rattle.sqlite_catalog.specs.Listing.{IsSound}
 use Rattle.sqlite_trees.specs.View.{IsClean}
+use Rattle.sqlite_keeper.proofs.Relisted.{relisted}
 use Rattle.sqlite_keeper.proofs.OrderLemmas.{fresh, rows_rise, open_of}
 use Rattle.sqlite_keeper.proofs.order.in_order.Goals as goal
 
@@ -34,3 +35,13 @@ returns-in-Ok-clause-blank g c clean is =
     let is_open = open_of (g.S.Store.view store) (g.met.S.Store.broken_if_shut store) sound in
     let rows = c.in-Ok.ensures.trees clean ∙ (c.into_store-store.ensures.undone.undone is_open).0 in
     subst₂ IsSound is rows (c.schema-schema.ensures.live (c.in-Ok.ensures.opens clean).0.is_open).0
+
+pub returns-in-Ok-clause-ours : goal.returns-in-Ok-clause-ours
+returns-in-Ok-clause-ours g c clean listed =
+    let store = c.into_store-store.result in
+    let early : IsClean (g.S.Store.view store) = omega (arith, c.in-Ok.ensures.clean) in
+    let sound : (g.S.Store.view store).is_broken ≡ false = sym (c.if-is_broken.ensures early) in
+    let is_open = open_of (g.S.Store.view store) (g.met.S.Store.broken_if_shut store) sound in
+    let rows = c.in-Ok.ensures.trees clean ∙ (c.into_store-store.ensures.undone.undone is_open).0 in
+    let live = subst (IsSound c.in-Ok.again.schema) rows (c.schema-schema.ensures.live (c.in-Ok.ensures.opens clean).0.is_open).0 in
+    relisted _ c.in-Ok.again.schema listed.lists.listed live.lists.listed
