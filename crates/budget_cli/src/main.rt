@@ -1,4 +1,4 @@
-//! The program: its words, the standard streams, the clock of the system and a keeper in memory.
+//! The program: its words, the standard streams, the clock of the system and a store on a disk or in memory.
 #![tactic(auto)]
 
 ghost use Rattle.std.specs.Prelude.{◌≡◌, ◌≤◌, IsErr, Some};
@@ -16,10 +16,11 @@ mod system_clock;
 #[cfg(test)]
 mod tests;
 
-use budget_ports::{Door, Keeper, Link, Sink, Source, WallClock};
-use budget_top::{WordFault, plan, refusal_status, run};
+use budget_ports::{Door, Keeper, Link, MemoryKeeper, Sink, Source, WallClock};
+use budget_top::{Mode, Plan, WordFault, plan, refusal_status, run};
 use field_values::{Items, Steps, Txt};
 use ports::Ports;
+use sqlite_keeper::{ShutKeeper, StoreFault, open};
 use std::alloc::Global;
 use std::env;
 use std::io::{BufWriter, ErrorKind};
@@ -91,36 +92,77 @@ fn status_over<G: Ledger, S: Source, W: Sink, K: Keeper, L: Link, D: Door, C: Wa
     )
 }
 
-/// Runs the program over the standard streams. What a run that broke off has written is handed on when
-/// the writer is dropped.
-fn main(rt: HostRuntime) -> ExitCode {
+/// Does what the words ask for over the standard streams and this keeper, with the clock of the system.
+/// What a run that broke off has written is handed on when the writer is dropped.
+fn run_with<K: Keeper>(rt: &HostRuntime, words: &Items<Txt>, keeper: &mut K) -> ExitCode {
     let alloc = rt.alloc();
-    let words = match words_of(&rt) {
-        Ok(words) => words,
-        Err(fault) => return without_run(&rt, fault),
-    };
-    if let Err(fault) = plan(alloc, &words) {
-        return without_run(&rt, fault);
-    }
     let Ok(writer) = BufWriter::new(alloc, rt.stdout()) else {
-        return without_run(&rt, WordFault::NoMemory);
+        return without_run(rt, WordFault::NoMemory);
     };
     let mut source = StdinSource::new(rt.stdin());
     let mut sink = StdoutSink::new(writer);
-    let ports = Ports::new(alloc, &rt);
-    let mut keeper = ports.keeper;
+    let ports = Ports::new(rt);
     let mut link = ports.link;
     let mut door = ports.door;
     let mut clock = ports.clock;
     ExitCode::from(status_over::<Brand, _, _, _, _, _, _>(
         alloc,
-        &words,
+        words,
         &mut source,
         &mut sink,
-        &mut keeper,
+        keeper,
         &mut link,
         &mut door,
         &mut clock,
         Blank::new(1),
     ))
+}
+
+/// Tells why a store isn't there: it can't be opened, or it is of another version.
+fn tell_store(rt: &HostRuntime, fault: &StoreFault) {
+    let _ = match fault {
+        StoreFault::Version { found } => {
+            let found = found.as_str();
+            eprintln!(rt; "store-version {found}")
+        }
+        _ => eprintln!(rt; "store"),
+    };
+}
+
+/// Runs over the store in a file, which is made where it isn't there. Where there is none, that is told, and
+/// the run goes over a keeper whose every call fails; nothing in the file has changed then.
+fn run_over_store(rt: &HostRuntime, words: &Items<Txt>, path: &str) -> ExitCode {
+    match open(rt, path) {
+        Ok(mut keeper) => {
+            let status = run_with(rt, words, &mut keeper);
+            // what was answered is committed already
+            let _ = keeper.into_connection().close();
+            status
+        }
+        Err(StoreFault::NoMemory) => without_run(rt, WordFault::NoMemory),
+        Err(fault) => {
+            tell_store(rt, &fault);
+            run_with(rt, words, &mut ShutKeeper::new())
+        }
+    }
+}
+
+/// Does what the words ask for. A device with a store runs over its file, any other run keeps what it keeps
+/// in memory.
+fn main(rt: HostRuntime) -> ExitCode {
+    let words = match words_of(&rt) {
+        Ok(words) => words,
+        Err(fault) => return without_run(&rt, fault),
+    };
+    match plan(rt.alloc(), &words) {
+        Ok(
+            Plan {
+                mode: Mode::Device,
+                store: Some(path),
+                ..
+            },
+        ) => run_over_store(&rt, &words, path.as_str()),
+        Ok(_) => run_with(&rt, &words, &mut MemoryKeeper::new(rt.alloc())),
+        Err(fault) => without_run(&rt, fault),
+    }
 }

@@ -1,4 +1,4 @@
-use Rattle.budget_cli.proofs.main.Given as goal
+use Rattle.budget_cli.proofs.run_with.Given as goal
 
 -- the counter's ledger is the blank one's
 abbrev pub ghosts-status_over : goal.ghosts-status_over
