@@ -16,10 +16,10 @@ mod system_clock;
 #[cfg(test)]
 mod tests;
 
-use budget_ports::{Door, Keeper, Link, MemoryKeeper, Sink, Source, WallClock};
-use budget_top::{Mode, Plan, WordFault, plan, refusal_status, run};
+use budget_ports::{Door, Keeper, Link, Sink, Source, WallClock};
+use budget_top::{Mode, WordFault, plan, refusal_status, run};
 use field_values::{Items, Steps, Txt};
-use ports::Ports;
+use ports::{Ports, memory_keeper};
 use sqlite_keeper::{ShutKeeper, StoreFault, open};
 use std::alloc::Global;
 use std::env;
@@ -154,15 +154,12 @@ fn main(rt: HostRuntime) -> ExitCode {
         Ok(words) => words,
         Err(fault) => return without_run(&rt, fault),
     };
-    match plan(rt.alloc(), &words) {
-        Ok(
-            Plan {
-                mode: Mode::Device,
-                store: Some(path),
-                ..
-            },
-        ) => run_over_store(&rt, &words, path.as_str()),
-        Ok(_) => run_with(&rt, &words, &mut MemoryKeeper::new(rt.alloc())),
-        Err(fault) => without_run(&rt, fault),
+    let plan = match plan(rt.alloc(), &words) {
+        Ok(plan) => plan,
+        Err(fault) => return without_run(&rt, fault),
+    };
+    match (plan.mode, plan.store) {
+        (Mode::Device, Some(path)) => run_over_store(&rt, &words, path.as_str()),
+        _ => run_with(&rt, &words, &mut memory_keeper(rt.alloc())),
     }
 }

@@ -1,9 +1,13 @@
-//! What the program hands to a run besides its streams and its keeper.
-ghost use Rattle.std.specs.Prelude.{◌≡◌};
+//! What the program hands to a run besides its streams and a store on a disk.
+ghost use Rattle.std.specs.Prelude.{◌≡◌, []};
+ghost use Rattle.budget_ports.specs.Calls.{no_calls};
+ghost use Rattle.budget_ports.specs.Contents.{nothing};
 
 use crate::closed_door::ClosedDoor;
 use crate::closed_link::ClosedLink;
 use crate::system_clock::SystemClock;
+use budget_ports::MemoryKeeper;
+use std::alloc::Global;
 use std::time::Clock;
 
 /// The link, the door and the clock of the program.
@@ -28,4 +32,11 @@ impl<C: Clock> Ports<C> {
             clock: SystemClock::new(clock),
         }
     }
+}
+
+/// A keeper in memory that holds nothing and of which no call fails.
+pub fn memory_keeper(alloc: Global) -> MemoryKeeper
+    ensures { result ≡ record { contents = nothing; calls = no_calls [] } }
+{
+    MemoryKeeper::new(alloc)
 }
