@@ -13,7 +13,7 @@ device --node aa > Device 00000000000000aa local home home 1000 127.0.0.1:5006 1
 merge x > Words
 merge -- x > Words
 -- merge --count 5 > Words
-device --store x --node aa > Words
+device --store x --node aa > Device 00000000000000aa local home home 1000 127.0.0.1:5006 127.0.0.1:5006
 device --node aa --node bb > Words
 device --node=aa --node aa > Words
 device --node - > Words
