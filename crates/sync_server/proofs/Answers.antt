@@ -4,13 +4,14 @@ use Rattle.std.specs.Prelude.{filter, IfOk}
 use Rattle.std.specs.List.{AllByRecursion, Contains, find}
 use Rattle.std.specs.Cmp.{tied_itself}
 use Rattle.std.specs.Ordering.{is_eq}
+use Rattle.std.specs.declared.cmp.Ordering.{Ordering}
 use Rattle.hybrid_clock.specs.Stamp.{stamp_text, head_text}
 use Rattle.hybrid_clock.specs.Order.{stamp_cmp}
 use Rattle.field_merge.specs.declared.message.Message.{Message}
 use Rattle.field_merge.specs.Log.{LogState, IsRising, is_after, has_stamp, join, messages_after}
 use Rattle.field_merge.proofs.Joining.{found, rising, stamp_of}
 use Rattle.field_merge.proofs.Members.{all_of, all_weaker, here, there, some_passes}
-use Rattle.field_merge.proofs.Ordered.{in_order_nil, same}
+use Rattle.field_merge.proofs.Ordered.{IsBelow, IsInOrder, cons, head, in_order_nil, same, tail}
 use Rattle.field_merge.proofs.Orders.{stamps_total}
 use Rattle.field_values.specs.declared.memory.NoMemory.{NoMemory}
 use Rattle.minute_trie.specs.declared.trie.Trie.{Trie}
@@ -61,6 +62,25 @@ module _ {A : Type 0} (p : A → Bool) where
         | false ↦ λ e. (λ k. cc, are_kept ys)
       ] refl
 
+-- what is kept of elements that are in order is in order
+module _ {A K : Type 0} (key : A → K) (R : K → K → Ordering) (p : A → Bool) where
+  kept_below : (k : K) (xs : List A) → IsBelow key R k xs → IsBelow key R k (filter p xs)
+  kept_below k [] h = tt
+  kept_below k (x ∷ xs) h =
+      elim (p x) as (λ b. IsBelow key R k (cond b (x ∷ filter p xs) (filter p xs))) [
+        | true ↦ (h.0, kept_below k xs h.1)
+        | false ↦ kept_below k xs h.1
+      ]
+
+  kept_in_order : (xs : List A) → IsInOrder key R xs → IsInOrder key R (filter p xs)
+  kept_in_order [] s = s
+  kept_in_order (x ∷ xs) s =
+      let rest = kept_in_order xs (tail key R x xs s) in
+      elim (p x) as (λ b. IsInOrder key R (cond b (x ∷ filter p xs) (filter p xs))) [
+        | true ↦ cons key R x (filter p xs) (kept_below (key x) xs (head key R x xs s)) rest
+        | false ↦ rest
+      ]
+
 told : (ms : List Message) (q : SyncRequest) (m : Message) → Contains (messages_after q.since ms) m → Contains ms m × (is_after q.since m ≡ true)
 told ms q m c = all_of (λ x. Contains ms x × (is_after q.since x ≡ true)) (messages_after q.since ms) (kept_are (is_after q.since) ms) m c
 
@@ -71,6 +91,9 @@ pub they_tell : AnswersTell
 they_tell = record {
   exactly = λ ms q m. (told ms q m, λ h. all_of (λ x. is_after q.since x ≡ true → Contains (messages_after q.since ms) x) ms (are_kept (is_after q.since) ms) m h.0 h.1);
   no_new = λ ms q m none c. some_passes (has_stamp m.stamp) ms m (told ms q m c).0 (its_own m) none;
+  in_order = λ ms q up. kept_in_order stamp_of stamp_cmp (is_after q.since) ms up;
+  trie = λ ms q t right. ap trie_text (sym right.same);
+  trie_after = λ ms q r none. ap (λ (ns : List Message). trie_text (trie_of (pairs_of (join (join ms q.messages) ns)))) none;
 }
 
 -- ---- the answer that is made
