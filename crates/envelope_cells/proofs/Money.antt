@@ -2,9 +2,11 @@
 use Rattle.std.proofs.Common.{◌≡◌, ℕ, ◌+◌, Bool, true, false, not, cond, List, [], ◌∷◌, ◌++◌, zero, suc, refl, ap, sym, ◌∙◌, arith}
 use lib.IntN.{ℤ, pos, ◌+ℤ◌, ◌-ℤ◌, neg_ℤ}
 use Rattle.std.proofs.lemmas.Int.{ints, clamps}
+use Rattle.std.specs.List.{filter}
 use Rattle.finite_sums.specs.Sums.{total}
+use Rattle.finite_sums.specs.Maps.{Text}
 use Rattle.finite_sums.proofs.Totals.{total-append, total-plus}
-use Rattle.envelope_cells.specs.Budget.{Budget, income, expense}
+use Rattle.envelope_cells.specs.Budget.{Budget, BudgetGroup, categories_of, income, expense}
 use Rattle.envelope_cells.specs.Cells.{rolled, taken, carried_before, buffered_before, leftover_before, leftover, taken_from, total_income, last_month_overspent, all_budgeted, total_spent, to_budget_before, money_before}
 use Rattle.envelope_cells.specs.Laws.{MoneyIsKept}
 
@@ -33,9 +35,18 @@ leftovers_next b m =
     ∙ total-plus (λ c. b.budgeted c m +ℤ b.category_sum c m) (λ c. leftover_before b c m) (expense b)
     ∙ ap (λ z. z +ℤ all_left_before b m) (total-plus (λ c. b.budgeted c m) (λ c. b.category_sum c m) (expense b))
 
+-- the categories are those of income and those of expenses
+split : (f : Text → ℤ) (gs : List BudgetGroup) → total f (categories_of gs) ≡ total f (categories_of (filter (λ g. g.is_income) gs)) +ℤ total f (categories_of (filter (λ g. not g.is_income) gs))
+split f [] = omega (arith, ints)
+split f (g ∷ gs) =
+    elim g.is_income as (λ t. total f (g.categories ++ categories_of gs) ≡ total f (categories_of (cond t (g ∷ filter (λ g. g.is_income) gs) (filter (λ g. g.is_income) gs))) +ℤ total f (categories_of (cond (not t) (g ∷ filter (λ g. not g.is_income) gs) (filter (λ g. not g.is_income) gs)))) [
+      | true ↦ omega (arith, ints, split f gs, total-append f g.categories (categories_of gs), total-append f g.categories (categories_of (filter (λ g. g.is_income) gs)))
+      | false ↦ omega (arith, ints, split f gs, total-append f g.categories (categories_of gs), total-append f g.categories (categories_of (filter (λ g. not g.is_income) gs)))
+    ]
+
 pub money_before_is : (b : Budget) (n : ℕ) → (to_budget_before b n +ℤ buffered_before b n) +ℤ all_left_before b n ≡ money_before b n
 money_before_is b zero = omega (arith, ints, total_zero (expense b))
-money_before_is b (suc m) = omega (arith, ints, money_before_is b m, leftovers_next b m, total-append (λ c. b.category_sum c m) (income b) (expense b))
+money_before_is b (suc m) = omega (arith, ints, money_before_is b m, leftovers_next b m, split (λ c. b.category_sum c m) b.groups)
 
 pub money_is_kept_lem : MoneyIsKept
 money_is_kept_lem b m = money_before_is b (suc m)

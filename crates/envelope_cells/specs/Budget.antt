@@ -32,6 +32,9 @@ abbrev pub categories_of : List BudgetGroup → List Text
 categories_of [] = []
 categories_of (g ∷ gs) = g.categories ++ categories_of gs
 
+abbrev pub categories : Budget → List Text
+categories b = categories_of b.groups
+
 abbrev pub income : Budget → List Text
 income b = categories_of (income_groups b)
 

@@ -1,9 +1,9 @@
 -- What each cell tells.
-use Rattle.std.specs.Prelude.{ℕ, Bool, true, false, ℤ, pos, List, [], ◌∷◌, ◌++◌, Option, Some, None, if◌then◌else◌}
+use Rattle.std.specs.Prelude.{ℕ, Bool, true, false, ℤ, pos, List, [], ◌∷◌, Option, Some, None, if◌then◌else◌}
 use Rattle.std.specs.Ordering.{eq_by_cmp}
 use Rattle.finite_sums.specs.Sums.{total}
 use Rattle.finite_sums.specs.Maps.{Text, text_cmp, is_among}
-use Rattle.envelope_cells.specs.Budget.{Budget, BudgetGroup, expense_groups, income, expense}
+use Rattle.envelope_cells.specs.Budget.{Budget, BudgetGroup, expense_groups, categories, expense}
 use Rattle.envelope_cells.specs.Cells.{total_income, from_last_month, available_funds, last_month_overspent, total_budgeted, to_budget, total_spent, total_leftover, leftover}
 use Rattle.envelope_cells.specs.Names.{month_number}
 use Rattle.envelope_cells.specs.declared.name.CellName.{CellName}
@@ -47,7 +47,7 @@ value_of b m TotalLeftover id = of_month id (total_leftover b m)
 value_of b m GroupSum id = of_group (λ c. b.category_sum c m) (group_named b.groups id)
 value_of b m GroupBudget id = of_group (λ c. b.budgeted c m) (group_named (expense_groups b) id)
 value_of b m GroupLeftover id = of_group (λ c. leftover b c m) (group_named (expense_groups b) id)
-value_of b m Sum id = of_category (income b ++ expense b) id (b.category_sum id m)
+value_of b m Sum id = of_category (categories b) id (b.category_sum id m)
 value_of b m OfBudget id = of_category (expense b) id (b.budgeted id m)
 value_of b m Carryover id = of_category (expense b) id (flag_value (b.carries id m))
 value_of b m Leftover id = of_category (expense b) id (leftover b id m)

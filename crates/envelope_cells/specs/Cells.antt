@@ -1,9 +1,9 @@
 -- The values of a month's cells. Before January 1970 each of them is 0, and nothing is carried over.
-use Rattle.std.specs.Prelude.{ℕ, zero, suc, Bool, false, ℤ, pos, neg_ℤ, ◌+ℤ◌, ◌-ℤ◌, List, ◌++◌, if◌then◌else◌}
+use Rattle.std.specs.Prelude.{ℕ, zero, suc, Bool, false, ℤ, pos, neg_ℤ, ◌+ℤ◌, ◌-ℤ◌, if◌then◌else◌}
 use Rattle.std.specs.Int.{int_max, int_min}
 use Rattle.finite_sums.specs.Sums.{total}
 use Rattle.finite_sums.specs.Maps.{Text}
-use Rattle.envelope_cells.specs.Budget.{Budget, income, expense}
+use Rattle.envelope_cells.specs.Budget.{Budget, categories, income, expense}
 
 -- what of a leftover goes on to the next month in its category, and what of it is taken from the next month's money
 abbrev pub rolled : Bool → ℤ → ℤ
@@ -71,7 +71,7 @@ available_funds b m = total_income b m +ℤ from_last_month b m
 -- what the transactions of live categories add up to in the months before month n
 abbrev pub money_before : Budget → ℕ → ℤ
 money_before b zero = pos 0
-money_before b (suc m) = money_before b m +ℤ total (λ c. b.category_sum c m) (income b ++ expense b)
+money_before b (suc m) = money_before b m +ℤ total (λ c. b.category_sum c m) (categories b)
 
 -- the same in the months up to month m
 abbrev pub money : Budget → ℕ → ℤ

@@ -1,9 +1,9 @@
 -- What the laws say.
-use Rattle.std.specs.Prelude.{ℕ, ◌≡◌, zero, suc, ◌+◌, ◌≤◌, Bool, true, false, not, ℤ, pos, ◌+ℤ◌, ◌-ℤ◌, ◌≤ℤ◌, List, ◌++◌, Option, Some, None, IsTrue}
+use Rattle.std.specs.Prelude.{ℕ, ◌≡◌, zero, suc, ◌+◌, ◌≤◌, Bool, true, false, not, ℤ, pos, ◌+ℤ◌, ◌-ℤ◌, ◌≤ℤ◌, List, ◌++◌, Option, Some, None}
 use Rattle.finite_sums.specs.Sums.{total, hits}
 use Rattle.finite_sums.specs.Maps.{Text, text_cmp, is_among}
 use Rattle.std.specs.Ordering.{eq_by_cmp}
-use Rattle.envelope_cells.specs.Budget.{Budget, BudgetGroup, categories_of, income, expense}
+use Rattle.envelope_cells.specs.Budget.{Budget, BudgetGroup, categories, expense}
 use Rattle.envelope_cells.specs.Cells.{leftover, taken_from, total_income, from_last_month, available_funds, last_month_overspent, total_budgeted, to_budget, total_leftover, money}
 use Rattle.envelope_cells.specs.CellOf.{cell_of, is_of_category}
 use Rattle.envelope_cells.specs.SheetOf.{sheet_of, value_named}
@@ -50,12 +50,12 @@ pub record SayTheSame (a b : Budget) (c : Text) : Type 0 where
 pub record AgreeOnLive (a b : Budget) : Type 0 where
   pub groups : a.groups ≡ b.groups
   pub buffered : (m : ℕ) → a.buffered m ≡ b.buffered m
-  pub live : (c : Text) → is_among text_cmp (categories_of b.groups) c ≡ true → SayTheSame a b c
+  pub live : (c : Text) → is_among text_cmp (categories b) c ≡ true → SayTheSame a b c
 
 -- a category that is not live counts nowhere: whatever is said of it, each cell of each month is the same, and it has none itself
 pub record OthersCountNowhere : Type 0 where
   pub same : (a b : Budget) → AgreeOnLive a b → (name : CellName) → cell_of a name ≡ cell_of b name
-  pub none : (b : Budget) (name : CellName) → IsTrue (is_of_category name.kind) → is_among text_cmp (categories_of b.groups) name.id ≡ false → cell_of b name ≡ None
+  pub none : (b : Budget) (name : CellName) → is_of_category name.kind ≡ true → is_among text_cmp (categories b) name.id ≡ false → cell_of b name ≡ None
 
 -- a sheet has exactly the cells of its month, each with its value
 abbrev pub SheetsTellCells : Type 0
