@@ -12,7 +12,8 @@ use Rattle.finite_sums.specs.Sums.{total}
 use Rattle.finite_sums.specs.Maps.{Text, text_cmp, is_among}
 use Rattle.finite_sums.proofs.Texts.{text_total, text_same}
 use Rattle.finite_sums.proofs.Totals.{total-append}
-use Rattle.envelope_cells.specs.Budget.{Budget, BudgetGroup, categories_of}
+use Rattle.envelope_cells.specs.Budget.{Budget, categories_of}
+use Rattle.envelope_cells.specs.declared.groups.BudgetGroup.{BudgetGroup}
 
 is_equal : (r : Ordering) → is_eq r ≡ true → r ≡ Equal
 is_equal Less h = cc

@@ -6,7 +6,8 @@ use Rattle.std.specs.List.{filter}
 use Rattle.std.specs.Ordering.{eq_by_cmp}
 use Rattle.finite_sums.specs.Sums.{total}
 use Rattle.finite_sums.specs.Maps.{Text, text_cmp, is_among}
-use Rattle.envelope_cells.specs.Budget.{Budget, BudgetGroup, categories_of, categories, income, expense, expense_groups}
+use Rattle.envelope_cells.specs.Budget.{Budget, categories_of, categories, income, expense, expense_groups}
+use Rattle.envelope_cells.specs.declared.groups.BudgetGroup.{BudgetGroup}
 use Rattle.envelope_cells.specs.Cells.{rolled, taken, carried_before, buffered_before, leftover_before, leftover, taken_from, total_income, last_month_overspent, all_budgeted, total_budgeted, total_spent, total_leftover, to_budget_before, to_budget, from_last_month, available_funds}
 use Rattle.envelope_cells.specs.CellOf.{of_month, of_category, of_group, group_named, flag_value, value_of, is_of_category}
 use Rattle.envelope_cells.specs.declared.name.CellKind.{CellKind}

@@ -1,12 +1,7 @@
 -- What a book says of its months, as far as the sheets go. Months are numbered from 0, which is January 1970. Amounts are cents.
 use Rattle.std.specs.Prelude.{ℕ, Bool, not, ℤ, List, [], ◌∷◌, ◌++◌, filter}
 use Rattle.finite_sums.specs.Maps.{Text}
-
--- a live group, with its live categories in the order of the sheet
-pub record BudgetGroup : Type 0 where
-  pub id : Text
-  pub is_income : Bool
-  pub categories : List Text
+use Rattle.envelope_cells.specs.declared.groups.BudgetGroup.{BudgetGroup}
 
 pub record Budget : Type 0 where
   -- the live groups, in the order of the sheet

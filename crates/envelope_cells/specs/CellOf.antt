@@ -3,9 +3,10 @@ use Rattle.std.specs.Prelude.{ℕ, Bool, true, false, ℤ, pos, List, [], ◌∷
 use Rattle.std.specs.Ordering.{eq_by_cmp}
 use Rattle.finite_sums.specs.Sums.{total}
 use Rattle.finite_sums.specs.Maps.{Text, text_cmp, is_among}
-use Rattle.envelope_cells.specs.Budget.{Budget, BudgetGroup, expense_groups, categories, expense}
+use Rattle.envelope_cells.specs.Budget.{Budget, expense_groups, categories, expense}
+use Rattle.envelope_cells.specs.declared.groups.BudgetGroup.{BudgetGroup}
 use Rattle.envelope_cells.specs.Cells.{total_income, from_last_month, available_funds, last_month_overspent, total_budgeted, to_budget, total_spent, total_leftover, leftover}
-use Rattle.envelope_cells.specs.Names.{month_number}
+use Rattle.envelope_cells.specs.Ids.{month_number}
 use Rattle.envelope_cells.specs.declared.name.CellName.{CellName}
 use Rattle.envelope_cells.specs.declared.name.CellKind.{CellKind}
 use Rattle.envelope_cells.specs.declared.name.CellKind.TheVariants.{TotalIncome, FromLastMonth, AvailableFunds, LastMonthOverspent, TotalBudgeted, Buffered, ToBudget, TotalSpent, TotalLeftover, GroupSum, GroupBudget, GroupLeftover, Sum, Budget as OfBudget, Carryover, Leftover}

@@ -3,7 +3,8 @@ use Rattle.std.specs.Prelude.{ℕ, ◌≡◌, zero, suc, ◌+◌, ◌≤◌, Boo
 use Rattle.finite_sums.specs.Sums.{total, hits}
 use Rattle.finite_sums.specs.Maps.{Text, text_cmp, is_among}
 use Rattle.std.specs.Ordering.{eq_by_cmp}
-use Rattle.envelope_cells.specs.Budget.{Budget, BudgetGroup, categories, expense}
+use Rattle.envelope_cells.specs.Budget.{Budget, categories, expense}
+use Rattle.envelope_cells.specs.declared.groups.BudgetGroup.{BudgetGroup}
 use Rattle.envelope_cells.specs.Cells.{leftover, taken_from, total_income, from_last_month, available_funds, last_month_overspent, total_budgeted, to_budget, total_leftover, money}
 use Rattle.envelope_cells.specs.CellOf.{cell_of, is_of_category}
 use Rattle.envelope_cells.specs.SheetOf.{sheet_of, value_named}

@@ -1,5 +1,5 @@
--- The names of cells, their order, and months as numbers.
-use Rattle.std.specs.Prelude.{ℕ, ◌+◌, ◌-◌, ◌*◌, ◌/◌, ◌%◌, Bool, ℤ, List}
+-- The names of cells, and their order.
+use Rattle.std.specs.Prelude.{ℕ, ℤ}
 use Rattle.std.specs.declared.cmp.Ordering.{Ordering}
 use Rattle.std.specs.Ordering.{nat_cmp, ordering_then}
 use Rattle.std.specs.FinMap.{FinMap}
@@ -9,10 +9,6 @@ use Rattle.finite_sums.specs.Maps.{Text, text_cmp}
 use Rattle.envelope_cells.specs.declared.name.CellName.{CellName}
 use Rattle.envelope_cells.specs.declared.name.CellKind.{CellKind}
 use Rattle.envelope_cells.specs.declared.name.CellKind.TheVariants.{TotalIncome, FromLastMonth, AvailableFunds, LastMonthOverspent, TotalBudgeted, Buffered, ToBudget, TotalSpent, TotalLeftover, GroupSum, GroupBudget, GroupLeftover, Sum, Budget as OfBudget, Carryover, Leftover}
-
--- the month YYYYMM, counted from January 1970
-abbrev pub month_number : ℕ → ℕ
-month_number month = (month / 100 - 1970) * 12 + (month % 100 - 1)
 
 -- the place of a kind among all of them
 abbrev pub kind_number : CellKind → ℕ

@@ -3,9 +3,11 @@ use Rattle.std.specs.Prelude.{ℕ, Bool, ℤ, List, [], ◌∷◌, ◌++◌, Opt
 use Rattle.std.specs.Ordering.{eq_by_cmp}
 use Rattle.finite_sums.specs.Sums.{total}
 use Rattle.finite_sums.specs.Maps.{Text}
-use Rattle.envelope_cells.specs.Budget.{Budget, BudgetGroup}
+use Rattle.envelope_cells.specs.Budget.{Budget}
+use Rattle.envelope_cells.specs.declared.groups.BudgetGroup.{BudgetGroup}
 use Rattle.envelope_cells.specs.Cells.{total_income, from_last_month, available_funds, last_month_overspent, total_budgeted, to_budget, total_spent, total_leftover, leftover}
-use Rattle.envelope_cells.specs.Names.{month_number, cell_cmp}
+use Rattle.envelope_cells.specs.Ids.{month_number}
+use Rattle.envelope_cells.specs.Names.{cell_cmp}
 use Rattle.envelope_cells.specs.CellOf.{flag_value}
 use Rattle.envelope_cells.specs.declared.name.Cell.{Cell}
 use Rattle.envelope_cells.specs.declared.name.CellName.{CellName}

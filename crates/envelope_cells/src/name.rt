@@ -1,8 +1,9 @@
-//! The names of cells.
+//! The cells of a month and their names.
 ghost use Rattle.std.specs.Prelude.{◌≡◌, IfOk};
 ghost use Rattle.envelope_cells.specs.Names.{kind_number};
+ghost use Rattle.envelope_cells.specs.SheetOf.{value_named};
 
-use field_values::{Copied, NoMemory, Txt};
+use field_values::{Copied, Items, NoMemory, Txt};
 use std::cmp::Ordering;
 
 /// What a cell tells of its month.
@@ -167,4 +168,26 @@ pub struct Cell {
     pub name: CellName,
     /// In cents; 1 or 0 where the kind is `Carryover`.
     pub value: i128,
+}
+
+/// All cells of a month, in order: those of the whole month, then each live group with its cells, followed by its live
+/// categories with theirs.
+#[derive(Debug, Drop)]
+pub struct Sheet {
+    /// The cells.
+    pub cells: Items<Cell>,
+}
+
+impl Sheet {
+    /// What a cell tells, if the sheet has it.
+    pub fn cell(&self, name: &CellName) -> Option<i128>
+        ensures { result ≡ value_named self.now.cells name.now }
+    {
+        for cell in self.cells.as_slice() {
+            if *name == cell.name {
+                return Some(cell.value);
+            }
+        }
+        None
+    }
 }
