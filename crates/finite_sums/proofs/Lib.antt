@@ -3,3 +3,4 @@ pub mod Texts
 pub mod Totals
 pub mod MapSums
 pub mod Classes
+pub mod Sorted

@@ -12,13 +12,13 @@ use Rattle.std.specs.FinMap.Entries.{below_all, by_order}
 use Rattle.std.specs.List.{AllByRecursion, filter}
 use Rattle.std.proofs.lemmas.Int.{ints}
 use Rattle.finite_sums.specs.Sums.{total}
-use Rattle.finite_sums.specs.Maps.{value_or_zero, total_of, is_among, AreDistinct}
+use Rattle.finite_sums.specs.Maps.{value_or_zero, total_of, some_and, keys_where, is_among, AreDistinct}
 
-both_true : (a b : Bool) → (a && b) ≡ true → (a ≡ true) × (b ≡ true)
+pub both_true : (a b : Bool) → (a && b) ≡ true → (a ≡ true) × (b ≡ true)
 both_true true b h = (refl, h)
 both_true false b h = cc
 
-so : (b : Bool) → T b → b ≡ true
+pub so : (b : Bool) → T b → b ≡ true
 so true h = refl
 so false h = absurd h
 
@@ -44,7 +44,7 @@ or_false : (a b : Bool) → (a || b) ≡ false → (a ≡ false) × (b ≡ false
 or_false true b h = cc
 or_false false b h = (refl, h)
 
-and_both : (a b : Bool) → a ≡ true → b ≡ true → (a && b) ≡ true
+pub and_both : (a b : Bool) → a ≡ true → b ≡ true → (a && b) ≡ true
 and_both a b p q = rw p q
 
 module _ {K X : Type 0} {R : K → K → Ordering} (o : IsTotalOrder R) (exact : IsAntisymmetric R) where
@@ -61,7 +61,7 @@ module _ {K X : Type 0} {R : K → K → Ordering} (o : IsTotalOrder R) (exact :
       let q = both_true _ _ h in
       and_both _ _ (ap is_lt (o.trans k x e.0 p (is_less _ q.0))) (lower k x es p q.1)
 
-  sorted_tail : (e : K × X) (es : List (K × X)) → is_sorted R (e ∷ es) ≡ true → is_sorted R es ≡ true
+  pub sorted_tail : (e : K × X) (es : List (K × X)) → is_sorted R (e ∷ es) ≡ true → is_sorted R es ≡ true
   sorted_tail e es h = (both_true _ _ h).1
 
   later : (e : K × X) (es : List (K × X)) → is_sorted R (e ∷ es) ≡ true → (q : K) (x : X) → find R q es ≡ Some x → (b : Bool) → eq_by_cmp R q e.0 ≡ b → cond b (Some e.1) (find R q es) ≡ Some x
@@ -173,38 +173,30 @@ module _ {K X : Type 0} {R : K → K → Ordering} (o : IsTotalOrder R) (exact :
       rest_alike : (q : K) (x : X) → get (without m ks) q ≡ Some x → f x ≡ g x
       rest_alike q x h = inside q x (is_among R ks q) refl (sym (get-without m ks q) ∙ h)
 
-abbrev pub some_and : {X : Type 0} → (X → Bool) → Option X → Bool
-some_and p None = false
-some_and p (Some x) = p x
-
 module _ {K X : Type 0} {R : K → K → Ordering} (o : IsTotalOrder R) (exact : IsAntisymmetric R) (p : X → Bool) where
-  -- the keys of the entries whose values pass
-  abbrev pub keys_where : List (K × X) → List K
-  keys_where es = map (λ e. e.0) (filter (λ e. p e.1) es)
-
   among_by : (q : K) (e : K × X) (es : List (K × X)) (t b : Bool) → eq_by_cmp R q e.0 ≡ t → p e.1 ≡ b → is_sorted R (e ∷ es) ≡ true
-      → is_among R (keys_where es) q ≡ some_and p (find R q es)
+      → is_among R (keys_where p es) q ≡ some_and p (find R q es)
       → is_among R (map (λ e. e.0) (cond b (e ∷ filter (λ e. p e.1) es) (filter (λ e. p e.1) es))) q ≡ some_and p (cond t (Some e.1) (find R q es))
   among_by q e es true true tie pass s h = rw (tie, pass)
   among_by q e es true false tie pass s h =
       let gone : find R q es ≡ None = ap (λ k. find R k es) (exact q e.0 (is_equal (R q e.0) tie)) ∙ absent o exact e.0 es (both_true _ _ s).0 in
       h ∙ ap (some_and p) gone ∙ sym pass
-  among_by q e es false true tie pass s h = ap (λ t. t || is_among R (keys_where es) q) tie ∙ h
+  among_by q e es false true tie pass s h = ap (λ t. t || is_among R (keys_where p es) q) tie ∙ h
   among_by q e es false false tie pass s h = h
 
-  among_list : (q : K) (es : List (K × X)) → is_sorted R es ≡ true → is_among R (keys_where es) q ≡ some_and p (find R q es)
+  among_list : (q : K) (es : List (K × X)) → is_sorted R es ≡ true → is_among R (keys_where p es) q ≡ some_and p (find R q es)
   among_list q [] s = refl
   among_list q (e ∷ es) s = among_by q e es (eq_by_cmp R q e.0) (p e.1) refl refl s (among_list q es (sorted_tail o exact e es s))
 
-  pub among-keys_where : (m : FinMap R X) (q : K) → is_among R (keys_where (entries m)) q ≡ some_and p (get m q)
+  pub among-keys_where : (m : FinMap R X) (q : K) → is_among R (keys_where p (entries m)) q ≡ some_and p (get m q)
   among-keys_where m q = among_list q (entries m) (so _ (entries_sorted m)) ∙ ap (some_and p) (sym (get-entries m q))
 
-  distinct_list : (es : List (K × X)) → is_sorted R es ≡ true → AreDistinct R (keys_where es)
+  distinct_list : (es : List (K × X)) → is_sorted R es ≡ true → AreDistinct R (keys_where p es)
   distinct_list [] s = tt
   distinct_list (e ∷ es) s =
       let rest = distinct_list es (sorted_tail o exact e es s) in
       let apart = among_list e.0 es (sorted_tail o exact e es s) ∙ ap (some_and p) (absent o exact e.0 es (both_true _ _ s).0) in
       elim (p e.1) as (λ b. AreDistinct R (map (λ e. e.0) (cond b (e ∷ filter (λ e. p e.1) es) (filter (λ e. p e.1) es)))) [ true ↦ (apart, rest) | false ↦ rest ]
 
-  pub distinct-keys_where : (m : FinMap R X) → AreDistinct R (keys_where (entries m))
+  pub distinct-keys_where : (m : FinMap R X) → AreDistinct R (keys_where p (entries m))
   distinct-keys_where m = distinct_list (entries m) (so _ (entries_sorted m))

@@ -1,5 +1,5 @@
 -- Finite maps, mostly from texts, and sums over their values.
-use Rattle.std.specs.Prelude.{ℕ, Bool, false, ◌≡◌, ◌||◌, ℤ, pos, List, [], ◌∷◌, Option, None, Some}
+use Rattle.std.specs.Prelude.{ℕ, Bool, false, ◌≡◌, ◌||◌, ℤ, pos, List, [], ◌∷◌, map, filter, Option, None, Some}
 use Rattle.std.specs.declared.cmp.Ordering.{Ordering}
 use Rattle.std.specs.Ordering.{nat_cmp, eq_by_cmp}
 use Rattle.std.specs.Cmp.Lexicographic.{slice_cmp}
@@ -31,6 +31,15 @@ value_or_zero f (Some x) = f x
 -- f of each value of a map, added up
 abbrev pub total_of : {K X : Type 0} {R : K → K → Ordering} → (X → ℤ) → FinMap R X → ℤ
 total_of f m = total (λ e. f e.1) (entries m)
+
+-- there is one, and it passes the test
+abbrev pub some_and : {X : Type 0} → (X → Bool) → Option X → Bool
+some_and p None = false
+some_and p (Some x) = p x
+
+-- the keys of the entries whose values pass a test
+abbrev pub keys_where : {K X : Type 0} → (X → Bool) → List (K × X) → List K
+keys_where p es = map (λ e. e.0) (filter (λ e. p e.1) es)
 
 -- whether a key is one of some keys
 abbrev pub is_among : {K : Type 0} → (K → K → Ordering) → List K → K → Bool

@@ -1,0 +1,160 @@
+-- The first and the last of the months that rows have.
+use Rattle.std.proofs.Common.{◌≡◌, ◌⊎◌, inl, inr, ℕ, zero, suc, ◌≤◌, min, max, Bool, true, false, cond, List, [], ◌∷◌, map, Option, Some, None, refl, sym, ap, ap₂, ◌∙◌, true≢false, arith, subst}
+use Rattle.std.specs.Prelude.{◌||◌}
+use Rattle.std.specs.Ordering.{eq_by_cmp, nat_cmp}
+use Rattle.std.specs.Cmp.{eq_by_cmp_equiv, nat_cmp_total}
+use Rattle.std.specs.List.{filter, list_any}
+use Rattle.std.specs.BTreeSet as set
+use Rattle.std.specs.BTreeSet.{BTreeSet}
+use Rattle.std.specs.FinMap as map
+use Rattle.std.specs.FinMap.{nat_cmp-IsAntisymmetric}
+use Rattle.finite_sums.specs.Maps.{Text, Texts, text_cmp, some_and, keys_where, is_among}
+use Rattle.finite_sums.proofs.Texts.{text_total, text_same}
+use Rattle.finite_sums.proofs.MapSums.{among-keys_where}
+use Rattle.book_rows.specs.declared.rows.Rows.{Rows}
+use Rattle.book_rows.specs.declared.rows.TxRow.{TxRow}
+use Rattle.book_rows.specs.declared.txs.TxIndex.{TxIndex}
+use Rattle.book_rows.specs.Months.{month_of_row, budget_month, month_row_month, hull, month_span, span_of, window_of}
+use Rattle.book_rows.specs.Book.{IsTxIndex, IsIndexed, keys_of, is_month_of, has_named, dated_cmp}
+use Rattle.book_rows.specs.Spans.{IsSpan, Spans, HasDated, HasMonth}
+use Rattle.book_rows.proofs.Pairs.{is_equal, itself}
+
+never : {P : Type 0} → false ≡ true → P
+never h = absurd (true≢false (sym h))
+
+or_left : (a b : Bool) → a ≡ true → (a || b) ≡ true
+or_left true b h = refl
+or_left false b h = never h
+
+or_right : (a b : Bool) → b ≡ true → (a || b) ≡ true
+or_right true b h = refl
+or_right false b h = h
+
+or_cases : (a b : Bool) → (a || b) ≡ true → (a ≡ true) ⊎ (b ≡ true)
+or_cases true b h = inl refl
+or_cases false b h = inr h
+
+least_is : (a b : ℕ) → (min a b ≡ a) ⊎ (min a b ≡ b)
+least_is zero b = inl (omega arith)
+least_is (suc a) zero = inr (omega arith)
+least_is (suc a) (suc b) = elim (least_is a b) as (λ _. (min (suc a) (suc b) ≡ suc a) ⊎ (min (suc a) (suc b) ≡ suc b)) [ inl e ↦ inl (omega (arith, e)) | inr e ↦ inr (omega (arith, e)) ]
+
+greatest_is : (a b : ℕ) → (max a b ≡ a) ⊎ (max a b ≡ b)
+greatest_is zero b = inr (omega arith)
+greatest_is (suc a) zero = inl (omega arith)
+greatest_is (suc a) (suc b) = elim (greatest_is a b) as (λ _. (max (suc a) (suc b) ≡ suc a) ⊎ (max (suc a) (suc b) ≡ suc b)) [ inl e ↦ inl (omega (arith, e)) | inr e ↦ inr (omega (arith, e)) ]
+
+-- the span of what one or the other has
+module _ (P Q R : ℕ → Type 0) (left : (m : ℕ) → P m → R m) (right : (m : ℕ) → Q m → R m) (split : (m : ℕ) → R m → P m ⊎ Q m) where
+  pick : {S : Type 0} (m : ℕ) → (P m → S) → (Q m → S) → P m ⊎ Q m → S
+  pick m f g (inl p) = f p
+  pick m f g (inr q) = g q
+
+  at_one : (k a b : ℕ) → P a → Q b → (k ≡ a) ⊎ (k ≡ b) → R k
+  at_one k a b p q (inl e) = subst R (sym e) (left a p)
+  at_one k a b p q (inr e) = subst R (sym e) (right b q)
+
+  pub hull_spans : (a b : Option (ℕ × ℕ)) → Spans P a → Spans Q b → Spans R (hull a b)
+  hull_spans None None p q = λ m h. pick m (p m) (q m) (split m h)
+  hull_spans None (Some w) p q = record {
+      first = right w.0 q.first;
+      last = right w.1 q.last;
+      from = λ m h. pick m (λ x. absurd (p m x)) (q.from m) (split m h);
+      up_to = λ m h. pick m (λ x. absurd (p m x)) (q.up_to m) (split m h);
+    }
+  hull_spans (Some v) None p q = record {
+      first = left v.0 p.first;
+      last = left v.1 p.last;
+      from = λ m h. pick m (p.from m) (λ x. absurd (q m x)) (split m h);
+      up_to = λ m h. pick m (p.up_to m) (λ x. absurd (q m x)) (split m h);
+    }
+  hull_spans (Some v) (Some w) p q = record {
+      first = at_one (min v.0 w.0) v.0 w.0 p.first q.first (least_is v.0 w.0);
+      last = at_one (max v.1 w.1) v.1 w.1 p.last q.last (greatest_is v.1 w.1);
+      from = λ m h. pick m (λ x. let l = p.from m x in omega arith) (λ x. let l = q.from m x in omega arith) (split m h);
+      up_to = λ m h. pick m (λ x. let l = p.up_to m x in omega arith) (λ x. let l = q.up_to m x in omega arith) (split m h);
+    }
+
+-- two spans of the same months are one
+pub one_span : (P Q : ℕ → Type 0) → ((m : ℕ) → P m → Q m) → ((m : ℕ) → Q m → P m) → (a b : Option (ℕ × ℕ)) → Spans P a → Spans Q b → a ≡ b
+one_span P Q there back None None p q = refl
+one_span P Q there back None (Some w) p q = absurd (p w.0 (back w.0 q.first))
+one_span P Q there back (Some v) None p q = absurd (q v.0 (there v.0 p.first))
+one_span P Q there back (Some v) (Some w) p q =
+    let a = p.from w.0 (back w.0 q.first) in
+    let b = q.from v.0 (there v.0 p.first) in
+    let c = p.up_to w.1 (back w.1 q.last) in
+    let d = q.up_to v.1 (there v.1 p.last) in
+    let e : v.0 ≡ w.0 = omega arith in
+    let f : v.1 ≡ w.1 = omega arith in
+    ap₂ (λ (x y : ℕ). Some (x, y)) e f
+
+month_is : (k m : ℕ) → eq_by_cmp nat_cmp k m ≡ true → k ≡ m
+month_is k m h = nat_cmp-IsAntisymmetric k m (is_equal _ h)
+
+own_span : (o : Option ℕ) → Spans (λ m. is_month_of m o ≡ true) (month_span o)
+own_span None = λ m h. never h
+own_span (Some k) = record {
+    first = (eq_by_cmp_equiv nat_cmp_total).refl k;
+    last = (eq_by_cmp_equiv nat_cmp_total).refl k;
+    from = λ m h. let e = month_is k m h in omega arith;
+    up_to = λ m h. let e = month_is k m h in omega arith;
+  }
+
+pub list_spans : {X : Type 0} (month : X → Option ℕ) (xs : List X) → Spans (λ m. list_any (λ x. is_month_of m (month x)) xs ≡ true) (span_of month xs)
+list_spans month [] = λ m h. never h
+list_spans month (x ∷ xs) =
+    hull_spans (λ m. is_month_of m (month x) ≡ true) (λ m. list_any (λ x. is_month_of m (month x)) xs ≡ true) (λ m. list_any (λ x. is_month_of m (month x)) (x ∷ xs) ≡ true)
+    (λ m h. or_left _ _ h) (λ m h. or_right _ _ h) (λ m h. or_cases _ _ h) (month_span (month x)) (span_of month xs) (own_span (month x)) (list_spans month xs)
+
+-- ---- a row passes a test where an entry does
+module _ {X : Type 0} (p : X → Bool) where
+  among_any : (q : Text) (es : List (Text × X)) → is_among text_cmp (keys_where p es) q ≡ true → list_any (λ e. p e.1) es ≡ true
+  among_any q [] h = never h
+  among_any q (e ∷ es) h =
+      (elim (p e.1) as (λ b. is_among text_cmp (map (λ e. e.0) (cond b (e ∷ filter (λ e. p e.1) es) (filter (λ e. p e.1) es))) q ≡ true → (b || list_any (λ e. p e.1) es) ≡ true) [ true ↦ λ k. refl | false ↦ λ k. among_any q es k ]) h
+
+  any_among : (es : List (Text × X)) → list_any (λ e. p e.1) es ≡ true → (q : Text) × (is_among text_cmp (keys_where p es) q ≡ true)
+  any_among [] h = never h
+  any_among (e ∷ es) h =
+      (elim (p e.1) as (λ b. (b || list_any (λ e. p e.1) es) ≡ true → (q : Text) × (is_among text_cmp (map (λ e. e.0) (cond b (e ∷ filter (λ e. p e.1) es) (filter (λ e. p e.1) es))) q ≡ true)) [
+        | true ↦ λ k. (e.0, or_left _ _ (itself e.0))
+        | false ↦ λ k. any_among es k
+      ]) h
+
+  pub row_any : (m : Texts X) (q : Text) → some_and p (map.get m q) ≡ true → list_any (λ e. p e.1) (map.entries m) ≡ true
+  row_any m q h = among_any q (map.entries m) (among-keys_where text_total text_same p m q ∙ h)
+
+  pub any_row : (m : Texts X) → list_any (λ e. p e.1) (map.entries m) ≡ true → (q : Text) × (some_and p (map.get m q) ≡ true)
+  any_row m h = let found = any_among (map.entries m) h in (found.0, sym (among-keys_where text_total text_same p m found.0) ∙ found.1)
+
+month_there : (m : ℕ) (o : Option TxRow) → is_month_of m (keys_of o).month ≡ some_and (λ x. is_month_of m (month_of_row x)) o
+month_there m None = refl
+month_there m (Some x) = refl
+
+-- ---- the window
+pub window_is : (index : TxIndex) (named : BTreeSet ℕ) (rows : Rows) → IsIndexed index named rows.txs rows.budgets rows.months → (dates ids : Option (ℕ × ℕ)) → Spans (HasDated index.months) dates → Spans (HasMonth named) ids → hull dates ids ≡ window_of rows
+window_is index named rows is dates ids of_dates of_ids = ap₂ (λ (a b : Option (ℕ × ℕ)). hull a b) by_day by_id
+  where
+    HasDay : ℕ → Type 0
+    HasDay m = list_any (λ e. is_month_of m (month_of_row e.1)) (map.entries rows.txs) ≡ true
+    InBudget : ℕ → Type 0
+    InBudget m = list_any (λ e. is_month_of m (budget_month e.0)) (map.entries rows.budgets) ≡ true
+    InMonth : ℕ → Type 0
+    InMonth m = list_any (λ e. is_month_of m (month_row_month e.0)) (map.entries rows.months) ≡ true
+
+    by_day : dates ≡ span_of (λ e. month_of_row e.1) (map.entries rows.txs)
+    by_day = one_span (HasDated index.months) HasDay
+        (λ m h. row_any (λ x. is_month_of m (month_of_row x)) rows.txs h.0 (sym (month_there m (map.get rows.txs h.0)) ∙ sym (is.txs.months m h.0) ∙ h.1))
+        (λ m h. let found = any_row (λ x. is_month_of m (month_of_row x)) rows.txs h in (found.0, is.txs.months m found.0 ∙ month_there m (map.get rows.txs found.0) ∙ found.1))
+        dates (span_of (λ e. month_of_row e.1) (map.entries rows.txs)) of_dates (list_spans (λ e. month_of_row e.1) (map.entries rows.txs))
+
+    budgets : Option (ℕ × ℕ)
+    budgets = span_of (λ e. budget_month e.0) (map.entries rows.budgets)
+    months : Option (ℕ × ℕ)
+    months = span_of (λ e. month_row_month e.0) (map.entries rows.months)
+
+    by_id : ids ≡ hull budgets months
+    by_id = one_span (HasMonth named) (λ m. has_named rows.budgets rows.months m ≡ true) (λ m h. sym (is.named m) ∙ h) (λ m h. is.named m ∙ h) ids (hull budgets months) of_ids
+        (hull_spans InBudget InMonth (λ m. has_named rows.budgets rows.months m ≡ true) (λ m h. or_left _ _ h) (λ m h. or_right _ _ h) (λ m h. or_cases _ _ h) budgets months
+          (list_spans (λ e. budget_month e.0) (map.entries rows.budgets)) (list_spans (λ e. month_row_month e.0) (map.entries rows.months)))

@@ -1,0 +1,38 @@
+use Rattle.std.proofs.Common.{◌≡◌, Option, Some, None, IsSome, OnOk, cond, Result, Ok, Err, refl, ap, sym, ◌∙◌, rules, subst}
+use Rattle.std.specs.Prelude.{unwrap_or}
+use Rattle.std.specs.FinMap as map
+use Rattle.std.specs.BTreeMap as tree
+use Rattle.std.specs.BTreeMap.{is_at}
+use Rattle.finite_sums.specs.Maps.{text_cmp, map_of}
+use Rattle.finite_sums.proofs.Texts.{get-map_of, map_of-insert}
+use Rattle.book_rows.specs.Tables.{blank_row}
+use Rattle.book_rows.proofs.table.set_row.Goals as goal
+
+pub returns-clause-row : goal.returns-clause-row
+returns-clause-row g c =
+    let t = g.R.Row.table in
+    let rows = c.args.rows.now in
+    let id = c.args.id.now in
+    let e = c.in_ok-insert.ensures in
+    let same = c.get_mut.follows.holds-at-none in
+    let absent : tree.get text_cmp rows id ≡ None = search rules in
+    let old : unwrap_or (map.get (map_of rows) id) (blank_row t id) ≡ blank_row t id = ap (λ o. unwrap_or o (blank_row t id)) (get-map_of rows id ∙ absent) in
+    map_of-insert rows c.insert.new.self c.in_ok-copy-2.field-0 c.set-2.new.self (λ q. e.updates.0 q ∙ ap (λ m. cond (is_at (text_cmp c.in_ok-copy-2.field-0) q) (Some c.set-2.new.self) (tree.get text_cmp m q)) same)
+    ∙ ap (λ k. map.insert (map_of rows) k c.set-2.new.self) c.in_ok-copy-2.ensures
+    ∙ ap (map.insert (map_of rows) id) (c.in_ok-set.ensures ∙ ap (t.set c.args.column c.args.value.now) (c.blank-row.ensures ∙ ap (blank_row t) c.in_ok-copy.ensures ∙ sym old))
+
+on_ok : {A E : Type 0} {P Q : Type 0} (r : Result A E) → (P → Q) → OnOk r P → OnOk r Q
+on_ok (Ok x) f p = f p
+on_ok (Err e) f p = p
+
+pub returns-in-Some-clause-row : goal.returns-in-Some-clause-row
+returns-in-Some-clause-row g c =
+    let t = g.R.Row.table in
+    let rows = c.args.rows.now in
+    let id = c.args.id.now in
+    let h = c.get_mut.follows.holds c.set.new.self in
+    let there : tree.get text_cmp rows id ≡ Some c.in-Some.row.now = search rules in
+    let updates = h.3 (subst IsSome (sym there) refl) in
+    let old : unwrap_or (map.get (map_of rows) id) (blank_row t id) ≡ c.in-Some.row.now = ap (λ o. unwrap_or o (blank_row t id)) (get-map_of rows id ∙ there) in
+    on_ok c.set.result (λ e. map_of-insert rows (c.get_mut.follows.lender c.set.new.self) id c.set.new.self updates.0
+        ∙ ap (map.insert (map_of rows) id) (e ∙ ap (t.set c.args.column c.args.value.now) (sym old))) c.set.ensures

@@ -1,0 +1,10 @@
+pub mod Columns
+pub mod Kinds
+pub mod Tables
+pub mod Rules
+pub mod Rows
+pub mod Live
+pub mod Parts
+pub mod Months
+pub mod Book
+pub mod Spans

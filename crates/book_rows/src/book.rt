@@ -1,0 +1,429 @@
+//! A book: the rows that the fields of messages make.
+ghost use Rattle.std.specs.Prelude.{◌≡◌, ◌+◌, true, false, OnOk, OnErr, IfOk, length, is_some, if◌then◌else◌};
+ghost use Rattle.std.specs.Option.{option_copied};
+ghost use Rattle.std.specs.BTreeSet as set;
+ghost use Rattle.std.specs.FinMap as map;
+ghost use Rattle.field_values.specs.Value.{IsValue};
+ghost use Rattle.book_rows.specs.Rows.{no_rows, with_cell, with_field};
+ghost use Rattle.book_rows.specs.Live.{is_live_tx, is_alive, has_parent};
+ghost use Rattle.book_rows.specs.Months.{month_of_tx, window_of};
+ghost use Rattle.book_rows.specs.Parts.{children_of, account_txs};
+ghost use Rattle.book_rows.specs.Book.{HasSizes, IsIndexed};
+ghost use Rattle.book_rows.specs.Spans.{Spans, HasDated, HasMonth};
+
+use crate::column::{Column, Dataset, column_of, dataset_of};
+use crate::indexes::{Dated, list};
+use crate::months::hull;
+use crate::rows::{
+    AccountRow, BudgetRow, CategoryRow, GroupRow, MonthRow, NoteRow, PayeeRow, Rows, RuleRow,
+    ScheduleRow, TxRow,
+};
+use crate::table::Table;
+use crate::txs::{TxIndex, month_of_row, set_budget, set_month, set_tx};
+use field_values::{Field, Items, NoMemory, Steps, Txt, Value};
+use std::alloc::Global;
+use std::collections::{BTreeMap, BTreeSet};
+use std::marker::Model;
+use std::sync::ledger::Ledger;
+
+/// The rows that the fields of messages make, by dataset and id. A row is there where one of its columns is known, whatever its
+/// value.
+///
+/// A call that answers `NoMemory` and may have changed the book leaves it spent; then nothing but `is_spent` may be asked of it.
+/// What is asked often is found without a walk over all rows: the parts of a transaction, the transactions of an account, and the
+/// first and the last month.
+#[derive(Drop)]
+pub struct Book {
+    alloc: Global,
+    rows: Rows,
+    index: TxIndex,
+    /// The months that ids of budget rows and month rows name.
+    named: BTreeSet<u32>,
+    spent: bool,
+}
+
+impl Model for Book {
+    ghost use Rattle.std.specs.Prelude.{◌≡◌, false};
+    ghost use Rattle.book_rows.specs.Book.{BookState, IsIndexed};
+
+    ghost use Rattle.book_rows.specs.contracts.rows.Rows as all_rows;
+    ghost use Rattle.std.specs.Coded.{codes};
+
+    ghost Value = { BookState };
+
+    ghost coded = { Prim.hlevel (codes, all_rows.the_row.coded) };
+
+    ghost view = { λ b. record { rows = b.rows; spent = b.spent } };
+
+    ghost invariant = { λ b. b.spent ≡ false → IsIndexed b.index b.named b.rows.txs b.rows.budgets b.rows.months };
+}
+
+/// Sets a column of a row.
+fn set_cell(
+    alloc: Global,
+    rows: &mut Rows,
+    index: &mut TxIndex,
+    named: &mut BTreeSet<u32>,
+    dataset: Dataset,
+    id: &Txt,
+    column: Column,
+    value: &Value,
+) -> Result<(), NoMemory>
+    requires indexed { IsIndexed index.old named.old rows.old.txs rows.old.budgets rows.old.months }
+    requires valid { IsValue value.now }
+    ensures rows { OnOk result (rows.new ≡ with_cell dataset id.now column value.now rows.old) }
+    ensures indexed { OnOk result (IsIndexed index.new named.new rows.new.txs rows.new.budgets rows.new.months) }
+{
+    match dataset {
+        Dataset::Transactions => set_tx(alloc, &mut rows.txs, index, id, column, value),
+        Dataset::ZeroBudgets => set_budget(&mut rows.budgets, named, id, column, value),
+        Dataset::ZeroBudgetMonths => set_month(&mut rows.months, named, id, column, value),
+        Dataset::Accounts => rows.accounts.set(id, column, value),
+        Dataset::CategoryGroups => rows.groups.set(id, column, value),
+        Dataset::Categories => rows.categories.set(id, column, value),
+        Dataset::Payees => rows.payees.set(id, column, value),
+        Dataset::Rules => rows.rules.set(id, column, value),
+        Dataset::Schedules => rows.schedules.set(id, column, value),
+        Dataset::Notes => rows.notes.set(id, column, value),
+    }
+}
+
+/// Sets a field, where its dataset and its column are known.
+fn set_field(
+    alloc: Global,
+    rows: &mut Rows,
+    index: &mut TxIndex,
+    named: &mut BTreeSet<u32>,
+    field: &Field,
+    value: &Value,
+) -> Result<(), NoMemory>
+    requires indexed { IsIndexed index.old named.old rows.old.txs rows.old.budgets rows.old.months }
+    requires valid { IsValue value.now }
+    ensures rows { OnOk result (rows.new ≡ with_field rows.old field.now value.now) }
+    ensures indexed { OnOk result (IsIndexed index.new named.new rows.new.txs rows.new.budgets rows.new.months) }
+{
+    let Some(dataset) = dataset_of(field.dataset()) else {
+        return Ok(());
+    };
+    let Some(column) = column_of(field.column()) else {
+        return Ok(());
+    };
+    let id = Txt::from_text(alloc, field.row())?;
+    set_cell(alloc, rows, index, named, dataset, &id, column, value)
+}
+
+/// Counts as many steps.
+fn tick_times<G: Ledger>(n: usize, steps: &mut Steps<G>)
+    ensures { steps.new ≡ steps.old + n }
+{
+    for i in 0..n {
+        let _ = i;
+        steps.tick();
+    }
+}
+
+/// The first and the last month that stand with an id.
+fn dated_span(dated: &Dated) -> Option<(u32, u32)>
+    ensures { Spans (HasDated dated.now) result }
+{
+    match (dated.first(), dated.last()) {
+        (Some(first), Some(last)) => Some((first.0, last.0)),
+        _ => None,
+    }
+}
+
+/// The first and the last of some months.
+fn named_span(named: &BTreeSet<u32>) -> Option<(u32, u32)>
+    ensures { Spans (HasMonth named.now) result }
+{
+    match (named.first(), named.last()) {
+        (Some(first), Some(last)) => Some((*first, *last)),
+        _ => None,
+    }
+}
+
+impl Book {
+    /// A book without rows.
+    pub fn new(alloc: Global) -> Book
+        ensures { result ≡ record { rows = no_rows; spent = false } }
+    {
+        Book {
+            alloc,
+            rows: Rows {
+                accounts: Table::new(alloc),
+                groups: Table::new(alloc),
+                categories: Table::new(alloc),
+                payees: Table::new(alloc),
+                txs: Table::new(alloc),
+                budgets: Table::new(alloc),
+                months: Table::new(alloc),
+                notes: Table::new(alloc),
+                rules: Table::new(alloc),
+                schedules: Table::new(alloc),
+            },
+            index: TxIndex {
+                children: BTreeMap::new(alloc),
+                accounts: BTreeMap::new(alloc),
+                months: BTreeSet::new(alloc),
+            },
+            named: BTreeSet::new(alloc),
+            spent: false,
+        }
+    }
+
+    /// Whether a want of memory has spoilt the book.
+    pub fn is_spent(&self) -> bool
+        ensures { result ≡ self.now.spent }
+    {
+        self.spent
+    }
+
+    /// Gives a field a value. A dataset or a column that a book doesn't know changes nothing.
+    pub fn set(&mut self, field: &Field, value: &Value) -> Result<(), NoMemory>
+        requires live { self.old.spent ≡ false }
+        requires valid { IsValue value.now }
+        ensures rows { OnOk result (self.new.rows ≡ with_field self.old.rows field.now value.now) }
+        ensures kept { OnOk result (self.new.spent ≡ false) }
+        ensures spent { OnErr result (self.new.spent ≡ true) }
+    {
+        self.spent = true;
+        set_field(
+            self.alloc,
+            &mut self.rows,
+            &mut self.index,
+            &mut self.named,
+            field,
+            value,
+        )?;
+        self.spent = false;
+        Ok(())
+    }
+
+    /// The row of an account.
+    pub fn account(&self, id: &Txt) -> Option<&AccountRow>
+        ensures { option_copied result ≡ map.get self.now.rows.accounts id.now }
+    {
+        self.rows.accounts.get(id)
+    }
+
+    /// The row of a group of categories.
+    pub fn group(&self, id: &Txt) -> Option<&GroupRow>
+        ensures { option_copied result ≡ map.get self.now.rows.groups id.now }
+    {
+        self.rows.groups.get(id)
+    }
+
+    /// The row of a category.
+    pub fn category(&self, id: &Txt) -> Option<&CategoryRow>
+        ensures { option_copied result ≡ map.get self.now.rows.categories id.now }
+    {
+        self.rows.categories.get(id)
+    }
+
+    /// The row of a payee.
+    pub fn payee(&self, id: &Txt) -> Option<&PayeeRow>
+        ensures { option_copied result ≡ map.get self.now.rows.payees id.now }
+    {
+        self.rows.payees.get(id)
+    }
+
+    /// The row of a rule.
+    pub fn rule(&self, id: &Txt) -> Option<&RuleRow>
+        ensures { option_copied result ≡ map.get self.now.rows.rules id.now }
+    {
+        self.rows.rules.get(id)
+    }
+
+    /// The row of a schedule.
+    pub fn schedule(&self, id: &Txt) -> Option<&ScheduleRow>
+        ensures { option_copied result ≡ map.get self.now.rows.schedules id.now }
+    {
+        self.rows.schedules.get(id)
+    }
+
+    /// The row of what a category is given in a month.
+    pub fn budget_row(&self, id: &Txt) -> Option<&BudgetRow>
+        ensures { option_copied result ≡ map.get self.now.rows.budgets id.now }
+    {
+        self.rows.budgets.get(id)
+    }
+
+    /// The row of what is held back in a month.
+    pub fn month_row(&self, id: &Txt) -> Option<&MonthRow>
+        ensures { option_copied result ≡ map.get self.now.rows.months id.now }
+    {
+        self.rows.months.get(id)
+    }
+
+    /// The row of a note.
+    pub fn note(&self, id: &Txt) -> Option<&NoteRow>
+        ensures { option_copied result ≡ map.get self.now.rows.notes id.now }
+    {
+        self.rows.notes.get(id)
+    }
+
+    /// The rows of all accounts, by id, dead or alive.
+    pub fn accounts(&self) -> &BTreeMap<Txt, AccountRow>
+        ensures { result.now.entries ≡ map.entries self.now.rows.accounts }
+    {
+        self.rows.accounts.all()
+    }
+
+    /// The rows of all groups of categories, by id, dead or alive.
+    pub fn groups(&self) -> &BTreeMap<Txt, GroupRow>
+        ensures { result.now.entries ≡ map.entries self.now.rows.groups }
+    {
+        self.rows.groups.all()
+    }
+
+    /// The rows of all categories, by id, dead or alive.
+    pub fn categories(&self) -> &BTreeMap<Txt, CategoryRow>
+        ensures { result.now.entries ≡ map.entries self.now.rows.categories }
+    {
+        self.rows.categories.all()
+    }
+
+    /// The rows of all payees, by id, dead or alive.
+    pub fn payees(&self) -> &BTreeMap<Txt, PayeeRow>
+        ensures { result.now.entries ≡ map.entries self.now.rows.payees }
+    {
+        self.rows.payees.all()
+    }
+
+    /// The rows of all rules, by id, dead or alive.
+    pub fn rules(&self) -> &BTreeMap<Txt, RuleRow>
+        ensures { result.now.entries ≡ map.entries self.now.rows.rules }
+    {
+        self.rows.rules.all()
+    }
+
+    /// The rows of all schedules, by id, dead or alive.
+    pub fn schedules(&self) -> &BTreeMap<Txt, ScheduleRow>
+        ensures { result.now.entries ≡ map.entries self.now.rows.schedules }
+    {
+        self.rows.schedules.all()
+    }
+
+    /// The rows of all what categories are given in months, by id, dead or alive.
+    pub fn budget_rows(&self) -> &BTreeMap<Txt, BudgetRow>
+        ensures { result.now.entries ≡ map.entries self.now.rows.budgets }
+    {
+        self.rows.budgets.all()
+    }
+
+    /// The rows of all what is held back in months, by id, dead or alive.
+    pub fn month_rows(&self) -> &BTreeMap<Txt, MonthRow>
+        ensures { result.now.entries ≡ map.entries self.now.rows.months }
+    {
+        self.rows.months.all()
+    }
+
+    /// The rows of all notes, by id, dead or alive.
+    pub fn note_rows(&self) -> &BTreeMap<Txt, NoteRow>
+        ensures { result.now.entries ≡ map.entries self.now.rows.notes }
+    {
+        self.rows.notes.all()
+    }
+
+    /// The row of a transaction. It is one step where it is there.
+    pub fn tx<G: Ledger>(&self, id: &Txt, steps: &mut Steps<G>) -> Option<&TxRow>
+        ensures row { option_copied result ≡ map.get self.now.rows.txs id.now }
+        ensures cost { steps.new ≡ steps.old + (if is_some result then 1 else 0) }
+    {
+        let row = self.rows.txs.get(id);
+        if row.is_some() {
+            steps.tick();
+        }
+        row
+    }
+
+    /// The rows of all transactions, by id, dead or alive. Each is one step.
+    pub fn txs<G: Ledger>(&self, steps: &mut Steps<G>) -> &BTreeMap<Txt, TxRow>
+        ensures rows { result.now.entries ≡ map.entries self.now.rows.txs }
+        ensures cost { steps.new ≡ steps.old + length (map.entries self.now.rows.txs) }
+    {
+        tick_times(self.rows.txs.len(), steps);
+        self.rows.txs.all()
+    }
+
+    /// Whether a transaction is there and was not deleted, nor what it is a part of. It takes no step.
+    pub fn alive(&self, id: &Txt) -> bool
+        ensures { result ≡ is_alive self.now.rows id.now }
+    {
+        match self.rows.txs.get(id) {
+            Some(row) => !row.tombstone && self.has_parent(row),
+            None => false,
+        }
+    }
+
+    /// Whether a transaction is no part of another one, or that one is there and was not deleted.
+    fn has_parent(&self, row: &TxRow) -> bool
+        ensures { result ≡ has_parent self.now.rows row.now }
+    {
+        if !row.is_child {
+            return true;
+        }
+        let Some(id) = &row.parent_id else {
+            return false;
+        };
+        match self.rows.txs.get(id) {
+            Some(parent) => !parent.tombstone,
+            None => false,
+        }
+    }
+
+    /// The month of a transaction, YYYYMM, dead or alive, where it has a day. It takes no step.
+    pub fn month_of(&self, id: &Txt) -> Option<u32>
+        ensures { result ≡ month_of_tx (map.get self.now.rows.txs id.now) }
+    {
+        match self.rows.txs.get(id) {
+            Some(row) => month_of_row(row),
+            None => None,
+        }
+    }
+
+    /// The ids of the parts of a transaction, dead or alive, in order. Each is one step.
+    pub fn children<G: Ledger>(&self, id: &Txt, steps: &mut Steps<G>) -> Result<Items<Txt>, NoMemory>
+        requires live { self.now.spent ≡ false }
+        ensures ids { IfOk result (λ v. v ≡ children_of self.now.rows id.now) }
+        ensures cost { IfOk result (λ v. steps.new ≡ steps.old + length v) }
+    {
+        list(self.alloc, &self.index.children, id, steps)
+    }
+
+    /// The ids of the transactions of an account, dead or alive, in order. Each is one step.
+    pub fn of_account<G: Ledger>(&self, id: &Txt, steps: &mut Steps<G>) -> Result<Items<Txt>, NoMemory>
+        requires live { self.now.spent ≡ false }
+        ensures ids { IfOk result (λ v. v ≡ account_txs self.now.rows id.now) }
+        ensures cost { IfOk result (λ v. steps.new ≡ steps.old + length v) }
+    {
+        list(self.alloc, &self.index.accounts, id, steps)
+    }
+
+    /// The first and the last month, YYYYMM, with a day of a transaction, dead or alive, or in the id of a budget row or of a month
+    /// row. There is none where no row has a month.
+    pub fn window(&self) -> Option<(u32, u32)>
+        requires live { self.now.spent ≡ false }
+        ensures { result ≡ window_of self.now.rows }
+    {
+        hull(dated_span(&self.index.months), named_span(&self.named))
+    }
+
+    /// How many rows there are of each kind, and how great the numbers are that are added up: none is greater than a value may
+    /// hold.
+    pub fn sizes(&self)
+        requires live { self.now.spent ≡ false }
+        ensures { HasSizes self.now.rows }
+    {
+        let _ = self.rows.accounts.len();
+        let _ = self.rows.groups.len();
+        let _ = self.rows.categories.len();
+        let _ = self.rows.payees.len();
+        let _ = self.rows.txs.len();
+        let _ = self.rows.budgets.len();
+        let _ = self.rows.months.len();
+        let _ = self.rows.notes.len();
+        let _ = self.rows.rules.len();
+        let _ = self.rows.schedules.len();
+    }
+}

@@ -1,0 +1,114 @@
+//! The rows of one dataset, by id.
+ghost use Rattle.std.specs.Prelude.{◌≡◌, ◌<◌, ◌^◌, OnOk, unwrap_or, length};
+ghost use Rattle.std.specs.Option.{option_copied};
+ghost use Rattle.std.specs.BTreeMap.{IsOrdered};
+ghost use Rattle.std.specs.FinMap as map;
+ghost use Rattle.finite_sums.specs.Maps.{text_cmp, map_of};
+ghost use Rattle.book_rows.specs.Tables.{Table as TableRules, blank_row, with_column};
+
+use crate::column::Column;
+use crate::kind::Kind;
+use field_values::{NoMemory, Txt, Value};
+use std::alloc::Global;
+use std::collections::BTreeMap;
+use std::marker::Model;
+
+/// A row of some dataset.
+pub(crate) trait Row: Sized + Drop {
+    /// What the dataset's rows are.
+    ghost table: { TableRules Self };
+
+    /// How a column is read, where the dataset has it.
+    fn kind(column: Column) -> Option<Kind>
+        ensures { result ≡ table.kind column };
+
+    /// The row of which no column is known.
+    fn blank(id: Txt) -> Self
+        ensures { result ≡ blank_row table id };
+
+    /// Sets a column.
+    fn set(&mut self, column: Column, value: &Value) -> Result<(), NoMemory>
+        ensures { OnOk result (self.new ≡ table.set column value.now self.old) };
+}
+
+/// Rows by id.
+#[derive(Debug, Drop)]
+pub(crate) struct Table<R> {
+    rows: BTreeMap<Txt, R>,
+}
+
+impl<R> Model for Table<R> {
+    ghost use Rattle.std.specs.BTreeMap.{IsOrdered};
+    ghost use Rattle.finite_sums.specs.Maps.{Texts, text_cmp, map_of};
+    ghost use Rattle.book_rows.specs.Tables.{texts_code};
+
+    ghost Value = { Texts R };
+
+    ghost coded = { texts_code R.code };
+
+    ghost view = { λ t. map_of t.rows };
+
+    ghost invariant = { λ t. IsOrdered text_cmp t.rows };
+}
+
+/// Sets a column of a row, which is made where it is not there.
+fn set_row<R: Row>(
+    rows: &mut BTreeMap<Txt, R>,
+    id: &Txt,
+    column: Column,
+    value: &Value,
+) -> Result<(), NoMemory>
+    ensures row { OnOk result (map_of rows.new ≡ map.insert (map_of rows.old) id.now (R.table.set column value.now (unwrap_or (map.get (map_of rows.old) id.now) (blank_row R.table id.now)))) }
+    ensures ordered { IsOrdered text_cmp rows.new }
+{
+    if let Some(row) = rows.get_mut(id) {
+        return row.set(column, value);
+    }
+    let mut row = R::blank(id.copy()?);
+    row.set(column, value)?;
+    rows.insert(id.copy()?, row)?;
+    Ok(())
+}
+
+impl<R: Row> Table<R> {
+    /// No rows.
+    pub fn new(alloc: Global) -> Table<R>
+        ensures { result ≡ map.empty }
+    {
+        Table {
+            rows: BTreeMap::new(alloc),
+        }
+    }
+
+    /// Sets a column of the row of an id. A column that the dataset doesn't have changes nothing.
+    pub fn set(&mut self, id: &Txt, column: Column, value: &Value) -> Result<(), NoMemory>
+        ensures { OnOk result (self.new ≡ with_column R.table id.now column value.now self.old) }
+    {
+        if R::kind(column).is_none() {
+            return Ok(());
+        }
+        set_row(&mut self.rows, id, column, value)
+    }
+
+    /// The row of an id.
+    pub fn get(&self, id: &Txt) -> Option<&R>
+        ensures { option_copied result ≡ map.get self.now id.now }
+    {
+        self.rows.get(id)
+    }
+
+    /// All rows, by id.
+    pub fn all(&self) -> &BTreeMap<Txt, R>
+        ensures { result.now.entries ≡ map.entries self.now }
+    {
+        &self.rows
+    }
+
+    /// How many rows there are.
+    pub fn len(&self) -> usize
+        ensures count { result ≡ length (map.entries self.now) }
+        ensures small { length (map.entries self.now) < 2 ^ 63 }
+    {
+        self.rows.len()
+    }
+}

@@ -1,0 +1,201 @@
+//! Setting a column of a transaction, and of the rows whose ids name months, with the indexes.
+ghost use Rattle.std.specs.Prelude.{◌≡◌, ℕ, IfOk, OnOk, ◌||◌};
+ghost use Rattle.std.specs.BTreeSet as set;
+ghost use Rattle.std.specs.Ordering.{nat_cmp};
+ghost use Rattle.std.specs.Option.{option_copied};
+ghost use Rattle.finite_sums.specs.Maps.{Texts};
+ghost use Rattle.book_rows.specs.Tables.{with_column};
+ghost use Rattle.book_rows.specs.Rules.{tx_table, budget_table, month_table};
+ghost use Rattle.book_rows.specs.Months.{month_of_row};
+ghost use Rattle.book_rows.specs.Book.{IsTxIndex, HasKeys, MovesKeys, keys_of, parent_of, moves, has_named, is_month_of};
+
+use crate::column::Column;
+use crate::indexes::{Dated, Index, change, change_month};
+use crate::months::{budget_month, month_row_month};
+use crate::rows::{BudgetRow, MonthRow, TxRow};
+use crate::table::{Row, Table};
+use field_values::{NoMemory, Txt, Value};
+use std::alloc::Global;
+use std::collections::BTreeSet;
+
+/// The indexes of transactions.
+#[derive(Debug, Drop)]
+pub(crate) struct TxIndex {
+    /// The parts of each transaction.
+    pub children: Index,
+    /// The transactions of each account.
+    pub accounts: Index,
+    /// The transactions of each month.
+    pub months: Dated,
+}
+
+/// Under which keys a transaction is found.
+#[derive(Debug, Drop)]
+pub(crate) struct Keys {
+    /// The transaction that it is a part of.
+    pub parent: Option<Txt>,
+    /// Its account.
+    pub account: Option<Txt>,
+    /// Its month.
+    pub month: Option<u32>,
+}
+
+/// A copy of a text that may be absent.
+fn copy_of(text: &Option<Txt>) -> Result<Option<Txt>, NoMemory>
+    ensures { IfOk result (λ t. t ≡ text.now) }
+{
+    match text {
+        Some(text) => Ok(Some(text.copy()?)),
+        None => Ok(None),
+    }
+}
+
+/// The month of a transaction.
+pub(crate) fn month_of_row(row: &TxRow) -> Option<u32>
+    ensures { result ≡ month_of_row row.now }
+{
+    match row.date {
+        Some(day) => Some(day / 100),
+        None => None,
+    }
+}
+
+/// The transaction that one is a part of.
+fn parent_of(row: &TxRow) -> Result<Option<Txt>, NoMemory>
+    ensures { IfOk result (λ p. p ≡ parent_of row.now) }
+{
+    if row.is_child {
+        copy_of(&row.parent_id)
+    } else {
+        Ok(None)
+    }
+}
+
+/// Under which keys a transaction is found, if it is there.
+fn keys_of(row: Option<&TxRow>) -> Result<Keys, NoMemory>
+    ensures { IfOk result (λ keys. keys ≡ keys_of (option_copied row.entry)) }
+{
+    match row {
+        None => Ok(Keys {
+            parent: None,
+            account: None,
+            month: None,
+        }),
+        Some(row) => Ok(Keys {
+            parent: parent_of(row)?,
+            account: copy_of(&row.acct)?,
+            month: month_of_row(row),
+        }),
+    }
+}
+
+/// Whether setting this column may move a transaction to other keys.
+fn moves(column: Column) -> bool
+    ensures { result ≡ moves column }
+{
+    match column {
+        Column::Acct | Column::Date | Column::IsChild | Column::ParentId => true,
+        _ => false,
+    }
+}
+
+/// Moves a transaction to other keys.
+fn change_keys(
+    alloc: Global,
+    index: &mut TxIndex,
+    id: &Txt,
+    before: &Keys,
+    after: &Keys,
+) -> Result<(), NoMemory>
+    requires { HasKeys index.old id.now before.now }
+    ensures { OnOk result (MovesKeys index.old index.new id.now after.now) }
+{
+    change(alloc, &mut index.children, id, &before.parent, &after.parent)?;
+    change(alloc, &mut index.accounts, id, &before.account, &after.account)?;
+    change_month(&mut index.months, id, before.month, after.month)
+}
+
+/// Sets a column of a transaction that may move it to other keys.
+fn set_key(
+    alloc: Global,
+    txs: &mut Table<TxRow>,
+    index: &mut TxIndex,
+    id: &Txt,
+    column: Column,
+    value: &Value,
+) -> Result<(), NoMemory>
+    requires { IsTxIndex index.old txs.old }
+    ensures rows { OnOk result (txs.new ≡ with_column tx_table id.now column value.now txs.old) }
+    ensures index { OnOk result (IsTxIndex index.new txs.new) }
+{
+    let before = keys_of(txs.get(id))?;
+    txs.set(id, column, value)?;
+    let after = keys_of(txs.get(id))?;
+    change_keys(alloc, index, id, &before, &after)
+}
+
+/// Sets a column of a transaction.
+pub(crate) fn set_tx(
+    alloc: Global,
+    txs: &mut Table<TxRow>,
+    index: &mut TxIndex,
+    id: &Txt,
+    column: Column,
+    value: &Value,
+) -> Result<(), NoMemory>
+    requires { IsTxIndex index.old txs.old }
+    ensures rows { OnOk result (txs.new ≡ with_column tx_table id.now column value.now txs.old) }
+    ensures index { OnOk result (IsTxIndex index.new txs.new) }
+{
+    if moves(column) {
+        set_key(alloc, txs, index, id, column, value)
+    } else {
+        txs.set(id, column, value)
+    }
+}
+
+/// Notes a month.
+fn note_month(named: &mut BTreeSet<u32>, month: Option<u32>) -> Result<(), NoMemory>
+    ensures { OnOk result ((m : ℕ) → set.contains nat_cmp named.new m ≡ (is_month_of m month || set.contains nat_cmp named.old m)) }
+{
+    if let Some(month) = month {
+        named.insert(month)?;
+    }
+    Ok(())
+}
+
+/// Sets a column of what a category is given in a month.
+pub(crate) fn set_budget(
+    budgets: &mut Table<BudgetRow>,
+    named: &mut BTreeSet<u32>,
+    id: &Txt,
+    column: Column,
+    value: &Value,
+) -> Result<(), NoMemory>
+    ensures rows { OnOk result (budgets.new ≡ with_column budget_table id.now column value.now budgets.old) }
+    ensures named { (months : Texts MonthRow) → ((m : ℕ) → set.contains nat_cmp named.old m ≡ has_named budgets.old months m) → OnOk result ((m : ℕ) → set.contains nat_cmp named.new m ≡ has_named budgets.new months m) }
+{
+    if BudgetRow::kind(column).is_none() {
+        return Ok(());
+    }
+    budgets.set(id, column, value)?;
+    note_month(named, budget_month(id))
+}
+
+/// Sets a column of what is held back in a month.
+pub(crate) fn set_month(
+    months: &mut Table<MonthRow>,
+    named: &mut BTreeSet<u32>,
+    id: &Txt,
+    column: Column,
+    value: &Value,
+) -> Result<(), NoMemory>
+    ensures rows { OnOk result (months.new ≡ with_column month_table id.now column value.now months.old) }
+    ensures named { (budgets : Texts BudgetRow) → ((m : ℕ) → set.contains nat_cmp named.old m ≡ has_named budgets months.old m) → OnOk result ((m : ℕ) → set.contains nat_cmp named.new m ≡ has_named budgets months.new m) }
+{
+    if MonthRow::kind(column).is_none() {
+        return Ok(());
+    }
+    months.set(id, column, value)?;
+    note_month(named, month_row_month(id))
+}
