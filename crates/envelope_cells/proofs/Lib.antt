@@ -3,3 +3,6 @@ pub mod Made
 pub mod Among
 pub mod Others
 pub mod Sheets
+pub mod Lists
+pub mod Exact
+pub mod Rows

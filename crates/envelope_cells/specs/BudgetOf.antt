@@ -2,10 +2,10 @@
 use Rattle.std.specs.Prelude.{ℕ, ◌==◌, Bool, ◌&&◌, ℤ, List, []}
 use Rattle.std.specs.FinMap as map
 use Rattle.finite_sums.specs.Sums.{only_if}
-use Rattle.finite_sums.specs.Maps.{Text, total_of, value_or_zero}
+use Rattle.finite_sums.specs.Maps.{Text, total_of, value_or_zero, some_and}
 use Rattle.book_rows.specs.declared.rows.Rows.{Rows}
 use Rattle.book_rows.specs.declared.rows.TxRow.{TxRow}
-use Rattle.book_rows.specs.Live.{some_and, is_counted, category_of}
+use Rattle.book_rows.specs.Live.{is_counted, category_of}
 use Rattle.book_rows.specs.Parts.{is_text}
 use Rattle.book_rows.specs.Months.{month_of_row}
 use Rattle.envelope_cells.specs.Budget.{Budget}

@@ -1,5 +1,5 @@
 //! The sheet of a month.
-ghost use Rattle.std.specs.Prelude.{◌≡◌, ◌+◌, ◌*◌, ◌≤◌, ◌^◌, ◌+ℤ◌, ◌++◌, ◌∷◌, [], IsTrue, FitsSigned, OnOk, IfOk, length};
+ghost use Rattle.std.specs.Prelude.{◌≡◌, ◌+◌, ◌*◌, ◌≤◌, ◌^◌, ◌+ℤ◌, ◌++◌, ◌∷◌, [], IsTrue, false, FitsSigned, OnOk, IfOk, length};
 ghost use Rattle.std.specs.Int.{w128};
 ghost use Rattle.std.specs.FinMap as map;
 ghost use Rattle.book_rows.specs.Months.{is_month};
@@ -100,7 +100,8 @@ fn push_groups(cells: &mut Vec<Cell>, month: u32, groups: &[GroupParts]) -> Resu
 /// The sheet of a month YYYYMM. It takes one pass over the transactions, whatever cells there are, and then for each live
 /// category a look at what each month says of it.
 pub fn sheet<G: Ledger>(alloc: Global, book: &Book, month: u32, steps: &mut Steps<G>) -> Result<Sheet, NoMemory>
-    requires { IsTrue (is_month month) }
+    requires live { book.now.spent ≡ false }
+    requires month { IsTrue (is_month month) }
     ensures cells { IfOk result (λ sheet. sheet.cells ≡ sheet_of (budget_of book.now.rows) month) }
     ensures money { IfOk result (λ sheet. HasAllMoney sheet.cells book.now.rows month) }
     ensures cost { steps.new ≤ steps.old + 2 * length (map.entries book.now.rows.txs) }

@@ -106,7 +106,8 @@ impl Part {
 
 /// What a leftover hands to the next month of its category.
 fn rolled_over(carries: bool, left: i128) -> i128
-    ensures { result ≡ rolled carries left }
+    ensures value { result ≡ rolled carries left }
+    ensures small { unsigned_abs result ≤ unsigned_abs left }
 {
     if carries || left > 0 { left } else { 0 }
 }
@@ -138,15 +139,26 @@ fn month_of(alloc: Global, book: &Book, sums: &CellValues, id: &Txt, number: u32
     })
 }
 
+/// What a month leaves of a category, with what goes on from the month before.
+fn added(budget: i64, sum: i128, rolled: i128) -> i128
+    requires sum { unsigned_abs sum ≤ 2 ^ 122 }
+    requires rolled { unsigned_abs rolled ≤ 2 ^ 122 }
+    ensures { result ≡ (budget +ℤ sum) +ℤ rolled }
+{
+    i128::from(budget) + sum + rolled
+}
+
 /// One month more.
 fn next(past: Past, month: Month) -> Past
-    requires { unsigned_abs month.sum + unsigned_abs month.budget + unsigned_abs past.left + unsigned_abs past.moved < 2 ^ 126 }
+    requires sum { unsigned_abs month.sum ≤ 2 ^ 122 }
+    requires left { unsigned_abs past.left ≤ 2 ^ 122 }
+    requires moved { unsigned_abs past.moved ≤ 2 ^ 122 }
     ensures left { result.left ≡ (month.budget +ℤ month.sum) +ℤ rolled past.carries past.left }
     ensures carries { result.carries ≡ month.carries }
     ensures moved { result.moved ≡ past.moved +ℤ month.sum }
 {
     Past {
-        left: i128::from(month.budget) + month.sum + rolled_over(past.carries, past.left),
+        left: added(month.budget, month.sum, rolled_over(past.carries, past.left)),
         carries: month.carries,
         moved: past.moved + month.sum,
     }

@@ -1,5 +1,5 @@
 //! The sums of categories, from one pass over the transactions.
-ghost use Rattle.std.specs.Prelude.{◌≡◌, ℕ, ◌+◌, ◌*◌, ◌<◌, ◌≤◌, ◌^◌, ◌+ℤ◌, unsigned_abs, length, OnOk, IfOk};
+ghost use Rattle.std.specs.Prelude.{◌≡◌, ℕ, ◌+◌, ◌*◌, ◌<◌, ◌≤◌, ◌^◌, ◌+ℤ◌, unsigned_abs, length, false, OnOk, IfOk};
 ghost use Rattle.std.specs.FinMap as map;
 ghost use Rattle.finite_sums.specs.Maps.{Text};
 ghost use Rattle.field_values.specs.Value.{HoldsNumber};
@@ -75,6 +75,7 @@ fn add_row<G: Ledger>(sums: &mut CellValues, book: &Book, row: &TxRow, steps: &m
 
 /// The sums of all categories in all months, from one pass over the transactions.
 pub(crate) fn category_sums<G: Ledger>(alloc: Global, book: &Book, steps: &mut Steps<G>) -> Result<CellValues, NoMemory>
+    requires { book.now.spent ≡ false }
     ensures sums { IfOk result (λ sums. AreSums sums book.now.rows) }
     ensures cost { steps.new ≤ steps.old + 2 * length (map.entries book.now.rows.txs) }
 {
