@@ -6,3 +6,5 @@ pub mod Sheets
 pub mod Lists
 pub mod Exact
 pub mod Rows
+pub mod Distinct
+pub mod Bounds
