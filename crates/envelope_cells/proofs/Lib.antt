@@ -8,3 +8,6 @@ pub mod Exact
 pub mod Rows
 pub mod Distinct
 pub mod Bounds
+pub mod Added
+pub mod Parts
+pub mod Past

@@ -75,3 +75,6 @@ total-map f g (x ∷ xs) = ap (λ z. f (g x) +ℤ z) (total-map f g xs)
 pub sum_small : {A : Type 0} (f : A → ℤ) (sum : ℤ) (xs : List A) (i : ℕ) → sum +ℤ total f (drop i xs) ≡ total f xs → unsigned_abs sum ≤ 2 * weight (λ x. unsigned_abs (f x)) xs
 sum_small f sum xs i inv =
     omega (arith, ints, inv, total_within f (λ x. unsigned_abs (f x)) xs (λ x. omega arith), total_within f (λ x. unsigned_abs (f x)) (drop i xs) (λ x. omega arith), weight_rest (λ x. unsigned_abs (f x)) xs i)
+
+pub sum_within : {A : Type 0} (f : A → ℤ) (w : A → ℕ) → ((x : A) → unsigned_abs (f x) ≤ w x) → (sum : ℤ) (xs : List A) (i : ℕ) → sum +ℤ total f (drop i xs) ≡ total f xs → unsigned_abs sum ≤ 2 * weight w xs
+sum_within f w h sum xs i inv = omega (arith, ints, inv, total_within f w xs h, total_within f w (drop i xs) h, weight_rest w xs i)

@@ -37,7 +37,7 @@ leftovers_next b m =
     ∙ ap (λ z. z +ℤ all_left_before b m) (total-plus (λ c. b.budgeted c m) (λ c. b.category_sum c m) (expense b))
 
 -- the categories are those of income and those of expenses
-split : (f : Text → ℤ) (gs : List BudgetGroup) → total f (categories_of gs) ≡ total f (categories_of (filter (λ g. g.is_income) gs)) +ℤ total f (categories_of (filter (λ g. not g.is_income) gs))
+pub split : (f : Text → ℤ) (gs : List BudgetGroup) → total f (categories_of gs) ≡ total f (categories_of (filter (λ g. g.is_income) gs)) +ℤ total f (categories_of (filter (λ g. not g.is_income) gs))
 split f [] = omega (arith, ints)
 split f (g ∷ gs) =
     elim g.is_income as (λ t. total f (g.categories ++ categories_of gs) ≡ total f (categories_of (cond t (g ∷ filter (λ g. g.is_income) gs) (filter (λ g. g.is_income) gs))) +ℤ total f (categories_of (cond (not t) (g ∷ filter (λ g. not g.is_income) gs) (filter (λ g. not g.is_income) gs)))) [

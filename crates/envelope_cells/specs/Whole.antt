@@ -25,6 +25,7 @@ abbrev pub whole_of : List GroupParts → ℤ → Whole
 whole_of gs held = record {
     income = side_total OfSums true gs;
     from_last = from_last gs;
+    available = side_total OfSums true gs +ℤ from_last gs;
     overspent = side_total Taken false gs;
     budgeted = neg_ℤ (side_total OfBudgets false gs);
     buffered = held;
@@ -33,12 +34,16 @@ whole_of gs held = record {
     leftover = side_total OfLeftovers false gs;
   }
 
--- their cells
-abbrev pub whole_cells : ℕ → Whole → List Cell
-whole_cells month w =
-    cell month TotalIncome [] w.income ∷ cell month FromLastMonth [] w.from_last ∷ cell month AvailableFunds [] (w.income +ℤ w.from_last)
-    ∷ cell month LastMonthOverspent [] w.overspent ∷ cell month TotalBudgeted [] w.budgeted ∷ cell month Buffered [] w.buffered
-    ∷ cell month ToBudget [] w.to_budget ∷ cell month TotalSpent [] w.spent ∷ cell month TotalLeftover [] w.leftover ∷ []
+-- their cells, under the id that is none
+abbrev pub funds_cells : ℕ → Text → Whole → List Cell
+funds_cells month id w =
+    cell month TotalIncome id w.income ∷ cell month FromLastMonth id w.from_last ∷ cell month AvailableFunds id w.available
+    ∷ cell month LastMonthOverspent id w.overspent ∷ []
+
+abbrev pub rest_cells : ℕ → Text → Whole → List Cell
+rest_cells month id w =
+    cell month TotalBudgeted id w.budgeted ∷ cell month Buffered id w.buffered ∷ cell month ToBudget id w.to_budget
+    ∷ cell month TotalSpent id w.spent ∷ cell month TotalLeftover id w.leftover ∷ []
 
 -- the cells of a category
 abbrev pub part_cells : ℕ → Bool → Part → List Cell
@@ -60,6 +65,10 @@ own_cells month g =
 abbrev pub all_cells : ℕ → List GroupParts → List Cell
 all_cells month [] = []
 all_cells month (g ∷ gs) = (own_cells month g ++ parts_cells month g.is_income g.parts) ++ all_cells month gs
+
+-- the cells of the whole month, and then those of all groups
+abbrev pub cells_from : ℕ → Whole → List GroupParts → List Cell
+cells_from month w gs = funds_cells month [] w ++ rest_cells month [] w ++ all_cells month gs
 
 -- the value of a cell of the whole month
 abbrev pub whole_value : List Cell → ℕ → CellKind → ℤ

@@ -1,13 +1,13 @@
 //! What a category has in a month.
 ghost use Rattle.std.specs.Prelude.{◌≡◌, ℕ, ◌+◌, ◌<◌, ◌≤◌, ◌^◌, ◌+ℤ◌, pos, false, unsigned_abs, map, IfOk};
-ghost use Rattle.finite_sums.specs.Sums.{total, weight};
+ghost use Rattle.finite_sums.specs.Sums.{total, weight, only_if};
 ghost use Rattle.finite_sums.specs.Maps.{Text};
 ghost use Rattle.envelope_cells.specs.Budget.{categories_of};
 ghost use Rattle.field_values.specs.Value.{HoldsNumber};
 ghost use Rattle.envelope_cells.specs.Cells.{rolled, taken};
 ghost use Rattle.envelope_cells.specs.Ids.{month_at};
 ghost use Rattle.envelope_cells.specs.BudgetOf.{budget_of, category_sum, budgeted, carries, buffered};
-ghost use Rattle.envelope_cells.specs.Parts.{AreSums, IsPast, IsMonth, weight_before, part_of, group_of, picked, part_weight, is_side, side_total, groups_weight};
+ghost use Rattle.envelope_cells.specs.Parts.{AreSums, IsPast, IsMonth, weight_before, part_of, group_of, picked, part_weight, is_side, group_total, side_total, groups_weight};
 
 use crate::groups::BudgetGroup;
 use crate::ids::{budget_id, month_at, month_id};
@@ -224,6 +224,23 @@ fn parts_of(alloc: Global, book: &Book, sums: &CellValues, ids: &[Txt], first: u
     Ok(Items::new(parts))
 }
 
+/// What the categories of a group have in a month.
+fn group_of(alloc: Global, book: &Book, sums: &CellValues, group: &BudgetGroup, first: u32, number: u32) -> Result<GroupParts, NoMemory>
+    requires first { first ≤ number }
+    requires number { number < 2760 }
+    requires sums { AreSums sums.now book.now.rows }
+    requires quiet { (c : Text) → IsPast (budget_of book.now.rows) c first (record { left = pos 0; carries = false; moved = pos 0 }) }
+    requires small { weight (λ c. weight_before (budget_of book.now.rows) c (number + 1)) group.now.categories ≤ 2 ^ 120 }
+    ensures { IfOk result (λ parts. parts ≡ group_of (budget_of book.now.rows) number group.now) }
+{
+    let parts = parts_of(alloc, book, sums, group.categories.as_slice(), first, number)?;
+    Ok(GroupParts {
+        id: group.id.copy()?,
+        is_income: group.is_income,
+        parts,
+    })
+}
+
 /// What the categories of all groups have in a month.
 pub(crate) fn groups_parts(alloc: Global, book: &Book, sums: &CellValues, groups: &[BudgetGroup], first: u32, number: u32) -> Result<Items<GroupParts>, NoMemory>
     requires first { first ≤ number }
@@ -235,11 +252,7 @@ pub(crate) fn groups_parts(alloc: Global, book: &Book, sums: &CellValues, groups
 {
     let mut all = Vec::new(alloc);
     for group in groups {
-        all.push(GroupParts {
-            id: group.id.copy()?,
-            is_income: group.is_income,
-            parts: parts_of(alloc, book, sums, group.categories.as_slice(), first, number)?,
-        })?;
+        all.push(group_of(alloc, book, sums, group, first, number)?)?;
     }
     Ok(Items::new(all))
 }
@@ -263,16 +276,26 @@ fn is_side(income: bool, group: &GroupParts) -> bool
     if income { group.is_income } else { !group.is_income }
 }
 
+/// One of the amounts of a group, where it is on the side that is asked for, or else 0.
+fn group_part(group: &GroupParts, pick: Pick, income: bool) -> i128
+    requires { weight (part_weight pick) group.now.parts ≤ 2 ^ 120 }
+    ensures { result ≡ only_if (is_side income group.now) (group_total pick group.now) }
+{
+    if !is_side(income, group) {
+        return 0;
+    }
+    total_of(group.parts.as_slice(), pick)
+}
+
 /// One of the amounts, added up over all groups that take income, or over all others.
 pub(crate) fn total_of_side(groups: &[GroupParts], pick: Pick, income: bool) -> i128
     requires { groups_weight pick groups.now ≤ 2 ^ 120 }
-    ensures { result ≡ side_total pick income groups.now }
+    ensures value { result ≡ side_total pick income groups.now }
+    ensures small { unsigned_abs result ≤ 2 ^ 120 }
 {
     let mut sum = 0i128;
     for group in groups {
-        if is_side(income, group) {
-            sum += total_of(group.parts.as_slice(), pick);
-        }
+        sum += group_part(group, pick, income);
     }
     sum
 }

@@ -1,0 +1,24 @@
+use Rattle.std.proofs.Common.{◌≡◌, ◌++◌, ℕ, ap, sym, ◌∙◌}
+use Rattle.envelope_cells.specs.BudgetOf.{budget_of, groups_of}
+use Rattle.envelope_cells.specs.SheetOf.{sheet_of, month_cells, groups_cells}
+use Rattle.envelope_cells.proofs.Parts.{made, has_all_money}
+use Rattle.envelope_cells.proofs.month_sheet.sheet.Goals as goal
+
+pub returns-clause-cells : goal.returns-clause-cells
+returns-clause-cells g c =
+    let r = c.args.book.now.rows in
+    let b = budget_of r in
+    let month = c.args.month in
+    c.in_ok-cells.ensures
+    ∙ made b month c.month_number-number.result c.as_slice.result.now (c.as_slice.ensures ∙ c.in_ok-parts.ensures.parts) c.in_ok-held.held c.in_ok-held.ensures
+    ∙ ap (λ m. month_cells b month m ++ groups_cells b month m (groups_of r)) c.month_number-number.ensures.number
+
+pub returns-clause-money : goal.returns-clause-money
+returns-clause-money g c =
+    let r = c.args.book.now.rows in
+    let b = budget_of r in
+    let month = c.args.month in
+    has_all_money r month c.in_ok-cells.cells
+    (c.in_ok-cells.ensures
+    ∙ made b month c.month_number-number.result c.as_slice.result.now (c.as_slice.ensures ∙ c.in_ok-parts.ensures.parts) c.in_ok-held.held c.in_ok-held.ensures
+    ∙ ap (λ m. month_cells b month m ++ groups_cells b month m (groups_of r)) c.month_number-number.ensures.number)
