@@ -1,5 +1,5 @@
 -- Loops over lists: what is done, and what the elements that are left still add.
-use Rattle.std.proofs.Common.{◌≡◌, ℕ, ◌+◌, ◌<◌, ◌≤◌, ◌*◌, List, [], ◌∷◌, ◌++◌, length, drop, get_or, zero, suc, refl, ap, sym, ◌∙◌, subst, arith, add-one, append_assoc, unsigned_abs, map}
+use Rattle.std.proofs.Common.{◌≡◌, ℕ, ◌+◌, ◌<◌, ◌≤◌, ◌*◌, List, [], ◌∷◌, ◌++◌, length, drop, get_or, zero, suc, refl, ap, sym, ◌∙◌, subst, arith, add-one, append_assoc, unsigned_abs, map, Result, Ok, Err, OnOk}
 use lib.IntN.{ℤ, pos, ◌+ℤ◌}
 use Rattle.std.proofs.lemmas.Int.{ints}
 use Rattle.finite_sums.specs.Sums.{total, weight}
@@ -78,3 +78,21 @@ sum_small f sum xs i inv =
 
 pub sum_within : {A : Type 0} (f : A → ℤ) (w : A → ℕ) → ((x : A) → unsigned_abs (f x) ≤ w x) → (sum : ℤ) (xs : List A) (i : ℕ) → sum +ℤ total f (drop i xs) ≡ total f xs → unsigned_abs sum ≤ 2 * weight w xs
 sum_within f w h sum xs i inv = omega (arith, ints, inv, total_within f w xs h, total_within f w (drop i xs) h, weight_rest w xs i)
+
+-- several elements, one after the other
+ahead : {X : Type 0} (xs : List X) (a : X) (ys : List X) → (xs ++ a ∷ []) ++ ys ≡ xs ++ a ∷ ys
+ahead xs a ys = append_assoc xs (a ∷ []) ys
+
+pub four_more : {X : Type 0} (x0 x1 x2 x3 x4 : List X) (a b c d : X) → x1 ≡ x0 ++ a ∷ [] → x2 ≡ x1 ++ b ∷ [] → x3 ≡ x2 ++ c ∷ [] → x4 ≡ x3 ++ d ∷ [] → x4 ≡ x0 ++ a ∷ b ∷ c ∷ d ∷ []
+four_more x0 x1 x2 x3 x4 a b c d p q r s =
+    s ∙ ap (λ xs. xs ++ d ∷ []) r ∙ ahead x2 c (d ∷ [])
+    ∙ ap (λ xs. xs ++ c ∷ d ∷ []) q ∙ ahead x1 b (c ∷ d ∷ [])
+    ∙ ap (λ xs. xs ++ b ∷ c ∷ d ∷ []) p ∙ ahead x0 a (b ∷ c ∷ d ∷ [])
+
+pub five_more : {X : Type 0} (x0 x1 x2 x3 x4 x5 : List X) (a b c d e : X) → x1 ≡ x0 ++ a ∷ [] → x2 ≡ x1 ++ b ∷ [] → x3 ≡ x2 ++ c ∷ [] → x4 ≡ x3 ++ d ∷ [] → x5 ≡ x4 ++ e ∷ [] → x5 ≡ x0 ++ a ∷ b ∷ c ∷ d ∷ e ∷ []
+five_more x0 x1 x2 x3 x4 x5 a b c d e p q r s t =
+    t ∙ ap (λ xs. xs ++ e ∷ []) (four_more x0 x1 x2 x3 x4 a b c d p q r s) ∙ append_assoc x0 (a ∷ b ∷ c ∷ d ∷ []) (e ∷ [])
+
+pub where_ok : {T E : Type 0} {P Q : Type 0} (r : Result T E) → (P → Q) → OnOk r P → OnOk r Q
+where_ok (Ok x) f h = f h
+where_ok (Err e) f h = h

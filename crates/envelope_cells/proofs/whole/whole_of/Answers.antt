@@ -1,6 +1,6 @@
 use Rattle.std.proofs.Common.{◌≡◌, rules, to_z, of_z, true, false, pos, ◌+ℤ◌, ◌-ℤ◌, ap, ◌∙◌}
 use lib.IntN.{neg_ℤ}
-use mir.Syntax.{w128}
+use mir.Syntax.{w64, w128}
 use mir.Val.{SFits}
 use Rattle.std.proofs.lemmas.Int.{to_z-of_z}
 use Rattle.envelope_cells.specs.Parts.{side_total}
@@ -21,13 +21,14 @@ returns c =
     let f8 : SFits w128 c.to_budget-left.result = search rules in
     let f9 : SFits w128 c.total_of_side-spent.result = search rules in
     let f10 : SFits w128 c.total_of_side-leftover.result = search rules in
+    let f11 : SFits w64 c.args.held = search rules in
     let income : to_z w128 (of_z w128 c.total_of_side-income.result) ≡ side_total Sum true gs = to_z-of_z w128 c.total_of_side-income.result f1 ∙ c.total_of_side-income.ensures.value in
     let past : to_z w128 (of_z w128 c.from_last-past.result) ≡ from_last gs = to_z-of_z w128 c.from_last-past.result f2 ∙ c.from_last-past.ensures.value in
     let funds : to_z w128 (of_z w128 c.available-funds.result) ≡ side_total Sum true gs +ℤ from_last gs = to_z-of_z w128 c.available-funds.result f3 ∙ c.available-funds.ensures.value ∙ (λ i. income i +ℤ past i) in
     let overspent : to_z w128 (of_z w128 c.total_of_side-overspent.result) ≡ side_total Taken false gs = to_z-of_z w128 c.total_of_side-overspent.result f4 ∙ c.total_of_side-overspent.ensures.value in
     let budgets : to_z w128 (of_z w128 c.total_of_side-budgets.result) ≡ side_total OfBudget false gs = to_z-of_z w128 c.total_of_side-budgets.result f5 ∙ c.total_of_side-budgets.ensures.value in
     let budgeted : to_z w128 (of_z w128 c.given-budgeted.result) ≡ neg_ℤ (side_total OfBudget false gs) = to_z-of_z w128 c.given-budgeted.result f6 ∙ c.given-budgeted.ensures.value ∙ ap neg_ℤ budgets in
-    let buffered : to_z w128 (of_z w128 c.widened-buffered.result) ≡ c.args.held = to_z-of_z w128 c.widened-buffered.result f7 ∙ c.widened-buffered.ensures.value in
+    let buffered : to_z w128 (of_z w128 c.widened-buffered.result) ≡ c.args.held = to_z-of_z w128 c.widened-buffered.result f7 ∙ c.widened-buffered.ensures.value ∙ to_z-of_z w64 c.args.held f11 in
     let left : to_z w128 (of_z w128 c.to_budget-left.result) ≡ (((side_total Sum true gs +ℤ from_last gs) +ℤ side_total Taken false gs) +ℤ neg_ℤ (side_total OfBudget false gs)) -ℤ c.args.held =
       to_z-of_z w128 c.to_budget-left.result f8 ∙ c.to_budget-left.ensures ∙ (λ i. ((funds i +ℤ overspent i) +ℤ budgeted i) -ℤ buffered i) in
     let spent : to_z w128 (of_z w128 c.total_of_side-spent.result) ≡ side_total Sum false gs = to_z-of_z w128 c.total_of_side-spent.result f9 ∙ c.total_of_side-spent.ensures.value in
