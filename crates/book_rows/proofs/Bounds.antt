@@ -168,4 +168,3 @@ budget_bounded xs bs ms new id column value v h set_one = record { txs = h.txs; 
 
 pub month_bounded : (xs : Texts TxRow) (bs : Texts BudgetRow) (ms : Texts MonthRow) (new : Texts MonthRow) (id : Text) (column : Column) (value : Value) → IsValue value → AreBounded xs bs ms → new ≡ with_column month_table id column value ms → AreBounded xs bs new
 month_bounded xs bs ms new id column value v h set_one = record { txs = h.txs; budgets = h.budgets; months = bounded month_table (λ x. x.buffered) id column value ms new h.months set_one (month_step column value v) (held Null tt) }
-

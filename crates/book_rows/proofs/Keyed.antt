@@ -38,6 +38,7 @@ module _ {Row : Type 0} (table : Table Row) (id : Text) (column : Column) (value
       own : (b : Bool) → f (map.get (if b then map.insert rows id row_after else rows) id) ≡ f (map.get rows id)
       own true = ap f (map.get-insert text_total rows id row_after id ∙ ap (λ b. cond b (Some row_after) (map.get rows id)) (itself id)) ∙ same
       own false = refl
+
       by : (b : Bool) → eq_by_cmp text_cmp q id ≡ b → f (map.get (with_column table id column value rows) q) ≡ f (map.get rows q)
       by false h = ap f (others_stay q h)
       by true h = let at : q ≡ id = text_same q id (is_equal _ h) in
@@ -114,7 +115,7 @@ module _ (xs ys : Texts TxRow) (id : Text) (column : Column) (value : Value) (se
 
 pub keyed : (old new : TxIndex) (xs ys : Texts TxRow) (id : Text) (column : Column) (value : Value) → IsTxIndex old xs → ys ≡ with_column tx_table id column value xs → MovesKeys old new id (keys_of (map.get ys id)) → IsTxIndex new ys
 keyed old new xs ys id column value is set_one moved = record {
-    children = one xs ys id column value set_one (holds old.children) (holds new.children) (λ k keys. is_text k keys.parent) is.children moved.children;
-    accounts = one xs ys id column value set_one (holds old.accounts) (holds new.accounts) (λ k keys. is_text k keys.account) is.accounts moved.accounts;
-    months = one xs ys id column value set_one (λ m q. set.contains dated_cmp old.months (m, q)) (λ m q. set.contains dated_cmp new.months (m, q)) (λ m keys. is_month_of m keys.month) is.months moved.months;
-  }
+  children = one xs ys id column value set_one (holds old.children) (holds new.children) (λ k keys. is_text k keys.parent) is.children moved.children;
+  accounts = one xs ys id column value set_one (holds old.accounts) (holds new.accounts) (λ k keys. is_text k keys.account) is.accounts moved.accounts;
+  months = one xs ys id column value set_one (λ m q. set.contains dated_cmp old.months (m, q)) (λ m q. set.contains dated_cmp new.months (m, q)) (λ m keys. is_month_of m keys.month) is.months moved.months;
+}

@@ -6,3 +6,6 @@ pub mod Bounds
 pub mod Lists
 pub mod Spans
 pub mod Empty
+pub mod Naming
+pub mod RowFields
+pub mod Following

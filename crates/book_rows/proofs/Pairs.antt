@@ -44,6 +44,7 @@ absent_pair m key id none k q = by (eq_by_cmp text_cmp key k) refl
     either : (e : Bool) (x : Bool) → x ≡ false → x ≡ cond e false x
     either true x h = h
     either false x h = refl
+
     by : (e : Bool) → eq_by_cmp text_cmp key k ≡ e → holds m k q ≡ cond (e && eq_by_cmp text_cmp id q) false (holds m k q)
     by false h = refl
     by true h = either (eq_by_cmp text_cmp id q) (holds m k q) (ap (λ j. holds m j q) (sym (text_same key k (is_equal _ h))) ∙ ap (λ o. has_id o q) none)

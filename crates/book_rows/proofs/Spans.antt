@@ -7,13 +7,16 @@ use Rattle.std.specs.List.{filter, list_any}
 use Rattle.std.specs.BTreeSet as set
 use Rattle.std.specs.BTreeSet.{BTreeSet}
 use Rattle.std.specs.FinMap as map
-use Rattle.std.specs.FinMap.{nat_cmp-IsAntisymmetric}
+use Rattle.std.specs.FinMap.{nat_cmp-IsAntisymmetric, find}
 use Rattle.finite_sums.specs.Maps.{Text, Texts, text_cmp, some_and, keys_where, is_among}
 use Rattle.finite_sums.proofs.Texts.{text_total, text_same}
 use Rattle.finite_sums.proofs.MapSums.{among-keys_where}
 use Rattle.book_rows.specs.declared.rows.Rows.{Rows}
 use Rattle.book_rows.specs.declared.rows.TxRow.{TxRow}
 use Rattle.book_rows.specs.declared.txs.TxIndex.{TxIndex}
+use Rattle.book_rows.specs.declared.rows.BudgetRow.{BudgetRow}
+use Rattle.book_rows.specs.declared.rows.MonthRow.{MonthRow}
+use Rattle.book_rows.specs.Laws.{HasRowIn, WindowsSpan}
 use Rattle.book_rows.specs.Months.{month_of_row, budget_month, month_row_month, hull, month_span, span_of, window_of}
 use Rattle.book_rows.specs.Book.{IsTxIndex, IsIndexed, keys_of, is_month_of, has_named, dated_cmp}
 use Rattle.book_rows.specs.Spans.{IsSpan, Spans, HasDated, HasMonth}
@@ -57,23 +60,23 @@ module _ (P Q R : ℕ → Type 0) (left : (m : ℕ) → P m → R m) (right : (m
   pub hull_spans : (a b : Option (ℕ × ℕ)) → Spans P a → Spans Q b → Spans R (hull a b)
   hull_spans None None p q = λ m h. pick m (p m) (q m) (split m h)
   hull_spans None (Some w) p q = record {
-      first = right w.0 q.first;
-      last = right w.1 q.last;
-      from = λ m h. pick m (λ x. absurd (p m x)) (q.from m) (split m h);
-      up_to = λ m h. pick m (λ x. absurd (p m x)) (q.up_to m) (split m h);
-    }
+    first = right w.0 q.first;
+    last = right w.1 q.last;
+    from = λ m h. pick m (λ x. absurd (p m x)) (q.from m) (split m h);
+    up_to = λ m h. pick m (λ x. absurd (p m x)) (q.up_to m) (split m h);
+  }
   hull_spans (Some v) None p q = record {
-      first = left v.0 p.first;
-      last = left v.1 p.last;
-      from = λ m h. pick m (p.from m) (λ x. absurd (q m x)) (split m h);
-      up_to = λ m h. pick m (p.up_to m) (λ x. absurd (q m x)) (split m h);
-    }
+    first = left v.0 p.first;
+    last = left v.1 p.last;
+    from = λ m h. pick m (p.from m) (λ x. absurd (q m x)) (split m h);
+    up_to = λ m h. pick m (p.up_to m) (λ x. absurd (q m x)) (split m h);
+  }
   hull_spans (Some v) (Some w) p q = record {
-      first = at_one (min v.0 w.0) v.0 w.0 p.first q.first (least_is v.0 w.0);
-      last = at_one (max v.1 w.1) v.1 w.1 p.last q.last (greatest_is v.1 w.1);
-      from = λ m h. pick m (λ x. let l = p.from m x in omega arith) (λ x. let l = q.from m x in omega arith) (split m h);
-      up_to = λ m h. pick m (λ x. let l = p.up_to m x in omega arith) (λ x. let l = q.up_to m x in omega arith) (split m h);
-    }
+    first = at_one (min v.0 w.0) v.0 w.0 p.first q.first (least_is v.0 w.0);
+    last = at_one (max v.1 w.1) v.1 w.1 p.last q.last (greatest_is v.1 w.1);
+    from = λ m h. pick m (λ x. let l = p.from m x in omega arith) (λ x. let l = q.from m x in omega arith) (split m h);
+    up_to = λ m h. pick m (λ x. let l = p.up_to m x in omega arith) (λ x. let l = q.up_to m x in omega arith) (split m h);
+  }
 
 -- two spans of the same months are one
 pub one_span : (P Q : ℕ → Type 0) → ((m : ℕ) → P m → Q m) → ((m : ℕ) → Q m → P m) → (a b : Option (ℕ × ℕ)) → Spans P a → Spans Q b → a ≡ b
@@ -95,11 +98,11 @@ month_is k m h = nat_cmp-IsAntisymmetric k m (is_equal _ h)
 own_span : (o : Option ℕ) → Spans (λ m. is_month_of m o ≡ true) (month_span o)
 own_span None = λ m h. never h
 own_span (Some k) = record {
-    first = (eq_by_cmp_equiv nat_cmp_total).refl k;
-    last = (eq_by_cmp_equiv nat_cmp_total).refl k;
-    from = λ m h. let e = month_is k m h in omega arith;
-    up_to = λ m h. let e = month_is k m h in omega arith;
-  }
+  first = (eq_by_cmp_equiv nat_cmp_total).refl k;
+  last = (eq_by_cmp_equiv nat_cmp_total).refl k;
+  from = λ m h. let e = month_is k m h in omega arith;
+  up_to = λ m h. let e = month_is k m h in omega arith;
+}
 
 pub list_spans : {X : Type 0} (month : X → Option ℕ) (xs : List X) → Spans (λ m. list_any (λ x. is_month_of m (month x)) xs ≡ true) (span_of month xs)
 list_spans month [] = λ m h. never h
@@ -138,8 +141,10 @@ window_is index named rows is dates ids of_dates of_ids = ap₂ (λ (a b : Optio
   where
     HasDay : ℕ → Type 0
     HasDay m = list_any (λ e. is_month_of m (month_of_row e.1)) (map.entries rows.txs) ≡ true
+
     InBudget : ℕ → Type 0
     InBudget m = list_any (λ e. is_month_of m (budget_month e.0)) (map.entries rows.budgets) ≡ true
+
     InMonth : ℕ → Type 0
     InMonth m = list_any (λ e. is_month_of m (month_row_month e.0)) (map.entries rows.months) ≡ true
 
@@ -151,10 +156,82 @@ window_is index named rows is dates ids of_dates of_ids = ap₂ (λ (a b : Optio
 
     budgets : Option (ℕ × ℕ)
     budgets = span_of (λ e. budget_month e.0) (map.entries rows.budgets)
+
     months : Option (ℕ × ℕ)
     months = span_of (λ e. month_row_month e.0) (map.entries rows.months)
 
     by_id : ids ≡ hull budgets months
     by_id = one_span (HasMonth named) (λ m. has_named rows.budgets rows.months m ≡ true) (λ m h. sym (is.named m) ∙ h) (λ m h. is.named m ∙ h) ids (hull budgets months) of_ids
         (hull_spans InBudget InMonth (λ m. has_named rows.budgets rows.months m ≡ true) (λ m h. or_left _ _ h) (λ m h. or_right _ _ h) (λ m h. or_cases _ _ h) budgets months
-          (list_spans (λ e. budget_month e.0) (map.entries rows.budgets)) (list_spans (λ e. month_row_month e.0) (map.entries rows.months)))
+        (list_spans (λ e. budget_month e.0) (map.entries rows.budgets)) (list_spans (λ e. month_row_month e.0) (map.entries rows.months)))
+
+-- ---- the window in the words of rows
+some_there : {X : Type 0} (p : X → Bool) (o : Option X) → some_and p o ≡ true → (x : X) × ((o ≡ Some x) × (p x ≡ true))
+some_there p None h = never h
+some_there p (Some x) h = (x, (refl, h))
+
+there_some : {X : Type 0} (p : X → Bool) (o : Option X) (x : X) → o ≡ Some x → p x ≡ true → some_and p o ≡ true
+there_some p o x h k = ap (some_and p) h ∙ k
+
+month_told : (m : ℕ) (o : Option ℕ) → is_month_of m o ≡ true → o ≡ Some m
+month_told m None h = never h
+month_told m (Some k) h = ap Some (month_is k m h)
+
+month_tells : (m : ℕ) (o : Option ℕ) → o ≡ Some m → is_month_of m o ≡ true
+month_tells m o h = ap (is_month_of m) h ∙ (eq_by_cmp_equiv nat_cmp_total).refl m
+
+-- an entry whose key passes
+module _ {X : Type 0} (p : Text → Bool) where
+  key_at : (q : Text) (x : X) (e : Text × X) (es : List (Text × X)) (b : Bool) → eq_by_cmp text_cmp q e.0 ≡ b → p q ≡ true → (find text_cmp q es ≡ Some x → list_any (λ e. p e.0) es ≡ true) → cond b (Some e.1) (find text_cmp q es) ≡ Some x → (p e.0 || list_any (λ e. p e.0) es) ≡ true
+  key_at q x e es true t k more h = or_left _ _ (ap p (sym (text_same q e.0 (is_equal _ t))) ∙ k)
+  key_at q x e es false t k more h = or_right _ _ (more h)
+
+  key_any : (q : Text) (x : X) (es : List (Text × X)) → find text_cmp q es ≡ Some x → p q ≡ true → list_any (λ e. p e.0) es ≡ true
+  key_any q x [] h k = absurd (cc)
+  key_any q x (e ∷ es) h k = key_at q x e es (eq_by_cmp text_cmp q e.0) refl k (λ g. key_any q x es g k) h
+
+  abbrev Found : List (Text × X) → Type 0
+  Found es = (q : Text) × ((x : X) × ((find text_cmp q es ≡ Some x) × (p q ≡ true)))
+
+  found_at : (q : Text) (x : X) (e : Text × X) (es : List (Text × X)) (b : Bool) → eq_by_cmp text_cmp q e.0 ≡ b → find text_cmp q es ≡ Some x → p q ≡ true → Found (e ∷ es)
+  found_at q x e es true t h k = (q, (e.1, (ap (λ b. cond b (Some e.1) (find text_cmp q es)) t, k)))
+  found_at q x e es false t h k = (q, (x, (ap (λ b. cond b (Some e.1) (find text_cmp q es)) t ∙ h, k)))
+
+  found_by : (e : Text × X) (es : List (Text × X)) (b : Bool) → p e.0 ≡ b → (list_any (λ e. p e.0) es ≡ true → Found es) → (b || list_any (λ e. p e.0) es) ≡ true → Found (e ∷ es)
+  found_by e es true t more h = (e.0, (e.1, (ap (λ b. cond b (Some e.1) (find text_cmp e.0 es)) (itself e.0), t)))
+  found_by e es false t more h = let f = more h in found_at f.0 f.1.0 e es (eq_by_cmp text_cmp f.0 e.0) refl f.1.1.0 f.1.1.1
+
+  any_key : (es : List (Text × X)) → list_any (λ e. p e.0) es ≡ true → Found es
+  any_key [] h = never h
+  any_key (e ∷ es) h = found_by e es (p e.0) refl (any_key es) h
+
+abbrev HasBudgetIn : Rows → ℕ → Type 0
+HasBudgetIn rows m = (id : Text) × (b : BudgetRow) × (map.get rows.budgets id ≡ Some b) × (budget_month id ≡ Some m)
+
+abbrev HasMonthIn : Rows → ℕ → Type 0
+HasMonthIn rows m = (id : Text) × (b : MonthRow) × (map.get rows.months id ≡ Some b) × (month_row_month id ≡ Some m)
+
+abbrev HasTxIn : Rows → ℕ → Type 0
+HasTxIn rows m = (id : Text) × (x : TxRow) × (map.get rows.txs id ≡ Some x) × (month_of_row x ≡ Some m)
+
+-- the same span, of what is told in other words
+pub respan : (P Q : ℕ → Type 0) → ((m : ℕ) → P m → Q m) → ((m : ℕ) → Q m → P m) → (o : Option (ℕ × ℕ)) → Spans P o → Spans Q o
+respan P Q there back None p = λ m h. p m (back m h)
+respan P Q there back (Some v) p = record { first = there v.0 p.first; last = there v.1 p.last; from = λ m h. p.from m (back m h); up_to = λ m h. p.up_to m (back m h) }
+
+pub windows_span_lem : WindowsSpan
+windows_span_lem rows =
+    hull_spans (HasTxIn rows) (λ m. HasBudgetIn rows m ⊎ HasMonthIn rows m) (HasRowIn rows) (λ m h. inl h) (λ m h. inr h) (λ m h. h) _ _
+    (respan _ (HasTxIn rows)
+    (λ m h. let found = any_row (λ x. is_month_of m (month_of_row x)) rows.txs h in let row = some_there _ _ found.1 in (found.0, row.0, row.1.0, month_told m _ row.1.1))
+    (λ m h. row_any (λ x. is_month_of m (month_of_row x)) rows.txs h.0 (there_some _ _ h.1 h.2 (month_tells m _ h.3)))
+    _ (list_spans (λ e. month_of_row e.1) (map.entries rows.txs)))
+    (hull_spans (HasBudgetIn rows) (HasMonthIn rows) (λ m. HasBudgetIn rows m ⊎ HasMonthIn rows m) (λ m h. inl h) (λ m h. inr h) (λ m h. h) _ _
+    (respan _ (HasBudgetIn rows)
+    (λ m h. let found = any_key (λ id. is_month_of m (budget_month id)) (map.entries rows.budgets) h in (found.0, found.1.0, map.get-entries rows.budgets found.0 ∙ found.1.1.0, month_told m _ found.1.1.1))
+    (λ m h. key_any (λ id. is_month_of m (budget_month id)) h.0 h.1 (map.entries rows.budgets) (sym (map.get-entries rows.budgets h.0) ∙ h.2) (month_tells m _ h.3))
+    _ (list_spans (λ e. budget_month e.0) (map.entries rows.budgets)))
+    (respan _ (HasMonthIn rows)
+    (λ m h. let found = any_key (λ id. is_month_of m (month_row_month id)) (map.entries rows.months) h in (found.0, found.1.0, map.get-entries rows.months found.0 ∙ found.1.1.0, month_told m _ found.1.1.1))
+    (λ m h. key_any (λ id. is_month_of m (month_row_month id)) h.0 h.1 (map.entries rows.months) (sym (map.get-entries rows.months h.0) ∙ h.2) (month_tells m _ h.3))
+    _ (list_spans (λ e. month_row_month e.0) (map.entries rows.months))))

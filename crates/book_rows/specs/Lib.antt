@@ -8,3 +8,4 @@ pub mod Parts
 pub mod Months
 pub mod Book
 pub mod Spans
+pub mod Laws

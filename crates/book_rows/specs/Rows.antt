@@ -41,17 +41,17 @@ pub record AreRowsOf (values : Values) (rows : Rows) : Type 0 where
 -- no rows at all
 abbrev pub no_rows : Rows
 no_rows = record {
-    accounts = map.empty;
-    groups = map.empty;
-    categories = map.empty;
-    payees = map.empty;
-    txs = map.empty;
-    budgets = map.empty;
-    months = map.empty;
-    notes = map.empty;
-    rules = map.empty;
-    schedules = map.empty;
-  }
+  accounts = map.empty;
+  groups = map.empty;
+  categories = map.empty;
+  payees = map.empty;
+  txs = map.empty;
+  budgets = map.empty;
+  months = map.empty;
+  notes = map.empty;
+  rules = map.empty;
+  schedules = map.empty;
+}
 
 -- the rows with another value in a column of a row
 abbrev pub with_cell : Dataset → Text → Column → Value → Rows → Rows

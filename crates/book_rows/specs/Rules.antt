@@ -42,25 +42,25 @@ tx_kind other = None
 
 abbrev pub tx_row : Text → (Column → Value) → TxRow
 tx_row id value = record {
-    id = id;
-    acct = text_of (value Acct);
-    date = day_of (value Date);
-    amount = int_of (value Amount);
-    description = text_of (value Description);
-    category = text_of (value Category);
-    notes = text_of (value Notes);
-    imported_description = text_of (value ImportedDescription);
-    financial_id = text_of (value FinancialId);
-    transferred_id = text_of (value TransferredId);
-    schedule = text_of (value Schedule);
-    is_parent = flag_of (value IsParent);
-    is_child = flag_of (value IsChild);
-    parent_id = text_of (value ParentId);
-    cleared = flag_of (value Cleared);
-    reconciled = flag_of (value Reconciled);
-    sort_order = int_of (value SortOrder);
-    tombstone = flag_of (value Tombstone);
-  }
+  id = id;
+  acct = text_of (value Acct);
+  date = day_of (value Date);
+  amount = int_of (value Amount);
+  description = text_of (value Description);
+  category = text_of (value Category);
+  notes = text_of (value Notes);
+  imported_description = text_of (value ImportedDescription);
+  financial_id = text_of (value FinancialId);
+  transferred_id = text_of (value TransferredId);
+  schedule = text_of (value Schedule);
+  is_parent = flag_of (value IsParent);
+  is_child = flag_of (value IsChild);
+  parent_id = text_of (value ParentId);
+  cleared = flag_of (value Cleared);
+  reconciled = flag_of (value Reconciled);
+  sort_order = int_of (value SortOrder);
+  tombstone = flag_of (value Tombstone);
+}
 
 abbrev pub with_tx_column : Column → Value → TxRow → TxRow
 with_tx_column Acct v row = record row { acct = text_of v }
@@ -95,12 +95,12 @@ budget_kind other = None
 
 abbrev pub budget_row : Text → (Column → Value) → BudgetRow
 budget_row id value = record {
-    id = id;
-    month = int_of (value Month);
-    category = text_of (value Category);
-    amount = int_of (value Amount);
-    carryover = flag_of (value Carryover);
-  }
+  id = id;
+  month = int_of (value Month);
+  category = text_of (value Category);
+  amount = int_of (value Amount);
+  carryover = flag_of (value Carryover);
+}
 
 abbrev pub with_budget_column : Column → Value → BudgetRow → BudgetRow
 with_budget_column Month v row = record row { month = int_of v }
@@ -123,13 +123,13 @@ account_kind other = None
 
 abbrev pub account_row : Text → (Column → Value) → AccountRow
 account_row id value = record {
-    id = id;
-    name = text_of (value Name);
-    offbudget = flag_of (value Offbudget);
-    closed = flag_of (value Closed);
-    sort_order = int_of (value SortOrder);
-    tombstone = flag_of (value Tombstone);
-  }
+  id = id;
+  name = text_of (value Name);
+  offbudget = flag_of (value Offbudget);
+  closed = flag_of (value Closed);
+  sort_order = int_of (value SortOrder);
+  tombstone = flag_of (value Tombstone);
+}
 
 abbrev pub with_account_column : Column → Value → AccountRow → AccountRow
 with_account_column Name v row = record row { name = text_of v }
@@ -153,13 +153,13 @@ group_kind other = None
 
 abbrev pub group_row : Text → (Column → Value) → GroupRow
 group_row id value = record {
-    id = id;
-    name = text_of (value Name);
-    is_income = flag_of (value IsIncome);
-    sort_order = int_of (value SortOrder);
-    hidden = flag_of (value Hidden);
-    tombstone = flag_of (value Tombstone);
-  }
+  id = id;
+  name = text_of (value Name);
+  is_income = flag_of (value IsIncome);
+  sort_order = int_of (value SortOrder);
+  hidden = flag_of (value Hidden);
+  tombstone = flag_of (value Tombstone);
+}
 
 abbrev pub with_group_column : Column → Value → GroupRow → GroupRow
 with_group_column Name v row = record row { name = text_of v }
@@ -184,14 +184,14 @@ category_kind other = None
 
 abbrev pub category_row : Text → (Column → Value) → CategoryRow
 category_row id value = record {
-    id = id;
-    name = text_of (value Name);
-    cat_group = text_of (value CatGroup);
-    is_income = flag_of (value IsIncome);
-    sort_order = int_of (value SortOrder);
-    hidden = flag_of (value Hidden);
-    tombstone = flag_of (value Tombstone);
-  }
+  id = id;
+  name = text_of (value Name);
+  cat_group = text_of (value CatGroup);
+  is_income = flag_of (value IsIncome);
+  sort_order = int_of (value SortOrder);
+  hidden = flag_of (value Hidden);
+  tombstone = flag_of (value Tombstone);
+}
 
 abbrev pub with_category_column : Column → Value → CategoryRow → CategoryRow
 with_category_column Name v row = record row { name = text_of v }
@@ -214,11 +214,11 @@ payee_kind other = None
 
 abbrev pub payee_row : Text → (Column → Value) → PayeeRow
 payee_row id value = record {
-    id = id;
-    name = text_of (value Name);
-    transfer_acct = text_of (value TransferAcct);
-    tombstone = flag_of (value Tombstone);
-  }
+  id = id;
+  name = text_of (value Name);
+  transfer_acct = text_of (value TransferAcct);
+  tombstone = flag_of (value Tombstone);
+}
 
 abbrev pub with_payee_column : Column → Value → PayeeRow → PayeeRow
 with_payee_column Name v row = record row { name = text_of v }
@@ -236,9 +236,9 @@ month_kind other = None
 
 abbrev pub month_row : Text → (Column → Value) → MonthRow
 month_row id value = record {
-    id = id;
-    buffered = int_of (value Buffered);
-  }
+  id = id;
+  buffered = int_of (value Buffered);
+}
 
 abbrev pub with_month_column : Column → Value → MonthRow → MonthRow
 with_month_column Buffered v row = record row { buffered = int_of v }
@@ -254,9 +254,9 @@ note_kind other = None
 
 abbrev pub note_row : Text → (Column → Value) → NoteRow
 note_row id value = record {
-    id = id;
-    note = text_of (value Note);
-  }
+  id = id;
+  note = text_of (value Note);
+}
 
 abbrev pub with_note_column : Column → Value → NoteRow → NoteRow
 with_note_column Note v row = record row { note = text_of v }
@@ -276,13 +276,13 @@ rule_kind other = None
 
 abbrev pub rule_row : Text → (Column → Value) → RuleRow
 rule_row id value = record {
-    id = id;
-    stage = text_of (value Stage);
-    conditions_op = text_of (value ConditionsOp);
-    conditions = text_of (value Conditions);
-    actions = text_of (value Actions);
-    tombstone = flag_of (value Tombstone);
-  }
+  id = id;
+  stage = text_of (value Stage);
+  conditions_op = text_of (value ConditionsOp);
+  conditions = text_of (value Conditions);
+  actions = text_of (value Actions);
+  tombstone = flag_of (value Tombstone);
+}
 
 abbrev pub with_rule_column : Column → Value → RuleRow → RuleRow
 with_rule_column Stage v row = record row { stage = text_of v }
@@ -307,14 +307,14 @@ schedule_kind other = None
 
 abbrev pub schedule_row : Text → (Column → Value) → ScheduleRow
 schedule_row id value = record {
-    id = id;
-    rule = text_of (value Rule);
-    name = text_of (value Name);
-    next_date = day_of (value NextDate);
-    completed = flag_of (value Completed);
-    posts_transaction = flag_of (value PostsTransaction);
-    tombstone = flag_of (value Tombstone);
-  }
+  id = id;
+  rule = text_of (value Rule);
+  name = text_of (value Name);
+  next_date = day_of (value NextDate);
+  completed = flag_of (value Completed);
+  posts_transaction = flag_of (value PostsTransaction);
+  tombstone = flag_of (value Tombstone);
+}
 
 abbrev pub with_schedule_column : Column → Value → ScheduleRow → ScheduleRow
 with_schedule_column Rule v row = record row { rule = text_of v }

@@ -45,7 +45,6 @@ pub struct Book {
 impl Model for Book {
     ghost use Rattle.std.specs.Prelude.{◌≡◌, false};
     ghost use Rattle.book_rows.specs.Book.{BookState, IsIndexed};
-
     ghost use Rattle.book_rows.specs.contracts.rows.Rows as all_rows;
     ghost use Rattle.std.specs.Coded.{codes};
 
@@ -383,7 +382,11 @@ impl Book {
     }
 
     /// The ids of the parts of a transaction, dead or alive, in order. Each is one step.
-    pub fn children<G: Ledger>(&self, id: &Txt, steps: &mut Steps<G>) -> Result<Items<Txt>, NoMemory>
+    pub fn children<G: Ledger>(
+        &self,
+        id: &Txt,
+        steps: &mut Steps<G>,
+    ) -> Result<Items<Txt>, NoMemory>
         requires live { self.now.spent ≡ false }
         ensures ids { IfOk result (λ v. v ≡ children_of self.now.rows id.now) }
         ensures cost { IfOk result (λ v. steps.new ≡ steps.old + length v) }
@@ -392,7 +395,11 @@ impl Book {
     }
 
     /// The ids of the transactions of an account, dead or alive, in order. Each is one step.
-    pub fn of_account<G: Ledger>(&self, id: &Txt, steps: &mut Steps<G>) -> Result<Items<Txt>, NoMemory>
+    pub fn of_account<G: Ledger>(
+        &self,
+        id: &Txt,
+        steps: &mut Steps<G>,
+    ) -> Result<Items<Txt>, NoMemory>
         requires live { self.now.spent ≡ false }
         ensures ids { IfOk result (λ v. v ≡ account_txs self.now.rows id.now) }
         ensures cost { IfOk result (λ v. steps.new ≡ steps.old + length v) }

@@ -1,18 +1,31 @@
-//! A book.
+//! A household's books: the rows that the fields of messages make.
+//!
+//! A [`Book`] has the rows of each dataset by id. A field that is given a value changes its row alone ([`rows_follow_fields`]); which
+//! rows are live and which transactions count is told by [`live_rows_are_told`], and the months that a book spans by
+//! [`windows_span`]. The writes that an edit makes, and why it is refused, have their types here, for the crates that make them.
 #![tactic(auto)]
 
 mod book;
-pub mod column;
+mod column;
 mod fault;
 mod indexes;
-pub mod kind;
+mod kind;
+mod known;
+mod laws;
 mod months;
 mod row_rules;
-pub mod rows;
+mod rows;
 mod table;
 mod txs;
 mod write;
 
 pub use book::Book;
 pub use fault::{EditFault, RecurPart, RulePart};
+pub use kind::Kind;
+pub use known::kind_of;
+pub use laws::{live_rows_are_told, rows_follow_fields, windows_span};
+pub use rows::{
+    AccountRow, BudgetRow, CategoryRow, GroupRow, MonthRow, NoteRow, PayeeRow, RuleRow,
+    ScheduleRow, TxRow,
+};
 pub use write::{RowName, Write, WriteValue};

@@ -4,7 +4,10 @@ ghost use Rattle.book_rows.specs.Rules.{tx_table, budget_table, account_table, g
 
 use crate::column::Column;
 use crate::kind::{Kind, day, flag, int, text};
-use crate::rows::{AccountRow, BudgetRow, CategoryRow, GroupRow, MonthRow, NoteRow, PayeeRow, RuleRow, ScheduleRow, TxRow};
+use crate::rows::{
+    AccountRow, BudgetRow, CategoryRow, GroupRow, MonthRow, NoteRow, PayeeRow, RuleRow,
+    ScheduleRow, TxRow,
+};
 use crate::table::Row;
 use field_values::{NoMemory, Txt, Value};
 
@@ -277,10 +280,7 @@ impl Row for MonthRow {
     }
 
     fn blank(id: Txt) -> MonthRow {
-        MonthRow {
-            id,
-            buffered: 0,
-        }
+        MonthRow { id, buffered: 0 }
     }
 
     fn set(&mut self, column: Column, value: &Value) -> Result<(), NoMemory> {
@@ -303,10 +303,7 @@ impl Row for NoteRow {
     }
 
     fn blank(id: Txt) -> NoteRow {
-        NoteRow {
-            id,
-            note: None,
-        }
+        NoteRow { id, note: None }
     }
 
     fn set(&mut self, column: Column, value: &Value) -> Result<(), NoMemory> {

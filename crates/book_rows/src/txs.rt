@@ -110,8 +110,20 @@ fn change_keys(
     requires { HasKeys index.old id.now before.now }
     ensures { OnOk result (MovesKeys index.old index.new id.now after.now) }
 {
-    change(alloc, &mut index.children, id, &before.parent, &after.parent)?;
-    change(alloc, &mut index.accounts, id, &before.account, &after.account)?;
+    change(
+        alloc,
+        &mut index.children,
+        id,
+        &before.parent,
+        &after.parent,
+    )?;
+    change(
+        alloc,
+        &mut index.accounts,
+        id,
+        &before.account,
+        &after.account,
+    )?;
     change_month(&mut index.months, id, before.month, after.month)
 }
 

@@ -147,6 +147,7 @@ module _ {K X : Type 0} {R : K → K → Ordering} (o : IsTotalOrder R) (exact :
     where
       other : (q : K) (b : Bool) → eq_by_cmp R q a ≡ b → (b ≡ false) → get (remove m a) q ≡ get m q
       other q b p h = get-remove o m a q ∙ ap (λ b. cond b None (get m q)) (p ∙ h)
+
       others : (bs : List K) → is_among R bs a ≡ false → total (λ q. value_or_zero f (get (remove m a) q)) bs ≡ total (λ q. value_or_zero f (get m q)) bs
       others [] h = refl
       others (b ∷ bs) h =
@@ -165,11 +166,14 @@ module _ {K X : Type 0} {R : K → K → Ordering} (o : IsTotalOrder R) (exact :
       by : (q : K) (b : Bool) → is_among R ks q ≡ b → cond b None (get m q) ≡ cond b None (get n q)
       by q true p = refl
       by q false p = agree q p
+
       rest : without m ks ≡ without n ks
       rest = same_map o exact _ _ (λ q. get-without m ks q ∙ by q (is_among R ks q) refl ∙ sym (get-without n ks q))
+
       inside : (q : K) (x : X) (b : Bool) → is_among R ks q ≡ b → cond b None (get m q) ≡ Some x → f x ≡ g x
       inside q x true p h = absurd (none_some x h)
       inside q x false p h = alike q x p h
+
       rest_alike : (q : K) (x : X) → get (without m ks) q ≡ Some x → f x ≡ g x
       rest_alike q x h = inside q x (is_among R ks q) refl (sym (get-without m ks q) ∙ h)
 

@@ -65,5 +65,5 @@ keys_where_are {R = R} o exact p m ks sorted same =
     let found = keys_where p (entries m) in
     sym (keys_marked R ks)
     ∙ ap (map (λ e. e.0)) (same_entries R o exact (marked R ks) (marked R found) (subst T (sym (sorted_marked R ks sorted)) tt) (subst T (sym (sorted_filtered R p (entries m) (so _ (entries_sorted m)))) tt)
-        (λ q. find_marked R q ks ∙ ap (λ b. cond {A = Option ℕ} b (Some 0) None) (same q ∙ sym (among-keys_where o exact p m q) ∙ sym (among_any R found q)) ∙ sym (find_marked R q found)))
+    (λ q. find_marked R q ks ∙ ap (λ b. cond {A = Option ℕ} b (Some 0) None) (same q ∙ sym (among-keys_where o exact p m q) ∙ sym (among_any R found q)) ∙ sym (find_marked R q found)))
     ∙ keys_marked R found

@@ -20,16 +20,16 @@ text_same = slice_cmp-IsAntisymmetric nat_cmp-IsAntisymmetric
 
 pub trees_are_maps_lem : (V : Type 0) → TreesAreMaps V
 trees_are_maps_lem V = record {
-    entries = λ m o. entries_are text_total text_same m.entries (rising text_cmp m.entries o);
-    finds = λ m q. get_is text_total text_same m.entries q;
-  }
+  entries = λ m o. entries_are text_total text_same m.entries (rising text_cmp m.entries o);
+  finds = λ m q. get_is text_total text_same m.entries q;
+}
 
 pub sums_follow_entries_lem : (V : Type 0) → SumsFollowEntries V
 sums_follow_entries_lem V = record {
-    put = λ f m k v. total_of-insert text_total text_same f m k v;
-    out = λ f m k. total_of-remove text_total text_same f m k;
-    same = λ f g m h. total_same text_total text_same f g m h;
-  }
+  put = λ f m k v. total_of-insert text_total text_same f m k v;
+  out = λ f m k. total_of-remove text_total text_same f m k;
+  same = λ f g m h. total_same text_total text_same f g m h;
+}
 
 pub sums_follow_batches_lem : (V : Type 0) → SumsFollowBatches V
 sums_follow_batches_lem V = λ f g m n ks h. total_of-batch text_total text_same f g m n ks h.distinct h.values h.addends

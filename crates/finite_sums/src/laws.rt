@@ -1,6 +1,9 @@
 //! Facts about all sums, which a proof can call for.
 ghost use Rattle.finite_sums.specs.Laws.{
-    ClassesCountOnce, SumsFollowBatches, SumsFollowEntries, TreesAreMaps,
+  ClassesCountOnce,
+  SumsFollowBatches,
+  SumsFollowEntries,
+  TreesAreMaps,
 };
 
 /// A law: a map in order and the finite map that it is seen as have the same entries, and find the same under each text.

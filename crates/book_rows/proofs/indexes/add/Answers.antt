@@ -23,6 +23,6 @@ returns c =
     let none : tree.get text_cmp c.args.index.now c.args.key.now ≡ None = search rules in
     set_pair c.args.index.now c.insert-3.new.self c.args.key.now c.args.id.now c.new-ids.result c.insert-2.new.self true
     (λ p. c.in_ok-insert-3.ensures.updates.0 p ∙ ap (λ k. cond (is_at (text_cmp k) p) (Some c.insert-2.new.self) (tree.get text_cmp c.get_mut.follows.lender-at-none p)) c.in_ok-copy-3.ensures
-      ∙ ap (λ m. cond (is_at (text_cmp c.args.key.now) p) (Some c.insert-2.new.self) (tree.get text_cmp m p)) same)
+    ∙ ap (λ m. cond (is_at (text_cmp c.args.key.now) p) (Some c.insert-2.new.self) (tree.get text_cmp m p)) same)
     (λ q. c.in_ok-insert-2.ensures.updates.0 q ∙ ap (λ k. cond (is_at (text_cmp k) q) true (set.contains text_cmp c.new-ids.result q)) c.in_ok-copy-2.ensures)
     (λ q. ap (λ o. has_id o q) none ∙ sym (ap (list_any (is_at (text_cmp q))) c.new-ids.ensures.empty))

@@ -12,7 +12,7 @@ returns-in_ok-insert c = λ m q.
     put_in c.args.id.now (λ m q. set.contains dated_cmp c.args.dated.now (m, q)) (λ m q. set.contains dated_cmp c.insert.new.self (m, q)) (λ m. eq_by_cmp nat_cmp c.in-Some.month m)
     c.requires
     (λ m q. c.in_ok-insert.ensures.updates.0 (m, q) ∙ ap (λ i. cond (is_at (dated_cmp (c.in-Some.month, i)) (m, q)) true (set.contains dated_cmp c.args.dated.now (m, q))) c.in_ok-copy.ensures
-      ∙ ap (λ b. cond b true (set.contains dated_cmp c.args.dated.now (m, q))) (dated_tie c.in-Some.month m c.args.id.now q)) m q
+    ∙ ap (λ b. cond b true (set.contains dated_cmp c.args.dated.now (m, q))) (dated_tie c.in-Some.month m c.args.id.now q)) m q
     ∙ ap (λ o. if eq_by_cmp text_cmp q c.args.id.now then is_month_of m o else set.contains dated_cmp c.args.dated.now (m, q)) (sym c.in-Some.is)
 
 pub returns-in_default : goal.returns-in_default

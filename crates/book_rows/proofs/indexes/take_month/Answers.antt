@@ -10,7 +10,7 @@ pub returns-in_ok-copy : goal.returns-in_ok-copy
 returns-in_ok-copy c = taken_out c.args.id.now (λ m q. set.contains dated_cmp c.args.dated.now (m, q)) (λ m q. set.contains dated_cmp c.remove.new.self (m, q)) (λ m. eq_by_cmp nat_cmp c.in-Some.month m)
     (λ m. c.requires m ∙ ap (is_month_of m) c.in-Some.is)
     (λ m q. c.remove.ensures.updates.0 (m, q) ∙ ap (λ i. cond (is_at (dated_cmp (c.in-Some.month, i)) (m, q)) false (set.contains dated_cmp c.args.dated.now (m, q))) c.in_ok-copy.ensures
-      ∙ ap (λ b. cond b false (set.contains dated_cmp c.args.dated.now (m, q))) (dated_tie c.in-Some.month m c.args.id.now q))
+    ∙ ap (λ b. cond b false (set.contains dated_cmp c.args.dated.now (m, q))) (dated_tie c.in-Some.month m c.args.id.now q))
 
 pub returns-in_default : goal.returns-in_default
 returns-in_default c = stays c.args.id.now (λ m q. set.contains dated_cmp c.args.dated.now (m, q)) (λ m. false) (λ m. c.requires m ∙ ap (is_month_of m) c.in_default.is)

@@ -35,4 +35,4 @@ returns-in-Some-clause-row g c =
     let updates = h.3 (subst IsSome (sym there) refl) in
     let old : unwrap_or (map.get (map_of rows) id) (blank_row t id) ≡ c.in-Some.row.now = ap (λ o. unwrap_or o (blank_row t id)) (get-map_of rows id ∙ there) in
     on_ok c.set.result (λ e. map_of-insert rows (c.get_mut.follows.lender c.set.new.self) id c.set.new.self updates.0
-        ∙ ap (map.insert (map_of rows) id) (e ∙ ap (t.set c.args.column c.args.value.now) (sym old))) c.set.ensures
+    ∙ ap (map.insert (map_of rows) id) (e ∙ ap (t.set c.args.column c.args.value.now) (sym old))) c.set.ensures
