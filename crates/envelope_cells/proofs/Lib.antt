@@ -1,0 +1,13 @@
+pub mod Money
+pub mod Made
+pub mod Among
+pub mod Others
+pub mod Sheets
+pub mod Lists
+pub mod Exact
+pub mod Rows
+pub mod Distinct
+pub mod Bounds
+pub mod Added
+pub mod Parts
+pub mod Past

@@ -1,0 +1,63 @@
+-- What the laws say.
+use Rattle.std.specs.Prelude.{ℕ, ◌≡◌, zero, suc, ◌+◌, ◌≤◌, Bool, true, false, not, ℤ, pos, ◌+ℤ◌, ◌-ℤ◌, ◌≤ℤ◌, List, ◌++◌, Option, Some, None}
+use Rattle.finite_sums.specs.Sums.{total, hits}
+use Rattle.finite_sums.specs.Maps.{Text, text_cmp, is_among}
+use Rattle.std.specs.Ordering.{eq_by_cmp}
+use Rattle.envelope_cells.specs.Budget.{Budget, categories, expense}
+use Rattle.envelope_cells.specs.declared.groups.BudgetGroup.{BudgetGroup}
+use Rattle.envelope_cells.specs.Cells.{leftover, taken_from, total_income, from_last_month, available_funds, last_month_overspent, total_budgeted, to_budget, total_leftover, money}
+use Rattle.envelope_cells.specs.CellOf.{cell_of, is_of_category}
+use Rattle.envelope_cells.specs.SheetOf.{sheet_of, value_named}
+use Rattle.envelope_cells.specs.declared.name.CellName.{CellName}
+
+-- nothing is lost: what is still to budget, what is held back and what is left in the categories is all the money that there is
+abbrev pub MoneyIsKept : Type 0
+MoneyIsKept = (b : Budget) (m : ℕ) → (to_budget b m +ℤ b.buffered m) +ℤ total_leftover b m ≡ money b m
+
+-- what a leftover is made of
+pub record LeftoversAreMade (b : Budget) (c : Text) : Type 0 where
+  -- in January 1970 nothing comes from a month before
+  pub first : leftover b c 0 ≡ b.budgeted c 0 +ℤ b.category_sum c 0
+  -- what is left goes on
+  pub left : (m : ℕ) → pos 0 ≤ℤ leftover b c m → leftover b c (m + 1) ≡ (b.budgeted c (m + 1) +ℤ b.category_sum c (m + 1)) +ℤ leftover b c m
+  -- what is overspent goes on with the flag, and is gone without it
+  pub flagged : (m : ℕ) → b.carries c m ≡ true → leftover b c (m + 1) ≡ (b.budgeted c (m + 1) +ℤ b.category_sum c (m + 1)) +ℤ leftover b c m
+  pub overspent : (m : ℕ) → b.carries c m ≡ false → leftover b c m ≤ℤ pos 0 → leftover b c (m + 1) ≡ b.budgeted c (m + 1) +ℤ b.category_sum c (m + 1)
+
+-- what of a leftover is taken from the next month's money: what a category is overspent by without the flag, and nothing else. It goes on in the category, or is taken
+pub record OverspendingIsTaken (b : Budget) (c : Text) : Type 0 where
+  pub first : taken_from b c 0 ≡ pos 0
+  pub left : (m : ℕ) → pos 0 ≤ℤ leftover b c m → taken_from b c (m + 1) ≡ pos 0
+  pub flagged : (m : ℕ) → b.carries c m ≡ true → taken_from b c (m + 1) ≡ pos 0
+  pub overspent : (m : ℕ) → b.carries c m ≡ false → leftover b c m ≤ℤ pos 0 → taken_from b c (m + 1) ≡ leftover b c m
+  pub either : (m : ℕ) → leftover b c (m + 1) +ℤ taken_from b c (m + 1) ≡ (b.budgeted c (m + 1) +ℤ b.category_sum c (m + 1)) +ℤ leftover b c m
+
+-- how the cells of a month are made of each other
+pub record MonthsAreMade (b : Budget) : Type 0 where
+  pub first : from_last_month b 0 ≡ pos 0
+  pub from_last : (m : ℕ) → from_last_month b (m + 1) ≡ to_budget b m +ℤ b.buffered m
+  pub available : (m : ℕ) → available_funds b m ≡ total_income b m +ℤ from_last_month b m
+  pub overspent : (m : ℕ) → last_month_overspent b m ≡ total (λ c. taken_from b c m) (expense b)
+  pub budgeted : (m : ℕ) → total_budgeted b m +ℤ total (λ c. b.budgeted c m) (expense b) ≡ pos 0
+  pub to_budget : (m : ℕ) → to_budget b m ≡ ((available_funds b m +ℤ last_month_overspent b m) +ℤ total_budgeted b m) -ℤ b.buffered m
+
+-- two budgets say the same of a category
+pub record SayTheSame (a b : Budget) (c : Text) : Type 0 where
+  pub category_sum : (m : ℕ) → a.category_sum c m ≡ b.category_sum c m
+  pub budgeted : (m : ℕ) → a.budgeted c m ≡ b.budgeted c m
+  pub carries : (m : ℕ) → a.carries c m ≡ b.carries c m
+
+-- two budgets have the same live categories, and say the same of each of them
+pub record AgreeOnLive (a b : Budget) : Type 0 where
+  pub groups : a.groups ≡ b.groups
+  pub buffered : (m : ℕ) → a.buffered m ≡ b.buffered m
+  pub live : (c : Text) → is_among text_cmp (categories b) c ≡ true → SayTheSame a b c
+
+-- a category that is not live counts nowhere: whatever is said of it, each cell of each month is the same, and it has none itself
+pub record OthersCountNowhere : Type 0 where
+  pub same : (a b : Budget) → AgreeOnLive a b → (name : CellName) → cell_of a name ≡ cell_of b name
+  pub none : (b : Budget) (name : CellName) → is_of_category name.kind ≡ true → is_among text_cmp (categories b) name.id ≡ false → cell_of b name ≡ None
+
+-- a sheet has exactly the cells of its month, each with its value
+abbrev pub SheetsTellCells : Type 0
+SheetsTellCells = (b : Budget) (name : CellName) → value_named (sheet_of b name.month) name ≡ cell_of b name

@@ -1,0 +1,12 @@
+pub mod Names
+pub mod Ids
+pub mod Budget
+pub mod Cells
+pub mod CellOf
+pub mod SheetOf
+pub mod Places
+pub mod BudgetOf
+pub mod Parts
+pub mod Whole
+pub mod Text
+pub mod Laws

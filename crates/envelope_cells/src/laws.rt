@@ -1,0 +1,37 @@
+//! Facts about all budgets, which a proof can call for.
+ghost use Rattle.finite_sums.specs.Maps.{Text};
+ghost use Rattle.envelope_cells.specs.Budget.{Budget};
+ghost use Rattle.envelope_cells.specs.Laws.{LeftoversAreMade, MoneyIsKept, MonthsAreMade, OthersCountNowhere, OverspendingIsTaken, SheetsTellCells};
+
+/// A law: in every month what is still to budget, what is held back and what is left in the categories add up to all that
+/// came in and went out in live categories up to then. So no cent is lost, and none is made.
+pub fn money_is_kept()
+    ensures { MoneyIsKept }
+{}
+
+/// A law: a leftover is what the category is given and what its transactions add up to, with the leftover of the month before;
+/// but what was overspent is not carried over without its flag.
+pub fn leftovers_are_made()
+    ensures { (b : Budget) (c : Text) → LeftoversAreMade b c }
+{}
+
+/// A law: what a category is overspent by is taken from the next month's money where it is without its flag, and with the flag
+/// stays in the category.
+pub fn overspending_is_taken()
+    ensures { (b : Budget) (c : Text) → OverspendingIsTaken b c }
+{}
+
+/// A law: how the cells of a month are made of each other, and what comes from the month before.
+pub fn months_are_made()
+    ensures { (b : Budget) → MonthsAreMade b }
+{}
+
+/// A law: a category that is not live counts nowhere.
+pub fn others_count_nowhere()
+    ensures { OthersCountNowhere }
+{}
+
+/// A law: a sheet has exactly the cells of its month, and tells of each what the cell alone tells.
+pub fn sheets_tell_cells()
+    ensures { SheetsTellCells }
+{}

@@ -1,0 +1,25 @@
+//! The envelope budget of a month: what came in, what is budgeted, what is left, and what is still to budget.
+//!
+//! A sheet has the cells of one month ([`sheet`], [`name::Sheet`]); what each of them tells is a function of the rows of a book. Its text has a
+//! line for each cell ([`sheet_text`]).
+#![tactic(auto)]
+
+mod groups;
+mod ids;
+mod laws;
+pub mod month_sheet;
+pub mod name;
+mod part;
+mod sums;
+mod whole;
+mod text;
+pub mod values;
+
+pub use laws::{
+    leftovers_are_made, money_is_kept, months_are_made, others_count_nowhere,
+    overspending_is_taken, sheets_tell_cells,
+};
+pub use name::{Cell, CellKind, CellName};
+pub use month_sheet::sheet;
+pub use text::sheet_text;
+pub use values::CellValues;
