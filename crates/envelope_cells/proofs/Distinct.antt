@@ -33,7 +33,7 @@ pub hits-append : {X : Type 0} (p : X → Bool) (xs ys : List X) → hits p (xs 
 hits-append p [] ys = omega arith
 hits-append p (x ∷ xs) ys = omega (arith, hits-append p xs ys)
 
-then_equal : (o q : Ordering) → ordering_then o q ≡ Equal → q ≡ Equal
+pub then_equal : (o q : Ordering) → ordering_then o q ≡ Equal → q ≡ Equal
 then_equal Less q h = cc
 then_equal Equal q h = h
 then_equal Greater q h = cc

@@ -11,3 +11,5 @@ pub mod Bounds
 pub mod Added
 pub mod Parts
 pub mod Past
+pub mod Quiet
+pub mod Listed

@@ -32,7 +32,7 @@ is_equal Less h = cc
 is_equal Equal h = refl
 is_equal Greater h = cc
 
-less_no_tie : (r : Ordering) → is_lt r ≡ true → is_eq r ≡ false
+pub less_no_tie : (r : Ordering) → is_lt r ≡ true → is_eq r ≡ false
 less_no_tie Less h = refl
 less_no_tie Equal h = cc
 less_no_tie Greater h = cc

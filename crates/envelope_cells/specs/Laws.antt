@@ -1,14 +1,17 @@
 -- What the laws say.
-use Rattle.std.specs.Prelude.{ℕ, ◌≡◌, zero, suc, ◌+◌, ◌≤◌, Bool, true, false, not, ℤ, pos, ◌+ℤ◌, ◌-ℤ◌, ◌≤ℤ◌, List, ◌++◌, Option, Some, None}
+use Rattle.std.specs.Prelude.{ℕ, ◌≡◌, zero, suc, ◌+◌, ◌≤◌, Bool, true, false, not, ℤ, pos, ◌+ℤ◌, ◌-ℤ◌, ◌≤ℤ◌, List, map, Option, Some, None}
 use Rattle.finite_sums.specs.Sums.{total, hits}
 use Rattle.finite_sums.specs.Maps.{Text, text_cmp, is_among}
 use Rattle.std.specs.Ordering.{eq_by_cmp}
-use Rattle.envelope_cells.specs.Budget.{Budget, categories, expense}
+use Rattle.envelope_cells.specs.Budget.{Budget, categories, income, expense}
 use Rattle.envelope_cells.specs.declared.groups.BudgetGroup.{BudgetGroup}
 use Rattle.envelope_cells.specs.Cells.{leftover, taken_from, total_income, from_last_month, available_funds, last_month_overspent, total_budgeted, to_budget, total_leftover, money}
 use Rattle.envelope_cells.specs.CellOf.{cell_of, is_of_category}
 use Rattle.envelope_cells.specs.SheetOf.{sheet_of, value_named}
 use Rattle.envelope_cells.specs.declared.name.CellName.{CellName}
+use Rattle.book_rows.specs.declared.rows.Rows.{Rows}
+use Rattle.book_rows.specs.Live.{is_live_group, is_live_category, is_income_category, is_expense_category}
+use Rattle.envelope_cells.specs.BudgetOf.{budget_of, groups_of}
 
 -- nothing is lost: what is still to budget, what is held back and what is left in the categories is all the money that there is
 abbrev pub MoneyIsKept : Type 0
@@ -61,3 +64,10 @@ pub record OthersCountNowhere : Type 0 where
 -- a sheet has exactly the cells of its month, each with its value
 abbrev pub SheetsTellCells : Type 0
 SheetsTellCells = (b : Budget) (name : CellName) → value_named (sheet_of b name.month) name ≡ cell_of b name
+
+-- the groups and the categories of a book's budget are the live ones, on the side that the group says
+pub record LiveOnesAreListed (rows : Rows) : Type 0 where
+  pub group : (q : Text) → is_among text_cmp (map (λ g. g.id) (groups_of rows)) q ≡ is_live_group rows q
+  pub category : (q : Text) → is_among text_cmp (categories (budget_of rows)) q ≡ is_live_category rows q
+  pub income : (q : Text) → is_among text_cmp (income (budget_of rows)) q ≡ is_income_category rows q
+  pub expense : (q : Text) → is_among text_cmp (expense (budget_of rows)) q ≡ is_expense_category rows q

@@ -8,8 +8,7 @@ ghost use Rattle.book_rows.specs.Parts.{is_text};
 ghost use Rattle.envelope_cells.specs.Places.{placed, group_places, category_places, ids_of_group, with_categories};
 ghost use Rattle.envelope_cells.specs.BudgetOf.{groups_of};
 
-use book_rows::Book;
-use book_rows::rows::{CategoryRow, GroupRow};
+use book_rows::{Book, CategoryRow, GroupRow};
 use field_values::{Items, NoMemory, Txt};
 use std::alloc::Global;
 use std::cmp::Ordering;

@@ -1,5 +1,5 @@
 //! Months as numbers, and the ids of the rows that speak of a month.
-ghost use Rattle.std.specs.Prelude.{◌≡◌, ◌<◌, ◌+◌, ◌++◌, IsTrue, OnOk, IfOk, string_bytes};
+ghost use Rattle.std.specs.Prelude.{◌≡◌, ℕ, ◌<◌, ◌≤◌, ◌+◌, ◌++◌, IsTrue, OnOk, IfOk, string_bytes};
 ghost use Rattle.book_rows.specs.Months.{is_month};
 ghost use Rattle.envelope_cells.specs.Ids.{month_number, month_at, two_digits, four_digits, budget_id, month_id};
 
@@ -21,6 +21,28 @@ pub(crate) fn month_at(number: u32) -> u32
     ensures { result ≡ month_at number }
 {
     (1970 + number / 12) * 100 + (number % 12 + 1)
+}
+
+/// Whether a number YYYYMM is a month from January 1970 to December 2199.
+pub(crate) fn is_month(month: u32) -> bool
+    ensures { result ≡ is_month month }
+{
+    let year = month / 100;
+    let within = month % 100;
+    year >= 1970 && year <= 2199 && within >= 1 && within <= 12
+}
+
+/// The number of the first month, or that of the one that is asked for where it is not after it.
+pub(crate) fn first_of(first: u32, number: u32) -> u32
+    requires { number < 2760 }
+    ensures within { result ≤ number }
+    ensures below { (k : ℕ) → k < result → month_at k < first }
+{
+    if !is_month(first) {
+        return 0;
+    }
+    let at = month_number(first);
+    if at < number { at } else { number }
 }
 
 /// The digit of a number below ten.

@@ -1,7 +1,8 @@
 //! Facts about all budgets, which a proof can call for.
 ghost use Rattle.finite_sums.specs.Maps.{Text};
+ghost use Rattle.book_rows.specs.declared.rows.Rows.{Rows};
 ghost use Rattle.envelope_cells.specs.Budget.{Budget};
-ghost use Rattle.envelope_cells.specs.Laws.{LeftoversAreMade, MoneyIsKept, MonthsAreMade, OthersCountNowhere, OverspendingIsTaken, SheetsTellCells};
+ghost use Rattle.envelope_cells.specs.Laws.{LeftoversAreMade, LiveOnesAreListed, MoneyIsKept, MonthsAreMade, OthersCountNowhere, OverspendingIsTaken, SheetsTellCells};
 
 /// A law: in every month what is still to budget, what is held back and what is left in the categories add up to all that
 /// came in and went out in live categories up to then. So no cent is lost, and none is made.
@@ -34,4 +35,10 @@ pub fn others_count_nowhere()
 /// A law: a sheet has exactly the cells of its month, and tells of each what the cell alone tells.
 pub fn sheets_tell_cells()
     ensures { SheetsTellCells }
+{}
+
+/// A law: the groups and the categories that a sheet lists are the live ones, each on the side that its group says; one that was
+/// deleted, or whose group was, is not among them.
+pub fn live_ones_are_listed()
+    ensures { (rows : Rows) → LiveOnesAreListed rows }
 {}

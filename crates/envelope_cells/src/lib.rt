@@ -16,7 +16,7 @@ mod text;
 pub mod values;
 
 pub use laws::{
-    leftovers_are_made, money_is_kept, months_are_made, others_count_nowhere,
+    leftovers_are_made, live_ones_are_listed, money_is_kept, months_are_made, others_count_nowhere,
     overspending_is_taken, sheets_tell_cells,
 };
 pub use name::{Cell, CellKind, CellName};

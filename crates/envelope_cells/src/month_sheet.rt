@@ -12,7 +12,7 @@ ghost use Rattle.envelope_cells.specs.Whole.{funds_cells, rest_cells, part_cells
 use crate::groups::groups_of;
 use crate::ids::month_number;
 use crate::name::{Cell, CellKind, CellName, Sheet};
-use crate::part::{GroupParts, Part, Pick, buffered_in, groups_parts, total_of};
+use crate::part::{GroupParts, Part, Pick, buffered_in, first_month, groups_parts, total_of};
 use crate::sums::category_sums;
 use crate::whole::{Whole, whole_of};
 use book_rows::Book;
@@ -120,7 +120,8 @@ fn parts_in<G: Ledger>(alloc: Global, book: &Book, number: u32, steps: &mut Step
     let sums = category_sums(alloc, book, steps)?;
     let groups = groups_of(alloc, book)?;
     let list = groups.as_slice();
-    let parts = groups_parts(alloc, book, &sums, list, 0, number)?;
+    let first = first_month(book, number);
+    let parts = groups_parts(alloc, book, &sums, list, first, number)?;
     Ok(parts)
 }
 
@@ -139,7 +140,8 @@ fn cells_of(alloc: Global, month: u32, groups: &[GroupParts], held: i64) -> Resu
 }
 
 /// The sheet of a month YYYYMM. It takes one pass over the transactions, whatever cells there are: each of them is handed out
-/// once, and what it is a part of once more. Then it looks for each live category at what each month says of it.
+/// once, and what it is a part of once more. Then it looks for each live
+/// category at what each month says of it, from the first month of the book's window on.
 pub fn sheet<G: Ledger>(alloc: Global, book: &Book, month: u32, steps: &mut Steps<G>) -> Result<Sheet, NoMemory>
     requires live { book.now.spent ≡ false }
     requires month { IsTrue (is_month month) }

@@ -10,7 +10,7 @@ ghost use Rattle.envelope_cells.specs.BudgetOf.{budget_of, category_sum, budgete
 ghost use Rattle.envelope_cells.specs.Parts.{AreSums, IsPast, IsMonth, weight_before, part_of, group_of, picked, part_weight, is_side, group_total, side_total, groups_weight};
 
 use crate::groups::BudgetGroup;
-use crate::ids::{budget_id, month_at, month_id};
+use crate::ids::{budget_id, first_of, month_at, month_id};
 use crate::name::{CellKind, CellName};
 use crate::values::CellValues;
 use book_rows::Book;
@@ -161,6 +161,19 @@ fn next(past: Past, month: Month) -> Past
         left: added(month.budget, month.sum, rolled_over(past.carries, past.left)),
         carries: month.carries,
         moved: past.moved + month.sum,
+    }
+}
+
+/// The number of a month before which the book says nothing of any month. It isn't after the month that is asked for.
+pub(crate) fn first_month(book: &Book, number: u32) -> u32
+    requires live { book.now.spent ≡ false }
+    requires number { number < 2760 }
+    ensures within { result ≤ number }
+    ensures quiet { (c : Text) → IsPast (budget_of book.now.rows) c result (record { left = pos 0; carries = false; moved = pos 0 }) }
+{
+    match book.window() {
+        None => number,
+        Some(span) => first_of(span.0, number),
     }
 }
 

@@ -9,8 +9,7 @@ ghost use Rattle.envelope_cells.specs.Parts.{value_at, sum_name, AreSums};
 
 use crate::name::{CellKind, CellName};
 use crate::values::CellValues;
-use book_rows::Book;
-use book_rows::rows::TxRow;
+use book_rows::{Book, TxRow};
 use field_values::{NoMemory, Steps, Txt};
 use std::alloc::Global;
 use std::sync::ledger::Ledger;

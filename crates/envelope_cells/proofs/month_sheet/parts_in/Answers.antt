@@ -9,9 +9,6 @@ use Rattle.envelope_cells.proofs.Bounds.{rows_are_small}
 use Rattle.envelope_cells.proofs.Parts.{groups_small}
 use Rattle.envelope_cells.proofs.month_sheet.parts_in.Goals as goal
 
-pub groups_parts-requires-clause-quiet : goal.groups_parts-requires-clause-quiet
-groups_parts-requires-clause-quiet g c = λ q. record { left = refl; carries = refl; moved = refl }
-
 pub groups_parts-requires-clause-small : goal.groups_parts-requires-clause-small
 groups_parts-requires-clause-small g c =
     let b = budget_of c.args.book.now.rows in
