@@ -45,11 +45,11 @@ number_itself m n h = grind (arith, nat_tests)
 same_sum : (c d : Text) (m n : ℕ) → (eq_by_cmp text_cmp d c && (n == m)) ≡ eq_by_cmp cell_cmp (sum_name c m) (sum_name d n)
 same_sum c d m n = iff_bool _ _
     (λ h. let p = both_true (eq_by_cmp text_cmp d c) (n == m) h in
-      let id : d ≡ c = same_texts d c p.0 in
-      let month : n ≡ m = same_number n m p.1 in
-      subst (λ a. eq_by_cmp cell_cmp (sum_name c m) a ≡ true) {x = sum_name c m} (ap (λ d. sum_name d m) (sym id) ∙ ap (sum_name d) (sym month)) ((eq_by_cmp_equiv cells_total).refl (sum_name c m)))
+    let id : d ≡ c = same_texts d c p.0 in
+    let month : n ≡ m = same_number n m p.1 in
+    subst (λ a. eq_by_cmp cell_cmp (sum_name c m) a ≡ true) {x = sum_name c m} (ap (λ d. sum_name d m) (sym id) ∙ ap (sum_name d) (sym month)) ((eq_by_cmp_equiv cells_total).refl (sum_name c m)))
     (λ h. let names : sum_name c m ≡ sum_name d n = cells_same (sum_name c m) (sum_name d n) (is_equal _ h) in
-      and_both (eq_by_cmp text_cmp d c) (n == m) (subst (λ a. eq_by_cmp text_cmp d a ≡ true) (ap (λ a. a.id) (sym names)) (itself d)) (number_itself n m (ap (λ a. a.month) (sym names))))
+    and_both (eq_by_cmp text_cmp d c) (n == m) (subst (λ a. eq_by_cmp text_cmp d a ≡ true) (ap (λ a. a.id) (sym names)) (itself d)) (number_itself n m (ap (λ a. a.month) (sym names))))
 
 by_test : (b : Bool) (z : ℤ) (o : Option ℤ) → unwrap_or (cond b (Some z) o) (pos 0) ≡ cond b z (unwrap_or o (pos 0))
 by_test true z o = refl
@@ -72,6 +72,6 @@ module _ (r : Rows) (sums new : Cells) (d : Text) (n : ℕ) (x : TxRow) where
       let z = x.amount in
       let of : is_of r c m x ≡ t = ap (λ o. is_text c o && some_and (λ k. k == m) (month_of_row x)) category ∙ ap (λ o. eq_by_cmp text_cmp d c && some_and (λ k. k == m) o) month ∙ same_sum c d m n in
       let left : value_at new (sum_name c m) ≡ cond t (value_at sums (sum_name d n) +ℤ z) (value_at sums (sum_name c m)) =
-        ap (λ s. value_at s (sum_name c m)) e ∙ ap (λ o. unwrap_or o (pos 0)) (get-insert cells_total sums (sum_name d n) (value_at sums (sum_name d n) +ℤ z) (sum_name c m)) ∙ by_test t (value_at sums (sum_name d n) +ℤ z) (get sums (sum_name c m)) in
+      ap (λ s. value_at s (sum_name c m)) e ∙ ap (λ o. unwrap_or o (pos 0)) (get-insert cells_total sums (sum_name d n) (value_at sums (sum_name d n) +ℤ z) (sum_name c m)) ∙ by_test t (value_at sums (sum_name d n) +ℤ z) (get sums (sum_name c m)) in
       let right : share r c m x ≡ only_if t z = ap (λ b. only_if (b && is_of r c m x) z) counted ∙ ap (λ b. only_if b z) of in
       left ∙ at_name sums (sum_name c m) (sum_name d n) z t refl ∙ added_by t (value_at sums (sum_name c m)) z ∙ ap (λ a. value_at sums (sum_name c m) +ℤ a) (sym right)

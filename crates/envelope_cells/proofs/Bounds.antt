@@ -68,6 +68,7 @@ count_month q (suc m) = by (q == month_at m) refl (count_month q m)
         let rise : month_at k < month_at m = month_rises k m l in
         let apart : month_at k < q = omega (arith, rise, e) in
         grind (arith, nat_tests)
+
     by : (b : Bool) → (q == month_at m) ≡ b → count (λ k. q == month_at k) m ≤ 1 → one_if b + count (λ k. q == month_at k) m ≤ 1
     by true p h = omega (arith, count_none (λ k. q == month_at k) m (none (same_number q (month_at m) p)))
     by false p h = omega (arith, h)
@@ -90,6 +91,7 @@ module _ (t : Text × ℕ → Bool) where
       no : (a : Bool) → (a ≡ true → false ≡ true) → a ≡ false
       no true g = sym (g refl)
       no false g = refl
+
       by : (b : Bool) → pc c ≡ b → hits t (row c n) ≤ one_if b
       by true p = omega (arith, hits_row pk c n (λ k l e. (h c k l e).1), few)
       by false p = omega (arith, hits_row (λ k. false) c n (λ k l e. sym p ∙ (h c k l e).0), count_none (λ k. false) n (λ k l. refl))
@@ -109,7 +111,7 @@ module _ {X : Type 0} (f : X → ℤ) (q : Text) where
   found_list (e ∷ es) s = by (eq_by_cmp text_cmp q e.0) refl (found_list es (sorted_tail text_total text_same e es s))
     where
       by : (b : Bool) → eq_by_cmp text_cmp q e.0 ≡ b → value_or_zero f (find text_cmp q es) ≡ total (λ e. only_if (eq_by_cmp text_cmp q e.0) (f e.1)) es
-        → value_or_zero f (cond b (Some e.1) (find text_cmp q es)) ≡ only_if b (f e.1) +ℤ total (λ e. only_if (eq_by_cmp text_cmp q e.0) (f e.1)) es
+          → value_or_zero f (cond b (Some e.1) (find text_cmp q es)) ≡ only_if b (f e.1) +ℤ total (λ e. only_if (eq_by_cmp text_cmp q e.0) (f e.1)) es
       by true p h =
           let gone : find text_cmp q es ≡ None = ap (λ k. find text_cmp k es) (same_texts q e.0 p) ∙ absent e.0 es (both_true _ _ s).0 in
           let none : value_or_zero f (find text_cmp q es) ≡ pos 0 = ap (value_or_zero f) gone in
@@ -183,8 +185,8 @@ module _ (r : Rows) (n : ℕ) (within : n ≤ 2760) where
   budgets_weight =
       let sums : weight (λ p. unsigned_abs (total (λ e. only_if (budget_test e p) e.1.amount) (entries r.budgets))) (pairs cats n) ≤ weight budget_weight (entries r.budgets) = no_overlap (λ p e. budget_test e p) (λ e. e.1.amount) (pairs cats n) (entries r.budgets) budget_once in
       let same : weight (λ p. unsigned_abs (budgeted r p.0 (month_at p.1))) (pairs cats n) ≤ weight (λ p. unsigned_abs (total (λ e. only_if (budget_test e p) e.1.amount) (entries r.budgets))) (pairs cats n) =
-        weight_le (λ p. unsigned_abs (budgeted r p.0 (month_at p.1))) (λ p. unsigned_abs (total (λ e. only_if (budget_test e p) e.1.amount) (entries r.budgets))) (pairs cats n)
-          (λ p. omega (arith, ap unsigned_abs (found_is (λ (x : BudgetRow). x.amount) (budget_id p.0 (month_at p.1)) r.budgets))) in
+      weight_le (λ p. unsigned_abs (budgeted r p.0 (month_at p.1))) (λ p. unsigned_abs (total (λ e. only_if (budget_test e p) e.1.amount) (entries r.budgets))) (pairs cats n)
+      (λ p. omega (arith, ap unsigned_abs (found_is (λ (x : BudgetRow). x.amount) (budget_id p.0 (month_at p.1)) r.budgets))) in
       omega (arith, sums, same)
 
   row_weight : (c : Text) (m : ℕ) → weight (λ p. unsigned_abs (budgeted r p.0 (month_at p.1)) + unsigned_abs (category_sum r p.0 (month_at p.1))) (row c m) ≡ weight_before (budget_of r) c m
@@ -193,9 +195,9 @@ module _ (r : Rows) (n : ℕ) (within : n ≤ 2760) where
 
   pub rows_are_small : HasSizes r → IsSmall (budget_of r) n
   rows_are_small h = record {
-      all =
+    all =
         let f = λ (p : Text × ℕ). unsigned_abs (budgeted r p.0 (month_at p.1)) in
         let g = λ (p : Text × ℕ). unsigned_abs (category_sum r p.0 (month_at p.1)) in
         let whole : weight (λ p. f p + g p) (pairs cats n) ≡ weight (λ c. weight_before (budget_of r) c n) cats = weight_pairs (λ p. f p + g p) (weight_before (budget_of r)) row_weight n cats in
         omega (arith, whole, weight_both f g (pairs cats n), sums_weight, budgets_weight, txs_small r h, budgets_small r h);
-    }
+  }

@@ -45,7 +45,7 @@ module _ {V : Type 0} (r : Text → V → Bool) where
   hits-insert k v (e ∷ es) = by (place_cmp k e.0) refl (hits-insert k v es)
     where
       by : (o : Ordering) → place_cmp k e.0 ≡ o → hits (λ e. r e.0.id e.1) (insert_entry place_cmp es k v) ≤ one_if (r k.id v) + hits (λ e. r e.0.id e.1) es
-        → hits (λ e. r e.0.id e.1) (match_ordering o ((k, v) ∷ e ∷ es) ((e.0, v) ∷ es) (e ∷ insert_entry place_cmp es k v)) ≤ one_if (r k.id v) + (one_if (r e.0.id e.1) + hits (λ e. r e.0.id e.1) es)
+          → hits (λ e. r e.0.id e.1) (match_ordering o ((k, v) ∷ e ∷ es) ((e.0, v) ∷ es) (e ∷ insert_entry place_cmp es k v)) ≤ one_if (r k.id v) + (one_if (r e.0.id e.1) + hits (λ e. r e.0.id e.1) es)
       by Less p h = omega arith
       by Equal p h =
           let same : k.id ≡ e.0.id = text_same k.id e.0.id (then_equal (int_cmp k.sort_order e.0.sort_order) (text_cmp k.id e.0.id) p) in
@@ -64,7 +64,7 @@ module _ {X : Type 0} (q : Text) (t : X → Bool) where
   once (e ∷ es) s = by (eq_by_cmp text_cmp q e.0) refl (once es (sorted_tail text_total text_same e es s))
     where
       by : (b : Bool) → eq_by_cmp text_cmp q e.0 ≡ b → hits (λ e. eq_by_cmp text_cmp q e.0 && t e.1) es ≤ one_if (some_and t (find text_cmp q es))
-        → one_if (b && t e.1) + hits (λ e. eq_by_cmp text_cmp q e.0 && t e.1) es ≤ one_if (some_and t (cond b (Some e.1) (find text_cmp q es)))
+          → one_if (b && t e.1) + hits (λ e. eq_by_cmp text_cmp q e.0 && t e.1) es ≤ one_if (some_and t (cond b (Some e.1) (find text_cmp q es)))
       by true p h =
           let gone : find text_cmp q es ≡ None = ap (λ k. find text_cmp k es) (same_texts q e.0 p) ∙ absent e.0 es (both_true _ _ s).0 in
           let none : one_if (some_and t (find text_cmp q es)) ≡ 0 = ap (λ o. one_if (some_and t o)) gone in
@@ -77,7 +77,7 @@ module _ {X : Type 0} (q : Text) (t : X → Bool) where
   fewer u (e ∷ es) = by (u e.1) (fewer u es)
     where
       by : (b : Bool) → hits (λ e. eq_by_cmp text_cmp q e.0 && t e.1) (filter (λ e. u e.1) es) ≤ hits (λ e. eq_by_cmp text_cmp q e.0 && t e.1) es
-        → hits (λ e. eq_by_cmp text_cmp q e.0 && t e.1) (cond b (e ∷ filter (λ e. u e.1) es) (filter (λ e. u e.1) es)) ≤ one_if (eq_by_cmp text_cmp q e.0 && t e.1) + hits (λ e. eq_by_cmp text_cmp q e.0 && t e.1) es
+          → hits (λ e. eq_by_cmp text_cmp q e.0 && t e.1) (cond b (e ∷ filter (λ e. u e.1) es) (filter (λ e. u e.1) es)) ≤ one_if (eq_by_cmp text_cmp q e.0 && t e.1) + hits (λ e. eq_by_cmp text_cmp q e.0 && t e.1) es
       by true h = omega (arith, h)
       by false h = omega (arith, h)
 

@@ -101,7 +101,7 @@ any_insert {V} r k v (e ∷ es) h =
     by (place_cmp k e.0) refl (any_insert r k v es (or_second (eq_by_cmp text_cmp k.id e.0.id) (has k.id es) h)) (or_first (eq_by_cmp text_cmp k.id e.0.id) (has k.id es) h)
   where
     by : (o : Ordering) → place_cmp k e.0 ≡ o → list_any (λ e. r e.0.id e.1) (insert_entry place_cmp es k v) ≡ (r k.id v || list_any (λ e. r e.0.id e.1) es) → eq_by_cmp text_cmp k.id e.0.id ≡ false
-      → list_any (λ (e : Place × V). r e.0.id e.1) (match_ordering o ((k, v) ∷ e ∷ es) ((e.0, v) ∷ es) (e ∷ insert_entry place_cmp es k v)) ≡ (r k.id v || (r e.0.id e.1 || list_any (λ e. r e.0.id e.1) es))
+        → list_any (λ (e : Place × V). r e.0.id e.1) (match_ordering o ((k, v) ∷ e ∷ es) ((e.0, v) ∷ es) (e ∷ insert_entry place_cmp es k v)) ≡ (r k.id v || (r e.0.id e.1 || list_any (λ e. r e.0.id e.1) es))
     by Less p rest other = refl
     by Equal p rest other =
         let same : k.id ≡ e.0.id = text_same k.id e.0.id (then_equal (int_cmp k.sort_order e.0.sort_order) (text_cmp k.id e.0.id) p) in
@@ -147,8 +147,8 @@ module _ {X V : Type 0} (s : X → ℤ) (f : X → V) (live : X → Bool) where
   fresh [] s done h = tt
   fresh (e ∷ es) s done h =
       by (live e.1) (not_done e es done h)
-        (fresh es (sorted_tail text_total text_same e es s) (place_of e ∷ done) ((both_true (below_all text_cmp e.0 es) (is_sorted text_cmp es) s).0, tails e es done h))
-        (fresh es (sorted_tail text_total text_same e es s) done (tails e es done h))
+      (fresh es (sorted_tail text_total text_same e es s) (place_of e ∷ done) ((both_true (below_all text_cmp e.0 es) (is_sorted text_cmp es) s).0, tails e es done h))
+      (fresh es (sorted_tail text_total text_same e es s) done (tails e es done h))
     where
       by : (b : Bool) → has e.0 done ≡ false → IsFresh (map place_of (filter (λ e. live e.1) es)) (place_of e ∷ done) → IsFresh (map place_of (filter (λ e. live e.1) es)) done → IsFresh (map place_of (cond b (e ∷ filter (λ e. live e.1) es) (filter (λ e. live e.1) es))) done
       by true p q r = (p, q)
@@ -161,7 +161,7 @@ module _ {X : Type 0} (p : X → Bool) (q : Text) where
   found_any (e ∷ es) s = by (eq_by_cmp text_cmp q e.0) refl (found_any es (sorted_tail text_total text_same e es s))
     where
       by : (b : Bool) → eq_by_cmp text_cmp q e.0 ≡ b → list_any (λ e. eq_by_cmp text_cmp q e.0 && p e.1) es ≡ some_and p (find text_cmp q es)
-        → ((b && p e.1) || list_any (λ e. eq_by_cmp text_cmp q e.0 && p e.1) es) ≡ some_and p (cond b (Some e.1) (find text_cmp q es))
+          → ((b && p e.1) || list_any (λ e. eq_by_cmp text_cmp q e.0 && p e.1) es) ≡ some_and p (cond b (Some e.1) (find text_cmp q es))
       by true k h =
           let gone : find text_cmp q es ≡ None = ap (λ k. find text_cmp k es) (same_texts q e.0 k) ∙ absent e.0 es (both_true (below_all text_cmp e.0 es) (is_sorted text_cmp es) s).0 in
           ap (λ t. p e.1 || t) (h ∙ ap (some_and p) gone) ∙ or_none (p e.1)
@@ -209,7 +209,7 @@ module _ (rows : Rows) where
   side_any u q (e ∷ gs) = by (u e.1) (side_any u q gs)
     where
       by : (b : Bool) → is_among text_cmp (categories_of (filter (λ g. u g.is_income) (with_categories category_list gs))) q ≡ list_any (λ e. u e.1 && is_among text_cmp (ids_of_group e.0.id category_list) q) gs
-        → is_among text_cmp (categories_of (cond b (record { id = e.0.id; is_income = e.1; categories = ids_of_group e.0.id category_list } ∷ filter (λ g. u g.is_income) (with_categories category_list gs)) (filter (λ g. u g.is_income) (with_categories category_list gs)))) q
+          → is_among text_cmp (categories_of (cond b (record { id = e.0.id; is_income = e.1; categories = ids_of_group e.0.id category_list } ∷ filter (λ g. u g.is_income) (with_categories category_list gs)) (filter (λ g. u g.is_income) (with_categories category_list gs)))) q
           ≡ ((b && is_among text_cmp (ids_of_group e.0.id category_list) q) || list_any (λ e. u e.1 && is_among text_cmp (ids_of_group e.0.id category_list) q) gs)
       by true h = among-append (ids_of_group e.0.id category_list) (categories_of (filter (λ g. u g.is_income) (with_categories category_list gs))) q ∙ ap (λ t. is_among text_cmp (ids_of_group e.0.id category_list) q || t) h
       by false h = h
@@ -273,12 +273,12 @@ module _ (rows : Rows) where
 
   pub live_ones_are_listed_lem : LiveOnesAreListed rows
   live_ones_are_listed_lem = record {
-      group = λ q. among_any (map (λ g. g.id) (groups_of rows)) q
+    group = λ q. among_any (map (λ g. g.id) (groups_of rows)) q
         ∙ any-map (eq_by_cmp text_cmp q) (λ (g : BudgetGroup). g.id) (groups_of rows)
         ∙ any-map (λ (g : BudgetGroup). eq_by_cmp text_cmp q g.id) (λ (e : Place × Bool). record { id = e.0.id; is_income = e.1; categories = ids_of_group e.0.id (category_list rows) }) (group_list rows)
         ∙ any_same (λ e. eq_by_cmp text_cmp q e.0.id) (λ e. eq_by_cmp text_cmp q e.0.id && true) (group_list rows) (λ e. sym (and_true (eq_by_cmp text_cmp q e.0.id)))
         ∙ group_found rows (λ b. true) q;
-      category = λ q. ap (λ gs. is_among text_cmp (categories_of gs) q) (sym (all_pass (groups_of rows))) ∙ side_found rows (λ b. true) q;
-      income = λ q. side_found rows (λ b. b) q ∙ some_same (side_row rows (λ b. b)) (λ c. is_live_category_row rows c && has_income_group rows c) (get rows.categories q) income_row;
-      expense = λ q. side_found rows not q ∙ some_same (side_row rows not) (λ c. is_live_category_row rows c && not (has_income_group rows c)) (get rows.categories q) expense_row;
-    }
+    category = λ q. ap (λ gs. is_among text_cmp (categories_of gs) q) (sym (all_pass (groups_of rows))) ∙ side_found rows (λ b. true) q;
+    income = λ q. side_found rows (λ b. b) q ∙ some_same (side_row rows (λ b. b)) (λ c. is_live_category_row rows c && has_income_group rows c) (get rows.categories q) income_row;
+    expense = λ q. side_found rows not q ∙ some_same (side_row rows not) (λ c. is_live_category_row rows c && not (has_income_group rows c)) (get rows.categories q) expense_row;
+  }

@@ -34,30 +34,30 @@ taken_next b c m = rw add-one refl
 
 pub leftovers_are_made_lem : (b : Budget) (c : Text) → LeftoversAreMade b c
 leftovers_are_made_lem b c = record {
-    first = omega (arith, ints, clamps);
-    left = λ m h. next b c m ∙ ap (λ z. (b.budgeted c (m + 1) +ℤ b.category_sum c (m + 1)) +ℤ z) (rolled_left (b.carries c m) (leftover b c m) h);
-    flagged = λ m h. next b c m ∙ ap (λ f. (b.budgeted c (m + 1) +ℤ b.category_sum c (m + 1)) +ℤ rolled f (leftover b c m)) h;
-    overspent = λ m h k. next b c m ∙ ap (λ f. (b.budgeted c (m + 1) +ℤ b.category_sum c (m + 1)) +ℤ rolled f (leftover b c m)) h ∙ omega (arith, ints, rolled_over (leftover b c m) k);
-  }
+  first = omega (arith, ints, clamps);
+  left = λ m h. next b c m ∙ ap (λ z. (b.budgeted c (m + 1) +ℤ b.category_sum c (m + 1)) +ℤ z) (rolled_left (b.carries c m) (leftover b c m) h);
+  flagged = λ m h. next b c m ∙ ap (λ f. (b.budgeted c (m + 1) +ℤ b.category_sum c (m + 1)) +ℤ rolled f (leftover b c m)) h;
+  overspent = λ m h k. next b c m ∙ ap (λ f. (b.budgeted c (m + 1) +ℤ b.category_sum c (m + 1)) +ℤ rolled f (leftover b c m)) h ∙ omega (arith, ints, rolled_over (leftover b c m) k);
+}
 
 pub overspending_is_taken_lem : (b : Budget) (c : Text) → OverspendingIsTaken b c
 overspending_is_taken_lem b c = record {
-    first = refl;
-    left = λ m h. taken_next b c m ∙ taken_left (b.carries c m) (leftover b c m) h;
-    flagged = λ m h. taken_next b c m ∙ ap (λ f. taken f (leftover b c m)) h;
-    overspent = λ m h k. taken_next b c m ∙ ap (λ f. taken f (leftover b c m)) h ∙ taken_over (leftover b c m) k;
-    either = λ m. omega (arith, ints, next b c m, taken_next b c m, rolled_and_taken (b.carries c m) (leftover b c m));
-  }
+  first = refl;
+  left = λ m h. taken_next b c m ∙ taken_left (b.carries c m) (leftover b c m) h;
+  flagged = λ m h. taken_next b c m ∙ ap (λ f. taken f (leftover b c m)) h;
+  overspent = λ m h k. taken_next b c m ∙ ap (λ f. taken f (leftover b c m)) h ∙ taken_over (leftover b c m) k;
+  either = λ m. omega (arith, ints, next b c m, taken_next b c m, rolled_and_taken (b.carries c m) (leftover b c m));
+}
 
 back : (z : ℤ) → neg_ℤ z +ℤ z ≡ pos 0
 back z = omega (arith, ints)
 
 pub months_are_made_lem : (b : Budget) → MonthsAreMade b
 months_are_made_lem b = record {
-    first = refl;
-    from_last = λ m. rw add-one refl;
-    available = λ m. refl;
-    overspent = λ m. refl;
-    budgeted = λ m. back (all_budgeted b m);
-    to_budget = λ m. refl;
-  }
+  first = refl;
+  from_last = λ m. rw add-one refl;
+  available = λ m. refl;
+  overspent = λ m. refl;
+  budgeted = λ m. back (all_budgeted b m);
+  to_budget = λ m. refl;
+}

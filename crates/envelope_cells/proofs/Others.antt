@@ -89,8 +89,8 @@ module _ (a b : Budget) (e : AgreeOnLive a b) where
   group_same f g [] id h = refl
   group_same f g (k ∷ gs) id h =
       by (eq_by_cmp text_cmp id k.id)
-        (ap Some (total_on f g k.categories (λ c m. h c (in_front k.categories (categories_of gs) c m))))
-        (group_same f g gs id (λ c m. h c (in_back k.categories (categories_of gs) c m)))
+      (ap Some (total_on f g k.categories (λ c m. h c (in_front k.categories (categories_of gs) c m))))
+      (group_same f g gs id (λ c m. h c (in_back k.categories (categories_of gs) c m)))
     where
       by : (t : Bool) → Some (total f k.categories) ≡ Some (total g k.categories) → of_group f (group_named gs id) ≡ of_group g (group_named gs id) → of_group f (cond t (Some k) (group_named gs id)) ≡ of_group g (cond t (Some k) (group_named gs id))
       by true p q = p
@@ -170,6 +170,6 @@ no_value b m Leftover id t h = no_category (expense b) id (leftover b id m) (not
 
 pub others_count_nowhere_lem : OthersCountNowhere
 others_count_nowhere_lem = record {
-    same = λ a b e name. value_same a b e _ name.kind name.id;
-    none = λ b name t h. no_value b _ name.kind name.id t h;
-  }
+  same = λ a b e name. value_same a b e _ name.kind name.id;
+  none = λ b name t h. no_value b _ name.kind name.id t h;
+}

@@ -84,7 +84,7 @@ module _ (b : Budget) (m : ℕ) (k : Pick) where
   side_income (g ∷ gs) = by g.is_income (side_income gs)
     where
       by : (t : Bool) → side_total k true (map (group_of b m) gs) ≡ total (λ c. picked k (part_of b m c)) (categories_of (filter (λ g. g.is_income) gs))
-        → only_if t (group_total k (group_of b m g)) +ℤ side_total k true (map (group_of b m) gs) ≡ total (λ c. picked k (part_of b m c)) (categories_of (cond t (g ∷ filter (λ g. g.is_income) gs) (filter (λ g. g.is_income) gs)))
+          → only_if t (group_total k (group_of b m g)) +ℤ side_total k true (map (group_of b m) gs) ≡ total (λ c. picked k (part_of b m c)) (categories_of (cond t (g ∷ filter (λ g. g.is_income) gs) (filter (λ g. g.is_income) gs)))
       by true h = omega (arith, ints, h, total-map (picked k) (part_of b m) g.categories, total-append (λ c. picked k (part_of b m c)) g.categories (categories_of (filter (λ g. g.is_income) gs)))
       by false h = omega (arith, ints, h)
 
@@ -93,7 +93,7 @@ module _ (b : Budget) (m : ℕ) (k : Pick) where
   side_expense (g ∷ gs) = by g.is_income (side_expense gs)
     where
       by : (t : Bool) → side_total k false (map (group_of b m) gs) ≡ total (λ c. picked k (part_of b m c)) (categories_of (filter (λ g. not g.is_income) gs))
-        → only_if (not t) (group_total k (group_of b m g)) +ℤ side_total k false (map (group_of b m) gs) ≡ total (λ c. picked k (part_of b m c)) (categories_of (cond (not t) (g ∷ filter (λ g. not g.is_income) gs) (filter (λ g. not g.is_income) gs)))
+          → only_if (not t) (group_total k (group_of b m g)) +ℤ side_total k false (map (group_of b m) gs) ≡ total (λ c. picked k (part_of b m c)) (categories_of (cond (not t) (g ∷ filter (λ g. not g.is_income) gs) (filter (λ g. not g.is_income) gs)))
       by true h = omega (arith, ints, h)
       by false h = omega (arith, ints, h, total-map (picked k) (part_of b m) g.categories, total-append (λ c. picked k (part_of b m c)) g.categories (categories_of (filter (λ g. not g.is_income) gs)))
 
@@ -104,16 +104,16 @@ moved_is b (suc m) = omega (arith, ints, moved_is b m, total-plus (λ c. sums_be
 
 abbrev pub whole : Budget → ℕ → Whole
 whole b m = record {
-    income = total_income b m;
-    from_last = from_last_month b m;
-    available = available_funds b m;
-    overspent = last_month_overspent b m;
-    budgeted = total_budgeted b m;
-    buffered = b.buffered m;
-    to_budget = to_budget b m;
-    spent = total_spent b m;
-    leftover = total_leftover b m;
-  }
+  income = total_income b m;
+  from_last = from_last_month b m;
+  available = available_funds b m;
+  overspent = last_month_overspent b m;
+  budgeted = total_budgeted b m;
+  buffered = b.buffered m;
+  to_budget = to_budget b m;
+  spent = total_spent b m;
+  leftover = total_leftover b m;
+}
 
 module _ (b : Budget) (m : ℕ) where
   abbrev gs : List GroupParts

@@ -22,10 +22,10 @@ module _ (b : Budget) (c : Text) where
 
   pub past_next : (k : ℕ) (p : Past) (m : Month) (q : Past) → IsPast b c k p → IsMonth b c k m → q.left ≡ (m.budget +ℤ m.sum) +ℤ rolled p.carries p.left → q.carries ≡ m.carries → q.moved ≡ p.moved +ℤ m.sum → IsPast b c (k + 1) q
   past_next k p m q past month left carries moved = record {
-      left = rw add-one (left_next k p m q.left past month left);
-      carries = rw add-one (carries ∙ month.carries);
-      moved = rw add-one (moved ∙ ap (λ z. z +ℤ m.sum) past.moved ∙ ap (λ z. sums_before b c k +ℤ z) month.sum);
-    }
+    left = rw add-one (left_next k p m q.left past month left);
+    carries = rw add-one (carries ∙ month.carries);
+    moved = rw add-one (moved ∙ ap (λ z. z +ℤ m.sum) past.moved ∙ ap (λ z. sums_before b c k +ℤ z) month.sum);
+  }
 
   -- it stays small
   pub left_within : (k n : ℕ) (p : Past) → IsPast b c k p → k ≤ n → weight_before b c n ≤ 2 ^ 120 → unsigned_abs p.left ≤ 2 ^ 120

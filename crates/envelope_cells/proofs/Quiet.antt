@@ -57,8 +57,8 @@ pub budget_month_back : (c : Text) (m : ℕ) → m < 1000000 → is_month m ≡ 
 unfolding budget_month
 budget_month_back c m h valid =
     let years : four_at (budget_id c m) 0 ≡ Some (100 * (10 * (m / 100 / 100 / 10 % 10) + m / 100 / 100 % 10) + (10 * (m / 100 / 10 % 10) + m / 100 % 10)) =
-      ap (λ o. behind 100 o (two_at (budget_id c m) 2)) (both 10 (m / 100 / 100 / 10 % 10) (m / 100 / 100 % 10) (omega arith) (omega arith))
-      ∙ ap (behind 100 (Some (10 * (m / 100 / 100 / 10 % 10) + m / 100 / 100 % 10))) (both 10 (m / 100 / 10 % 10) (m / 100 % 10) (omega arith) (omega arith)) in
+    ap (λ o. behind 100 o (two_at (budget_id c m) 2)) (both 10 (m / 100 / 100 / 10 % 10) (m / 100 / 100 % 10) (omega arith) (omega arith))
+    ∙ ap (behind 100 (Some (10 * (m / 100 / 100 / 10 % 10) + m / 100 / 100 % 10))) (both 10 (m / 100 / 10 % 10) (m / 100 % 10) (omega arith) (omega arith)) in
     let months : two_at (budget_id c m) 4 ≡ Some (10 * (m / 10 % 10) + m % 10) = both 10 (m / 10 % 10) (m % 10) (omega arith) (omega arith) in
     ap (λ b. cond b None (month_in (behind 100 (four_at (budget_id c m) 0) (two_at (budget_id c m) 4)))) (long (length c))
     ∙ ap (λ o. month_in (behind 100 o (two_at (budget_id c m) 4))) years
@@ -82,6 +82,7 @@ module _ (r : Rows) (month : ℕ) (none : HasRowIn r month → ⊥) where
       stop : (m : ℕ) → month_of_row x ≡ Some m → (b : Bool) → (m == month) ≡ b → b ≡ false
       stop m e true p = absurd (none (inl (q, x, found, e ∙ ap Some (same_number m month p))))
       stop m e false p = refl
+
       by : (o : Option ℕ) → month_of_row x ≡ o → only_if (is_counted r x && (is_text c (category_of r x) && some_and (λ m. m == month) o)) x.amount ≡ pos 0
       by None e = ap (λ b. only_if b x.amount) (and_false (is_counted r x) (is_text c (category_of r x)))
       by (Some m) e = ap (λ t. only_if (is_counted r x && (is_text c (category_of r x) && t)) x.amount) (stop m e (m == month) refl) ∙ ap (λ b. only_if b x.amount) (and_false (is_counted r x) (is_text c (category_of r x)))

@@ -174,7 +174,7 @@ module _ (b : Budget) (month m : ℕ) (id : Text) where
       ∙ by g.is_income
     where
       by : (t : Bool) → or_else (value_named (categories_cells b month m t g.categories) (name month k id)) (of_category (categories_of (filter (λ g. not g.is_income) gs)) id z)
-        ≡ of_category (categories_of (cond (not t) (g ∷ filter (λ g. not g.is_income) gs) (filter (λ g. not g.is_income) gs))) id z
+          ≡ of_category (categories_of (cond (not t) (g ∷ filter (λ g. not g.is_income) gs) (filter (λ g. not g.is_income) gs))) id z
       by true = ap (λ o. or_else o (of_category (categories_of (filter (λ g. not g.is_income) gs)) id z)) (high_kinds k h g.categories)
       by false = ap (λ o. or_else o (of_category (categories_of (filter (λ g. not g.is_income) gs)) id z)) (inside g.categories) ∙ merged g.categories (categories_of (filter (λ g. not g.is_income) gs)) z
 
@@ -190,7 +190,7 @@ module _ (b : Budget) (month m : ℕ) (id : Text) where
   group_sums [] = refl
   group_sums (g ∷ gs) =
       step GroupSum g gs (cond (eq_by_cmp text_cmp id g.id) (Some (total (λ c. b.category_sum c m) g.categories)) None) None (of_group (λ c. b.category_sum c m) (group_named gs id))
-        (look month GroupSum id g.id (total (λ c. b.category_sum c m) g.categories) (cond g.is_income [] (cell month GroupBudget g.id (total (λ c. b.budgeted c m) g.categories) ∷ cell month GroupLeftover g.id (total (λ c. leftover b c m) g.categories) ∷ [])) ∙ ap (cond (eq_by_cmp text_cmp id g.id) (Some (total (λ c. b.category_sum c m) g.categories))) (by g.is_income)) (low_kinds GroupSum (omega arith) g.is_income g.categories) (group_sums gs)
+      (look month GroupSum id g.id (total (λ c. b.category_sum c m) g.categories) (cond g.is_income [] (cell month GroupBudget g.id (total (λ c. b.budgeted c m) g.categories) ∷ cell month GroupLeftover g.id (total (λ c. leftover b c m) g.categories) ∷ [])) ∙ ap (cond (eq_by_cmp text_cmp id g.id) (Some (total (λ c. b.category_sum c m) g.categories))) (by g.is_income)) (low_kinds GroupSum (omega arith) g.is_income g.categories) (group_sums gs)
       ∙ chosen (λ c. b.category_sum c m) g gs
     where
       by : (t : Bool) → value_named (cond t [] (cell month GroupBudget g.id (total (λ c. b.budgeted c m) g.categories) ∷ cell month GroupLeftover g.id (total (λ c. leftover b c m) g.categories) ∷ [])) (name month GroupSum id) ≡ None
@@ -208,7 +208,7 @@ module _ (b : Budget) (month m : ℕ) (id : Text) where
       ∙ by g.is_income
     where
       by : (t : Bool) → or_else (or_else (value_named (cell month GroupSum g.id (total (λ c. b.category_sum c m) g.categories) ∷ cond t [] (cell month GroupBudget g.id (total (λ c. b.budgeted c m) g.categories) ∷ cell month GroupLeftover g.id (total (λ c. leftover b c m) g.categories) ∷ [])) (name month k id)) None) (of_group f (group_named (filter (λ g. not g.is_income) gs) id))
-        ≡ of_group f (group_named (cond (not t) (g ∷ filter (λ g. not g.is_income) gs) (filter (λ g. not g.is_income) gs)) id)
+          ≡ of_group f (group_named (cond (not t) (g ∷ filter (λ g. not g.is_income) gs) (filter (λ g. not g.is_income) gs)) id)
       by true = ap (λ o. or_else (or_else o None) (of_group f (group_named (filter (λ g. not g.is_income) gs) id))) (none g)
       by false = ap (λ o. or_else (or_else o None) (of_group f (group_named (filter (λ g. not g.is_income) gs) id))) (own g) ∙ chosen f g (filter (λ g. not g.is_income) gs)
 

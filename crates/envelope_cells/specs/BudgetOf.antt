@@ -42,9 +42,9 @@ groups_of rows = with_categories (placed (category_places (map.entries rows.cate
 -- the budget of a book. Which rows are live is read from the rows as they are now, for every month
 abbrev pub budget_of : Rows → Budget
 budget_of rows = record {
-    groups = groups_of rows;
-    category_sum = λ c m. category_sum rows c (month_at m);
-    budgeted = λ c m. budgeted rows c (month_at m);
-    carries = λ c m. carries rows c (month_at m);
-    buffered = λ m. buffered rows (month_at m);
-  }
+  groups = groups_of rows;
+  category_sum = λ c m. category_sum rows c (month_at m);
+  budgeted = λ c m. budgeted rows c (month_at m);
+  carries = λ c m. carries rows c (month_at m);
+  buffered = λ m. buffered rows (month_at m);
+}

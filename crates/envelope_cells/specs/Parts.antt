@@ -60,15 +60,15 @@ pub record IsMonth (b : Budget) (c : Text) (m : ℕ) (p : Month) : Type 0 where
 -- what a category has in month m
 abbrev pub part_of : Budget → ℕ → Text → Part
 part_of b m c = record {
-    id = c;
-    sum = b.category_sum c m;
-    budget = b.budgeted c m;
-    carries = b.carries c m;
-    leftover = leftover b c m;
-    before = leftover_before b c m;
-    taken = taken_from b c m;
-    moved = sums_before b c m;
-  }
+  id = c;
+  sum = b.category_sum c m;
+  budget = b.budgeted c m;
+  carries = b.carries c m;
+  leftover = leftover b c m;
+  before = leftover_before b c m;
+  taken = taken_from b c m;
+  moved = sums_before b c m;
+}
 
 abbrev pub group_of : Budget → ℕ → BudgetGroup → GroupParts
 group_of b m g = record { id = g.id; is_income = g.is_income; parts = map (part_of b m) g.categories }

@@ -23,16 +23,16 @@ from_last gs = (side_total Moved true gs +ℤ side_total Moved false gs) -ℤ si
 -- the amounts of the whole month
 abbrev pub whole_of : List GroupParts → ℤ → Whole
 whole_of gs held = record {
-    income = side_total OfSums true gs;
-    from_last = from_last gs;
-    available = side_total OfSums true gs +ℤ from_last gs;
-    overspent = side_total Taken false gs;
-    budgeted = neg_ℤ (side_total OfBudgets false gs);
-    buffered = held;
-    to_budget = (((side_total OfSums true gs +ℤ from_last gs) +ℤ side_total Taken false gs) +ℤ neg_ℤ (side_total OfBudgets false gs)) -ℤ held;
-    spent = side_total OfSums false gs;
-    leftover = side_total OfLeftovers false gs;
-  }
+  income = side_total OfSums true gs;
+  from_last = from_last gs;
+  available = side_total OfSums true gs +ℤ from_last gs;
+  overspent = side_total Taken false gs;
+  budgeted = neg_ℤ (side_total OfBudgets false gs);
+  buffered = held;
+  to_budget = (((side_total OfSums true gs +ℤ from_last gs) +ℤ side_total Taken false gs) +ℤ neg_ℤ (side_total OfBudgets false gs)) -ℤ held;
+  spent = side_total OfSums false gs;
+  leftover = side_total OfLeftovers false gs;
+}
 
 -- their cells, under the id that is none
 abbrev pub funds_cells : ℕ → Text → Whole → List Cell

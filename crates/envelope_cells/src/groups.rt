@@ -125,7 +125,11 @@ fn copy_of(text: &Option<Txt>) -> Result<Option<Txt>, NoMemory>
 }
 
 /// Puts a category in its place, if it was not deleted.
-fn place_category(found: &mut BTreeMap<Place, Option<Txt>>, id: &Txt, row: &CategoryRow) -> Result<(), NoMemory>
+fn place_category(
+    found: &mut BTreeMap<Place, Option<Txt>>,
+    id: &Txt,
+    row: &CategoryRow,
+) -> Result<(), NoMemory>
     ensures { OnOk result ((rest : List (Text × CategoryRowIs)) → placed (category_places rest) found.new.entries ≡ placed (category_places ((id.now, row.now) ∷ rest)) found.old.entries) }
 {
     if row.tombstone {
@@ -161,7 +165,11 @@ fn is_text(id: &Txt, text: &Option<Txt>) -> bool
 }
 
 /// The categories of a group.
-fn ids_of_group(alloc: Global, group: &Txt, categories: &BTreeMap<Place, Option<Txt>>) -> Result<Items<Txt>, NoMemory>
+fn ids_of_group(
+    alloc: Global,
+    group: &Txt,
+    categories: &BTreeMap<Place, Option<Txt>>,
+) -> Result<Items<Txt>, NoMemory>
     ensures { IfOk result (λ ids. ids ≡ ids_of_group group.now categories.now.entries) }
 {
     let mut ids = Vec::new(alloc);

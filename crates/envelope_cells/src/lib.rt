@@ -11,15 +11,15 @@ pub mod month_sheet;
 pub mod name;
 mod part;
 mod sums;
-mod whole;
 mod text;
 pub mod values;
+mod whole;
 
 pub use laws::{
     leftovers_are_made, live_ones_are_listed, money_is_kept, months_are_made, others_count_nowhere,
     overspending_is_taken, sheets_tell_cells,
 };
-pub use name::{Cell, CellKind, CellName};
 pub use month_sheet::sheet;
+pub use name::{Cell, CellKind, CellName};
 pub use text::sheet_text;
 pub use values::CellValues;

@@ -21,7 +21,13 @@ use std::alloc::Global;
 use std::sync::ledger::Ledger;
 
 /// Puts a cell behind others.
-fn push(cells: &mut Vec<Cell>, month: u32, kind: CellKind, id: &Txt, value: i128) -> Result<(), NoMemory>
+fn push(
+    cells: &mut Vec<Cell>,
+    month: u32,
+    kind: CellKind,
+    id: &Txt,
+    value: i128,
+) -> Result<(), NoMemory>
     ensures { OnOk result (cells.new.items ≡ cells.old.items ++ cell month kind id.now value ∷ []) }
 {
     let name = CellName::make(month, kind, id)?;
@@ -34,9 +40,27 @@ fn push_funds(cells: &mut Vec<Cell>, month: u32, empty: &Txt, whole: &Whole) -> 
     ensures { OnOk result (cells.new.items ≡ cells.old.items ++ funds_cells month empty.now whole.now) }
 {
     push(cells, month, CellKind::TotalIncome, empty, whole.income)?;
-    push(cells, month, CellKind::FromLastMonth, empty, whole.from_last)?;
-    push(cells, month, CellKind::AvailableFunds, empty, whole.available)?;
-    push(cells, month, CellKind::LastMonthOverspent, empty, whole.overspent)
+    push(
+        cells,
+        month,
+        CellKind::FromLastMonth,
+        empty,
+        whole.from_last,
+    )?;
+    push(
+        cells,
+        month,
+        CellKind::AvailableFunds,
+        empty,
+        whole.available,
+    )?;
+    push(
+        cells,
+        month,
+        CellKind::LastMonthOverspent,
+        empty,
+        whole.overspent,
+    )
 }
 
 /// Puts the other cells of the whole month behind others.
@@ -51,7 +75,12 @@ fn push_rest(cells: &mut Vec<Cell>, month: u32, empty: &Txt, whole: &Whole) -> R
 }
 
 /// Puts the cells of a category behind others.
-fn push_part(cells: &mut Vec<Cell>, month: u32, is_income: bool, part: &Part) -> Result<(), NoMemory>
+fn push_part(
+    cells: &mut Vec<Cell>,
+    month: u32,
+    is_income: bool,
+    part: &Part,
+) -> Result<(), NoMemory>
     ensures { OnOk result (cells.new.items ≡ cells.old.items ++ part_cells month is_income part.now) }
 {
     push(cells, month, CellKind::Sum, &part.id, part.sum)?;
@@ -65,7 +94,12 @@ fn push_part(cells: &mut Vec<Cell>, month: u32, is_income: bool, part: &Part) ->
 }
 
 /// Puts the cells of categories behind others.
-fn push_parts(cells: &mut Vec<Cell>, month: u32, is_income: bool, parts: &[Part]) -> Result<(), NoMemory>
+fn push_parts(
+    cells: &mut Vec<Cell>,
+    month: u32,
+    is_income: bool,
+    parts: &[Part],
+) -> Result<(), NoMemory>
     ensures { OnOk result (cells.new.items ≡ cells.old.items ++ parts_cells month is_income parts.now) }
 {
     for part in parts {
@@ -75,7 +109,13 @@ fn push_parts(cells: &mut Vec<Cell>, month: u32, is_income: bool, parts: &[Part]
 }
 
 /// Puts a cell of a group behind others.
-fn push_total(cells: &mut Vec<Cell>, month: u32, kind: CellKind, group: &GroupParts, pick: Pick) -> Result<(), NoMemory>
+fn push_total(
+    cells: &mut Vec<Cell>,
+    month: u32,
+    kind: CellKind,
+    group: &GroupParts,
+    pick: Pick,
+) -> Result<(), NoMemory>
     requires { weight (part_weight pick) group.now.parts ≤ 2 ^ 120 }
     ensures { OnOk result (cells.new.items ≡ cells.old.items ++ cell month kind group.now.id (group_total pick group.now) ∷ []) }
 {
@@ -109,7 +149,12 @@ fn push_groups(cells: &mut Vec<Cell>, month: u32, groups: &[GroupParts]) -> Resu
 }
 
 /// What the categories of all groups have in the month of a number, which takes one pass over the transactions.
-fn parts_in<G: Ledger>(alloc: Global, book: &Book, number: u32, steps: &mut Steps<G>) -> Result<Items<GroupParts>, NoMemory>
+fn parts_in<G: Ledger>(
+    alloc: Global,
+    book: &Book,
+    number: u32,
+    steps: &mut Steps<G>,
+) -> Result<Items<GroupParts>, NoMemory>
     requires live { book.now.spent ≡ false }
     requires number { number < 2760 }
     ensures parts { IfOk result (λ parts. parts ≡ list_map (group_of (budget_of book.now.rows) number) (groups_of book.now.rows)) }
@@ -126,7 +171,12 @@ fn parts_in<G: Ledger>(alloc: Global, book: &Book, number: u32, steps: &mut Step
 }
 
 /// The cells of a sheet.
-fn cells_of(alloc: Global, month: u32, groups: &[GroupParts], held: i64) -> Result<Items<Cell>, NoMemory>
+fn cells_of(
+    alloc: Global,
+    month: u32,
+    groups: &[GroupParts],
+    held: i64,
+) -> Result<Items<Cell>, NoMemory>
     requires { (k : PickIs) → groups_weight k groups.now ≤ 2 ^ 120 }
     ensures { IfOk result (λ cells. cells ≡ cells_from month (whole_of groups.now held) groups.now) }
 {
@@ -142,7 +192,12 @@ fn cells_of(alloc: Global, month: u32, groups: &[GroupParts], held: i64) -> Resu
 /// The sheet of a month YYYYMM. It takes one pass over the transactions, whatever cells there are: each of them is handed out
 /// once, and what it is a part of once more. Then it looks for each live
 /// category at what each month says of it, from the first month of the book's window on.
-pub fn sheet<G: Ledger>(alloc: Global, book: &Book, month: u32, steps: &mut Steps<G>) -> Result<Sheet, NoMemory>
+pub fn sheet<G: Ledger>(
+    alloc: Global,
+    book: &Book,
+    month: u32,
+    steps: &mut Steps<G>,
+) -> Result<Sheet, NoMemory>
     requires live { book.now.spent ≡ false }
     requires month { IsTrue (is_month month) }
     ensures cells { IfOk result (λ sheet. sheet.cells ≡ sheet_of (budget_of book.now.rows) month) }

@@ -120,7 +120,13 @@ fn taken_over(carries: bool, left: i128) -> i128
 }
 
 /// What the rows say of a category in a month.
-fn month_of(alloc: Global, book: &Book, sums: &CellValues, id: &Txt, number: u32) -> Result<Month, NoMemory>
+fn month_of(
+    alloc: Global,
+    book: &Book,
+    sums: &CellValues,
+    id: &Txt,
+    number: u32,
+) -> Result<Month, NoMemory>
     requires number { number < 2760 }
     requires sums { AreSums sums.now book.now.rows }
     ensures { IfOk result (λ m. IsMonth (budget_of book.now.rows) id.now number m) }
@@ -158,7 +164,11 @@ fn next(past: Past, month: Month) -> Past
     ensures moved { result.moved ≡ past.moved +ℤ month.sum }
 {
     Past {
-        left: added(month.budget, month.sum, rolled_over(past.carries, past.left)),
+        left: added(
+            month.budget,
+            month.sum,
+            rolled_over(past.carries, past.left),
+        ),
         carries: month.carries,
         moved: past.moved + month.sum,
     }
@@ -178,7 +188,14 @@ pub(crate) fn first_month(book: &Book, number: u32) -> u32
 }
 
 /// What the months before month `number` left of a category. Before month `first` there is nothing.
-fn past_of(alloc: Global, book: &Book, sums: &CellValues, id: &Txt, first: u32, number: u32) -> Result<Past, NoMemory>
+fn past_of(
+    alloc: Global,
+    book: &Book,
+    sums: &CellValues,
+    id: &Txt,
+    first: u32,
+    number: u32,
+) -> Result<Past, NoMemory>
     requires first { first ≤ number }
     requires number { number < 2760 }
     requires sums { AreSums sums.now book.now.rows }
@@ -199,7 +216,14 @@ fn past_of(alloc: Global, book: &Book, sums: &CellValues, id: &Txt, first: u32, 
 }
 
 /// What a category has in a month.
-fn part_of(alloc: Global, book: &Book, sums: &CellValues, id: &Txt, first: u32, number: u32) -> Result<Part, NoMemory>
+fn part_of(
+    alloc: Global,
+    book: &Book,
+    sums: &CellValues,
+    id: &Txt,
+    first: u32,
+    number: u32,
+) -> Result<Part, NoMemory>
     requires first { first ≤ number }
     requires number { number < 2760 }
     requires sums { AreSums sums.now book.now.rows }
@@ -222,7 +246,14 @@ fn part_of(alloc: Global, book: &Book, sums: &CellValues, id: &Txt, first: u32, 
 }
 
 /// What the categories of a list have in a month.
-fn parts_of(alloc: Global, book: &Book, sums: &CellValues, ids: &[Txt], first: u32, number: u32) -> Result<Items<Part>, NoMemory>
+fn parts_of(
+    alloc: Global,
+    book: &Book,
+    sums: &CellValues,
+    ids: &[Txt],
+    first: u32,
+    number: u32,
+) -> Result<Items<Part>, NoMemory>
     requires first { first ≤ number }
     requires number { number < 2760 }
     requires sums { AreSums sums.now book.now.rows }
@@ -238,7 +269,14 @@ fn parts_of(alloc: Global, book: &Book, sums: &CellValues, ids: &[Txt], first: u
 }
 
 /// What the categories of a group have in a month.
-fn group_of(alloc: Global, book: &Book, sums: &CellValues, group: &BudgetGroup, first: u32, number: u32) -> Result<GroupParts, NoMemory>
+fn group_of(
+    alloc: Global,
+    book: &Book,
+    sums: &CellValues,
+    group: &BudgetGroup,
+    first: u32,
+    number: u32,
+) -> Result<GroupParts, NoMemory>
     requires first { first ≤ number }
     requires number { number < 2760 }
     requires sums { AreSums sums.now book.now.rows }
@@ -246,7 +284,14 @@ fn group_of(alloc: Global, book: &Book, sums: &CellValues, group: &BudgetGroup, 
     requires small { weight (λ c. weight_before (budget_of book.now.rows) c (number + 1)) group.now.categories ≤ 2 ^ 120 }
     ensures { IfOk result (λ parts. parts ≡ group_of (budget_of book.now.rows) number group.now) }
 {
-    let parts = parts_of(alloc, book, sums, group.categories.as_slice(), first, number)?;
+    let parts = parts_of(
+        alloc,
+        book,
+        sums,
+        group.categories.as_slice(),
+        first,
+        number,
+    )?;
     Ok(GroupParts {
         id: group.id.copy()?,
         is_income: group.is_income,
@@ -255,7 +300,14 @@ fn group_of(alloc: Global, book: &Book, sums: &CellValues, group: &BudgetGroup, 
 }
 
 /// What the categories of all groups have in a month.
-pub(crate) fn groups_parts(alloc: Global, book: &Book, sums: &CellValues, groups: &[BudgetGroup], first: u32, number: u32) -> Result<Items<GroupParts>, NoMemory>
+pub(crate) fn groups_parts(
+    alloc: Global,
+    book: &Book,
+    sums: &CellValues,
+    groups: &[BudgetGroup],
+    first: u32,
+    number: u32,
+) -> Result<Items<GroupParts>, NoMemory>
     requires first { first ≤ number }
     requires number { number < 2760 }
     requires sums { AreSums sums.now book.now.rows }
@@ -286,7 +338,11 @@ pub(crate) fn total_of(parts: &[Part], pick: Pick) -> i128
 fn is_side(income: bool, group: &GroupParts) -> bool
     ensures { result ≡ is_side income group.now }
 {
-    if income { group.is_income } else { !group.is_income }
+    if income {
+        group.is_income
+    } else {
+        !group.is_income
+    }
 }
 
 /// One of the amounts of a group, where it is on the side that is asked for, or else 0.

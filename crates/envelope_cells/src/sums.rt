@@ -56,7 +56,12 @@ fn counts<G: Ledger>(book: &Book, row: &TxRow, steps: &mut Steps<G>) -> bool
 }
 
 /// Adds a transaction to the sum to which it belongs, if it counts.
-fn add_row<G: Ledger>(sums: &mut CellValues, book: &Book, row: &TxRow, steps: &mut Steps<G>) -> Result<(), NoMemory>
+fn add_row<G: Ledger>(
+    sums: &mut CellValues,
+    book: &Book,
+    row: &TxRow,
+    steps: &mut Steps<G>,
+) -> Result<(), NoMemory>
     requires { (c : Text) (month : ℕ) → unsigned_abs (value_at sums.old (sum_name c month)) + 2 ^ 64 < 2 ^ 127 }
     ensures added { OnOk result ((c : Text) (month : ℕ) → value_at sums.new (sum_name c month) ≡ value_at sums.old (sum_name c month) +ℤ share book.now.rows c month row.now) }
     ensures cost { steps.new ≤ steps.old + 1 }
@@ -73,7 +78,11 @@ fn add_row<G: Ledger>(sums: &mut CellValues, book: &Book, row: &TxRow, steps: &m
 }
 
 /// The sums of all categories in all months, from one pass over the transactions.
-pub(crate) fn category_sums<G: Ledger>(alloc: Global, book: &Book, steps: &mut Steps<G>) -> Result<CellValues, NoMemory>
+pub(crate) fn category_sums<G: Ledger>(
+    alloc: Global,
+    book: &Book,
+    steps: &mut Steps<G>,
+) -> Result<CellValues, NoMemory>
     requires { book.now.spent ≡ false }
     ensures sums { IfOk result (λ sums. AreSums sums book.now.rows) }
     ensures cost { steps.new ≤ steps.old + 2 * length (map.entries book.now.rows.txs) }

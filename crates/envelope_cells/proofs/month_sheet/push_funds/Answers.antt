@@ -22,9 +22,9 @@ returns c =
     let fits_overspent : SFits w128 w.overspent = search rules in
     let overspent_is : to_z w128 (of_z w128 w.overspent) ≡ w.overspent = to_z-of_z w128 w.overspent fits_overspent in
     where_ok c.push-4.result
-      (λ e. four_more items c.push.new.cells.items c.push-2.new.cells.items c.push-3.new.cells.items c.push-4.new.cells.items (cell month TotalIncome id w.income) (cell month FromLastMonth id w.from_last) (cell month AvailableFunds id w.available) (cell month LastMonthOverspent id w.overspent)
-        (c.in_ok-push.ensures ∙ ap (λ z. items ++ cell month TotalIncome id z ∷ []) income_is)
-        (c.in_ok-push-2.ensures ∙ ap (λ z. c.push.new.cells.items ++ cell month FromLastMonth id z ∷ []) from_last_is)
-        (c.in_ok-push-3.ensures ∙ ap (λ z. c.push-2.new.cells.items ++ cell month AvailableFunds id z ∷ []) available_is)
-        (e ∙ ap (λ z. c.push-3.new.cells.items ++ cell month LastMonthOverspent id z ∷ []) overspent_is))
-      c.push-4.ensures
+    (λ e. four_more items c.push.new.cells.items c.push-2.new.cells.items c.push-3.new.cells.items c.push-4.new.cells.items (cell month TotalIncome id w.income) (cell month FromLastMonth id w.from_last) (cell month AvailableFunds id w.available) (cell month LastMonthOverspent id w.overspent)
+    (c.in_ok-push.ensures ∙ ap (λ z. items ++ cell month TotalIncome id z ∷ []) income_is)
+    (c.in_ok-push-2.ensures ∙ ap (λ z. c.push.new.cells.items ++ cell month FromLastMonth id z ∷ []) from_last_is)
+    (c.in_ok-push-3.ensures ∙ ap (λ z. c.push-2.new.cells.items ++ cell month AvailableFunds id z ∷ []) available_is)
+    (e ∙ ap (λ z. c.push-3.new.cells.items ++ cell month LastMonthOverspent id z ∷ []) overspent_is))
+    c.push-4.ensures

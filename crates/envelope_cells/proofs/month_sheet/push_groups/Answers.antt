@@ -14,6 +14,6 @@ loop-group-preserved c =
     let i = c.loop-group.group-index in
     let g = c.group-item.result in
     ap (λ done. done ++ all_cells month (drop (i + 1) c.args.groups.now))
-      (c.in_ok-push_parts.ensures ∙ ap (λ ps. c.push_own.new.cells.items ++ parts_cells month g.is_income ps) c.as_slice.ensures ∙ ap (λ done. done ++ parts_cells month g.is_income g.parts) c.in_ok-push_own.ensures
-      ∙ append_assoc c.loop-group.cells.items (own_cells month g) (parts_cells month g.is_income g.parts))
+    (c.in_ok-push_parts.ensures ∙ ap (λ ps. c.push_own.new.cells.items ++ parts_cells month g.is_income ps) c.as_slice.ensures ∙ ap (λ done. done ++ parts_cells month g.is_income g.parts) c.in_ok-push_own.ensures
+    ∙ append_assoc c.loop-group.cells.items (own_cells month g) (parts_cells month g.is_income g.parts))
     ∙ turn (all_cells month) (λ g. own_cells month g ++ parts_cells month g.is_income g.parts) (λ x xs. refl) c.loop-group.cells.items _ c.args.groups.now i g (omega arith) c.group-item.is c.loop-group.invariant

@@ -24,10 +24,10 @@ returns c =
     let fits_leftover : SFits w128 w.leftover = search rules in
     let leftover_is : to_z w128 (of_z w128 w.leftover) ≡ w.leftover = to_z-of_z w128 w.leftover fits_leftover in
     where_ok c.push-5.result
-      (λ e. five_more items c.push.new.cells.items c.push-2.new.cells.items c.push-3.new.cells.items c.push-4.new.cells.items c.push-5.new.cells.items (cell month TotalBudgeted id w.budgeted) (cell month Buffered id w.buffered) (cell month ToBudget id w.to_budget) (cell month TotalSpent id w.spent) (cell month TotalLeftover id w.leftover)
-        (c.in_ok-push.ensures ∙ ap (λ z. items ++ cell month TotalBudgeted id z ∷ []) budgeted_is)
-        (c.in_ok-push-2.ensures ∙ ap (λ z. c.push.new.cells.items ++ cell month Buffered id z ∷ []) buffered_is)
-        (c.in_ok-push-3.ensures ∙ ap (λ z. c.push-2.new.cells.items ++ cell month ToBudget id z ∷ []) to_budget_is)
-        (c.in_ok-push-4.ensures ∙ ap (λ z. c.push-3.new.cells.items ++ cell month TotalSpent id z ∷ []) spent_is)
-        (e ∙ ap (λ z. c.push-4.new.cells.items ++ cell month TotalLeftover id z ∷ []) leftover_is))
-      c.push-5.ensures
+    (λ e. five_more items c.push.new.cells.items c.push-2.new.cells.items c.push-3.new.cells.items c.push-4.new.cells.items c.push-5.new.cells.items (cell month TotalBudgeted id w.budgeted) (cell month Buffered id w.buffered) (cell month ToBudget id w.to_budget) (cell month TotalSpent id w.spent) (cell month TotalLeftover id w.leftover)
+    (c.in_ok-push.ensures ∙ ap (λ z. items ++ cell month TotalBudgeted id z ∷ []) budgeted_is)
+    (c.in_ok-push-2.ensures ∙ ap (λ z. c.push.new.cells.items ++ cell month Buffered id z ∷ []) buffered_is)
+    (c.in_ok-push-3.ensures ∙ ap (λ z. c.push-2.new.cells.items ++ cell month ToBudget id z ∷ []) to_budget_is)
+    (c.in_ok-push-4.ensures ∙ ap (λ z. c.push-3.new.cells.items ++ cell month TotalSpent id z ∷ []) spent_is)
+    (e ∙ ap (λ z. c.push-4.new.cells.items ++ cell month TotalLeftover id z ∷ []) leftover_is))
+    c.push-5.ensures

@@ -18,4 +18,4 @@ returns-in_ok-add-clause-added g c =
     let by_fits : SFits w128 c.from.result = search rules in
     let by : to_z w128 (of_z w128 c.from.result) ≡ x.amount = omega (arith, ints, c.from.ensures) in
     added c.args.book.now.rows sums c.add.new.self c.in-Some.category (c.in-Some-date.day / 100) x c.in-Some.is (ap (option_map (λ day. day / 100)) c.in-Some-date.is) (sym c.counts.ensures.is ∙ c.if-counts.true)
-      (c.in_ok-add.ensures ∙ ap (λ n. map.insert sums n (value_at sums n +ℤ to_z w128 (of_z w128 c.from.result))) c.in_ok-name.ensures ∙ ap (λ z. map.insert sums name (value_at sums name +ℤ z)) by)
+    (c.in_ok-add.ensures ∙ ap (λ n. map.insert sums n (value_at sums n +ℤ to_z w128 (of_z w128 c.from.result))) c.in_ok-name.ensures ∙ ap (λ z. map.insert sums name (value_at sums name +ℤ z)) by)

@@ -30,8 +30,8 @@ loop-row-preserved g c =
     let lens : length c.loop-row.row-iterator ≡ length c.next.new.self + 1 = ap length more ∙ omega arith in
     record {
       rest = λ q m.
-        let f = λ (e : Text × TxRow). share r q m e.1 in
-        omega (arith, ints, ap (total f) more, c.in_ok-add_row.ensures.added q m, c.loop-row.invariant.rest q m);
+          let f = λ (e : Text × TxRow). share r q m e.1 in
+          omega (arith, ints, ap (total f) more, c.in_ok-add_row.ensures.added q m, c.loop-row.invariant.rest q m);
       few = omega (arith, ap (weight tx_weight) more, c.loop-row.invariant.few);
       cost = omega (arith, lens, c.loop-row.invariant.cost, c.in_ok-add_row.ensures.cost);
     }
@@ -42,9 +42,9 @@ loop-row-init g c =
     let its : c.into_iter-row-iterator.result ≡ entries r.txs = search rules in
     record {
       rest = λ q m.
-        let none : value_at c.new-sums.result (sum_name q m) ≡ pos 0 = ap (λ s. value_at s (sum_name q m)) c.new-sums.ensures ∙ ap (λ o. unwrap_or o (pos 0)) (get-empty cell_cmp (sum_name q m)) in
-        let f = λ (e : Text × TxRow). share r q m e.1 in
-        omega (arith, ints, none, ap (total f) its);
+          let none : value_at c.new-sums.result (sum_name q m) ≡ pos 0 = ap (λ s. value_at s (sum_name q m)) c.new-sums.ensures ∙ ap (λ o. unwrap_or o (pos 0)) (get-empty cell_cmp (sum_name q m)) in
+          let f = λ (e : Text × TxRow). share r q m e.1 in
+          omega (arith, ints, none, ap (total f) its);
       few = omega (arith, ap (weight tx_weight) its);
       cost = omega (arith, ap length its, c.txs-row-items.ensures.cost);
     }

@@ -30,7 +30,7 @@ returns c =
     let budgeted : to_z w128 (of_z w128 c.given-budgeted.result) ≡ neg_ℤ (side_total OfBudget false gs) = to_z-of_z w128 c.given-budgeted.result f6 ∙ c.given-budgeted.ensures.value ∙ ap neg_ℤ budgets in
     let buffered : to_z w128 (of_z w128 c.widened-buffered.result) ≡ c.args.held = to_z-of_z w128 c.widened-buffered.result f7 ∙ c.widened-buffered.ensures.value ∙ to_z-of_z w64 c.args.held f11 in
     let left : to_z w128 (of_z w128 c.to_budget-left.result) ≡ (((side_total Sum true gs +ℤ from_last gs) +ℤ side_total Taken false gs) +ℤ neg_ℤ (side_total OfBudget false gs)) -ℤ c.args.held =
-      to_z-of_z w128 c.to_budget-left.result f8 ∙ c.to_budget-left.ensures ∙ (λ i. ((funds i +ℤ overspent i) +ℤ budgeted i) -ℤ buffered i) in
+    to_z-of_z w128 c.to_budget-left.result f8 ∙ c.to_budget-left.ensures ∙ (λ i. ((funds i +ℤ overspent i) +ℤ budgeted i) -ℤ buffered i) in
     let spent : to_z w128 (of_z w128 c.total_of_side-spent.result) ≡ side_total Sum false gs = to_z-of_z w128 c.total_of_side-spent.result f9 ∙ c.total_of_side-spent.ensures.value in
     let leftover : to_z w128 (of_z w128 c.total_of_side-leftover.result) ≡ side_total Leftover false gs = to_z-of_z w128 c.total_of_side-leftover.result f10 ∙ c.total_of_side-leftover.ensures.value in
     λ i. record {
