@@ -1,5 +1,0 @@
-//! Tests of books over their public calls.
-#![tactic(auto)]
-
-#[cfg(test)]
-mod rows;
