@@ -345,6 +345,13 @@ impl Book {
         self.rows.txs.all()
     }
 
+    /// Whether there is a transaction of this id, dead or alive. It takes no step.
+    pub fn has_tx(&self, id: &Txt) -> bool
+        ensures { result ≡ is_some (map.get self.now.rows.txs id.now) }
+    {
+        self.rows.txs.get(id).is_some()
+    }
+
     /// Whether a transaction is there and was not deleted, nor what it is a part of. It takes no step.
     pub fn alive(&self, id: &Txt) -> bool
         ensures { result ≡ is_alive self.now.rows id.now }

@@ -1,0 +1,11 @@
+//! The plain edits of a household's books: what each writes, or the first reason why it is refused.
+//!
+//! An edit ([`BookEdit`]) is checked against the rows of a book in a fixed order, and gives its writes in a fixed order
+//! ([`writes`]). It changes nothing itself.
+#![tactic(auto)]
+
+mod edit;
+mod making;
+
+pub use edit::BookEdit;
+pub use making::writes;
