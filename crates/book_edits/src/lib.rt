@@ -5,11 +5,15 @@
 #![tactic(auto)]
 
 mod accounts;
+mod budgets;
+mod categories;
 mod checks;
 mod edit;
 mod given;
 mod making;
 mod names;
+mod set;
+mod transactions;
 mod writing;
 
 pub use edit::BookEdit;
