@@ -1,3 +1,5 @@
 pub mod Least
 pub mod Lists
 pub mod Passing
+pub mod Valid
+pub mod ValidWrites

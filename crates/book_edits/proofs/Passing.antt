@@ -35,4 +35,4 @@ held_is (negsuc n) h = cc
 -- what passes is there
 pub there : {X : Type 0} (p : X → Bool) (o : Option X) → some_and p o ≡ true → (x : X) × (o ≡ Some x) × (p x ≡ true)
 there p None h = cc
-there p (Some x) h = (x, (refl, h))
+there p (Some x) h = (x, refl, h)
