@@ -3,3 +3,5 @@ pub mod Lists
 pub mod Passing
 pub mod Valid
 pub mod ValidWrites
+pub mod Amounts
+pub mod Told

@@ -10,6 +10,7 @@ mod categories;
 mod checks;
 mod edit;
 mod given;
+mod laws;
 mod making;
 mod names;
 mod set;
@@ -17,4 +18,5 @@ mod transactions;
 mod writing;
 
 pub use edit::BookEdit;
+pub use laws::{ids_alone_choose, moves_keep_money, names_are_told};
 pub use making::writes;
