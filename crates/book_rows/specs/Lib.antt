@@ -9,3 +9,7 @@ pub mod Months
 pub mod Book
 pub mod Spans
 pub mod Laws
+pub mod Writes
+pub mod Balances
+pub mod Ids
+pub mod Named
