@@ -1,11 +1,11 @@
 //! A book: the rows that the fields of messages make.
-ghost use Rattle.std.specs.Prelude.{◌≡◌, ◌+◌, true, false, OnOk, OnErr, IfOk, length, is_some, if◌then◌else◌};
+ghost use Rattle.std.specs.Prelude.{◌≡◌, ◌+◌, true, false, OnOk, OnErr, IfOk, IsSome, length, is_some, if◌then◌else◌};
 ghost use Rattle.std.specs.Option.{option_copied};
 ghost use Rattle.std.specs.BTreeSet as set;
 ghost use Rattle.std.specs.FinMap as map;
 ghost use Rattle.field_values.specs.Names.{IsName};
 ghost use Rattle.field_values.specs.Value.{IsValue};
-ghost use Rattle.book_rows.specs.Rows.{no_rows, with_cell, with_field};
+ghost use Rattle.book_rows.specs.Rows.{no_rows, with_cell, with_field, kind_of};
 ghost use Rattle.book_rows.specs.Live.{is_live_tx, is_alive, has_parent};
 ghost use Rattle.book_rows.specs.Months.{month_of_tx, window_of};
 ghost use Rattle.book_rows.specs.Parts.{children_of, account_txs};
@@ -19,6 +19,7 @@ ghost use Rattle.book_rows.specs.Spans.{Spans, HasDated, HasMonth};
 
 use crate::column::{Column, Dataset, column_of, dataset_of};
 use crate::indexes::{Dated, list};
+use crate::known::dataset_kind;
 use crate::months::hull;
 use crate::rows::{
     AccountRow, BudgetRow, CategoryRow, GroupRow, MonthRow, NoteRow, PayeeRow, Rows, RuleRow,
@@ -94,7 +95,7 @@ fn set_cell(
     }
 }
 
-/// Sets a field, where its dataset and its column are known.
+/// Sets a field, where its dataset is known and has its column.
 fn set_field(
     alloc: Global,
     rows: &mut Rows,
@@ -107,6 +108,7 @@ fn set_field(
     requires valid { IsValue value.now }
     ensures rows { OnOk result (rows.new ≡ with_field rows.old field.now value.now) }
     ensures indexed { OnOk result (IsIndexed index.new named.new rows.new.txs rows.new.budgets rows.new.months) }
+    ensures memory { OnErr result (IsSome (kind_of field.now.dataset field.now.column)) }
 {
     let Some(dataset) = dataset_of(field.dataset()) else {
         return Ok(());
@@ -114,6 +116,9 @@ fn set_field(
     let Some(column) = column_of(field.column()) else {
         return Ok(());
     };
+    if dataset_kind(dataset, column).is_none() {
+        return Ok(());
+    }
     let id = Txt::from_text(alloc, field.row())?;
     set_cell(alloc, rows, index, named, dataset, &id, column, value)
 }
@@ -184,13 +189,15 @@ impl Book {
         self.spent
     }
 
-    /// Gives a field a value. A dataset or a column that a book doesn't know changes nothing.
+    /// Gives a field a value. A dataset that a book doesn't know, or a column that the dataset doesn't have, changes nothing, and
+    /// takes no memory.
     pub fn set(&mut self, field: &Field, value: &Value) -> Result<(), NoMemory>
         requires live { self.old.spent ≡ false }
         requires valid { IsValue value.now }
         ensures rows { OnOk result (self.new.rows ≡ with_field self.old.rows field.now value.now) }
         ensures kept { OnOk result (self.new.spent ≡ false) }
         ensures spent { OnErr result (self.new.spent ≡ true) }
+        ensures memory { OnErr result (IsSome (kind_of field.now.dataset field.now.column)) }
     {
         self.spent = true;
         set_field(
