@@ -1,5 +1,5 @@
 -- What edits of budgets make of amounts.
-use Rattle.std.proofs.Common.{◌≡◌, ℕ, Bool, List, [], ◌∷◌, ◌++◌, Option, None, Some, Result, Ok, Err, refl, sym, ap, ◌∙◌, arith, if◌then◌else◌}
+use Rattle.std.proofs.Common.{◌≡◌, ℕ, List, [], ◌∷◌, ◌++◌, Option, None, Some, Result, Ok, refl, sym, ap, ◌∙◌, arith, if◌then◌else◌}
 use lib.IntN.{ℤ, pos}
 use Rattle.std.specs.Prelude.{◌+ℤ◌, ◌-ℤ◌, is_some, codes}
 use Rattle.std.specs.Option.{option_map}
@@ -17,7 +17,7 @@ use Rattle.book_rows.specs.Ids.{budget_id}
 use Rattle.book_edits.specs.Faults.{◌>>=◌}
 use Rattle.book_edits.specs.Checks.{live_category, no_income, a_month, an_amount, a_name}
 use Rattle.book_edits.specs.Writing.{write, flag}
-use Rattle.book_edits.specs.Budgets.{amount_at, budgeted, row_made, budget_writes, two_amounts, budget, carryover, may_move, move}
+use Rattle.book_edits.specs.Budgets.{amount_at, budgeted, budget_writes, two_amounts, may_move, move}
 use Rattle.book_edits.specs.Laws.{amount_in, IdsAloneChoose, MovesKeepMoney}
 use Rattle.book_edits.proofs.Valid.{inside, passed}
 

@@ -1,17 +1,15 @@
 -- Ids and numbers that pass their checks.
-use Rattle.std.proofs.Common.{◌≡◌, ℕ, ◌+◌, ◌<◌, ◌≤◌, ◌/◌, ◌%◌, Bool, true, false, List, [], ◌∷◌, Option, Some, None, refl, sym, ap, ◌∙◌, arith, length}
+use Rattle.std.proofs.Common.{◌≡◌, ◌≤◌, Bool, true, Option, Some, None, refl, arith}
 use lib.IntN.{ℤ, pos, negsuc}
-use Rattle.std.specs.Prelude.{◌&&◌, unsigned_abs, nat_le, nat_lt, ◌==◌, cond}
+use Rattle.std.specs.Prelude.{unsigned_abs}
 use Rattle.std.specs.Option.{is_none}
-use Rattle.std.specs.FinMap as map
 use Rattle.std.proofs.lemmas.Int.{ints}
-use Rattle.std.proofs.lemmas.Bool.{leb-true, and_parts}
-use Rattle.field_values.specs.declared.name.NameFault.{NameFault}
+use Rattle.std.proofs.lemmas.Bool.{leb-true}
 use Rattle.field_values.specs.declared.name.NamePart.TheVariants.{Row}
-use Rattle.field_values.specs.Names.{IsName, IsNameByte, name_fault}
+use Rattle.field_values.specs.Names.{IsName, name_fault}
 use Rattle.field_values.specs.Value.{HoldsNumber, largest_number}
 use Rattle.field_values.proofs.NameLemmas.{name_without_fault}
-use Rattle.finite_sums.specs.Maps.{Text, Texts, some_and}
+use Rattle.finite_sums.specs.Maps.{Text, some_and}
 use Rattle.book_edits.specs.Checks.{is_name, is_amount, is_held}
 
 none_of : {X : Type 0} (o : Option X) → is_none o ≡ true → o ≡ None

@@ -1,6 +1,6 @@
 -- Names that are taken, and the least id that has one.
-use Rattle.std.proofs.Common.{◌≡◌, ◌≢◌, ◌↔◌, ◌⊎◌, inl, inr, Bool, true, false, cond, List, [], ◌∷◌, Option, None, Some, Result, Ok, Err, refl, sym, ap, ◌∙◌, subst}
-use Rattle.std.specs.Prelude.{◌&&◌, not}
+use Rattle.std.proofs.Common.{◌≡◌, ◌≢◌, ◌↔◌, ◌⊎◌, inl, inr, Bool, true, false, cond, List, [], ◌∷◌, Option, None, Some, Ok, Err, refl, sym, ap, ◌∙◌, subst}
+use Rattle.std.specs.Prelude.{not}
 use Rattle.std.specs.declared.cmp.Ordering.{Ordering}
 use Rattle.std.specs.declared.cmp.Ordering.TheVariants.{Less, Equal, Greater}
 use Rattle.std.specs.Ordering.{is_lt, is_eq, eq_by_cmp, ordering_reverse}
@@ -16,11 +16,10 @@ use Rattle.finite_sums.proofs.MapSums.{both_true, and_both, so, sorted_tail}
 use Rattle.book_rows.specs.declared.rows.Rows.{Rows}
 use Rattle.book_rows.specs.declared.rows.GroupRow.{GroupRow}
 use Rattle.book_rows.specs.declared.rows.CategoryRow.{CategoryRow}
-use Rattle.book_rows.specs.declared.fault.EditFault.{EditFault}
 use Rattle.book_rows.specs.declared.fault.EditFault.TheVariants.{NameTaken}
-use Rattle.book_rows.specs.Live.{is_live_category_row, is_live_category}
+use Rattle.book_rows.specs.Live.{is_live_category_row}
 use Rattle.book_rows.specs.Parts.{is_text}
-use Rattle.book_edits.specs.Checks.{least_where, nobody, is_group_named, free_group_name, is_category_named, free_category_name}
+use Rattle.book_edits.specs.Checks.{least_where, nobody, is_group_named, is_category_named}
 use Rattle.book_edits.specs.Laws.{IsGroupNamed, IsCategoryNamed, IsLeast, NamesAreTold}
 
 is_equal : (r : Ordering) → is_eq r ≡ true → r ≡ Equal

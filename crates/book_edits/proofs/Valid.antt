@@ -1,42 +1,34 @@
 -- The writes of edits are valid.
-use Rattle.std.proofs.Common.{◌≡◌, ℕ, ◌+◌, ◌<◌, ◌≤◌, ◌/◌, ◌%◌, Bool, true, false, cond, List, [], ◌∷◌, ◌++◌, length, Option, None, Some, Result, Ok, Err, zero, suc, refl, sym, ap, ◌∙◌, subst, arith}
-use lib.IntN.{ℤ, pos, negsuc}
-use Rattle.std.specs.Prelude.{◌&&◌, ◌||◌, nat_le, not, codes, is_some, map as list_map, All, if◌then◌else◌}
+use Rattle.std.proofs.Common.{◌≡◌, ℕ, ◌+◌, ◌<◌, ◌/◌, ◌%◌, Bool, true, false, List, [], ◌∷◌, ◌++◌, Option, None, Some, Result, Ok, Err, refl, ap, subst, arith}
+use lib.IntN.{pos}
+use Rattle.std.specs.Prelude.{◌||◌, nat_le, not, map as list_map}
 use Rattle.std.specs.List.{AllByRecursion}
 use Rattle.std.specs.Ordering.{eq_by_cmp}
 use Rattle.std.specs.Cmp.{eq_by_cmp_equiv}
 use Rattle.std.specs.FinMap as map
 use Rattle.std.proofs.Math.Nat.{mod-lt}
-use Rattle.std.proofs.lemmas.Int.{ints}
 use Rattle.std.proofs.lemmas.Bool.{leb-true, and_parts}
 use Rattle.std.proofs.lemmas.List.Elements.{All-from_recursion}
 use Rattle.field_values.specs.declared.name.NamePart.TheVariants.{Row}
 use Rattle.field_values.specs.declared.value.Value.{Value}
-use Rattle.field_values.specs.declared.value.Value.TheVariants.{Null, Number, Text as IsText}
-use Rattle.field_values.specs.Names.{IsName, IsNameByte, name_fault, names_fault, field_of}
+use Rattle.field_values.specs.Names.{IsName, IsNameByte, name_fault}
 use Rattle.field_values.specs.Value.{IsValue, HoldsNumber}
-use Rattle.field_values.proofs.NameLemmas.{name_without_fault, names_without_fault}
-use Rattle.finite_sums.specs.Maps.{Text, Texts, text_cmp, some_and, is_among, keys_where}
-use Rattle.finite_sums.proofs.Texts.{text_total, text_same}
-use Rattle.finite_sums.proofs.MapSums.{among-keys_where}
-use Rattle.book_rows.specs.declared.rows.Rows.{Rows}
+use Rattle.field_values.proofs.NameLemmas.{name_without_fault}
+use Rattle.finite_sums.specs.Maps.{Text, Texts, text_cmp, some_and, is_among}
+use Rattle.finite_sums.proofs.Texts.{text_total}
 use Rattle.book_rows.specs.declared.write.RowName.{RowName}
 use Rattle.book_rows.specs.declared.write.RowName.TheVariants.{Given, Made}
-use Rattle.book_rows.specs.declared.write.WriteValue.{WriteValue}
-use Rattle.book_rows.specs.declared.write.WriteValue.TheVariants.{Plain, IdOf}
-use Rattle.book_rows.specs.declared.write.Write.{Write}
 use Rattle.book_rows.specs.declared.fault.EditFault.{EditFault}
 use Rattle.book_rows.specs.declared.fault.EditFault.TheVariants.{BadId, IdTaken}
 use Rattle.book_rows.specs.Kinds.{is_day}
 use Rattle.book_rows.specs.Months.{is_month}
 use Rattle.book_rows.specs.Tables.{AreNamed}
-use Rattle.book_rows.specs.Named.{HasNames}
-use Rattle.book_rows.specs.Ids.{budget_id, month_id}
-use Rattle.book_rows.specs.Writes.{IsRowName, IsWriteValue, IsWrite, AreWrites}
-use Rattle.book_edits.specs.Faults.{◌>>=◌, Check, must, if_there}
-use Rattle.book_edits.specs.Checks.{is_name, may_be_chosen, given_row, new_row, is_amount, is_held}
+use Rattle.book_rows.specs.Ids.{month_id}
+use Rattle.book_rows.specs.Writes.{IsRowName, IsWriteValue, IsWrite}
+use Rattle.book_edits.specs.Faults.{◌>>=◌, must}
+use Rattle.book_edits.specs.Checks.{may_be_chosen, new_row}
 use Rattle.book_edits.specs.Writing.{write, flag, text_or_null, notes_value, id_value}
-use Rattle.book_edits.proofs.Passing.{name_of_is, held, amount_is, held_is, there}
+use Rattle.book_edits.proofs.Passing.{name_of_is, held, there}
 
 -- ---- checks that passed
 

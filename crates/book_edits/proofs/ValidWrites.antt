@@ -1,10 +1,9 @@
 -- The writes of each edit are valid.
-use Rattle.std.proofs.Common.{◌≡◌, ℕ, ◌+◌, ◌<◌, ◌≤◌, Bool, true, false, cond, List, [], ◌∷◌, ◌++◌, length, Option, None, Some, Result, Ok, Err, IfOk, refl, sym, ap, ◌∙◌, subst, arith}
+use Rattle.std.proofs.Common.{◌≡◌, ℕ, Bool, true, false, List, [], ◌∷◌, ◌++◌, length, Option, None, Some, Ok, refl, sym, ◌∙◌, subst, arith}
 use lib.IntN.{ℤ, pos}
 use Rattle.std.specs.Prelude.{codes, is_some, map as list_map, if◌then◌else◌, ◌-ℤ◌, ◌+ℤ◌}
 use Rattle.std.specs.List.{AllByRecursion}
 use Rattle.std.specs.FinMap as map
-use Rattle.std.proofs.lemmas.Bool.{and_parts}
 use Rattle.field_values.specs.declared.name.NameFault.{NameFault}
 use Rattle.field_values.specs.declared.name.NamePart.TheVariants.{Row}
 use Rattle.field_values.specs.declared.value.Value.{Value}
@@ -12,29 +11,27 @@ use Rattle.field_values.specs.declared.value.Value.TheVariants.{Number, Text as 
 use Rattle.field_values.specs.Names.{FieldNames, IsName, name_fault, names_fault, field_of}
 use Rattle.field_values.specs.Value.{IsValue, HoldsNumber}
 use Rattle.field_values.proofs.NameLemmas.{names_without_fault}
-use Rattle.finite_sums.specs.Maps.{Text, is_among, text_cmp, keys_where}
+use Rattle.finite_sums.specs.Maps.{Text, is_among, text_cmp}
 use Rattle.finite_sums.proofs.Texts.{text_total, text_same}
 use Rattle.finite_sums.proofs.MapSums.{among-keys_where}
 use Rattle.book_rows.specs.declared.rows.Rows.{Rows}
 use Rattle.book_rows.specs.declared.write.RowName.{RowName}
 use Rattle.book_rows.specs.declared.write.RowName.TheVariants.{Given, Made}
 use Rattle.book_rows.specs.declared.write.Write.{Write}
-use Rattle.book_rows.specs.declared.fault.EditFault.{EditFault}
 use Rattle.book_rows.specs.Named.{HasNames}
-use Rattle.book_rows.specs.Live.{is_live_category_row}
 use Rattle.book_rows.specs.Ids.{budget_id, month_id}
 use Rattle.book_rows.specs.Writes.{IsRowName, IsWrite, AreWrites}
 use Rattle.book_edits.specs.declared.edit.BookEdit.{BookEdit}
 use Rattle.book_edits.specs.declared.edit.BookEdit.TheVariants.{Set, AccountAdd, AccountRename, AccountOffbudget, AccountReopen, AccountClose, GroupAdd, GroupRename, GroupDelete, CategoryAdd, CategoryRename, CategoryMove, CategoryDelete, PayeeAdd, PayeeRename, PayeeDelete, TxAdd, Budget, Carryover, Hold, Move, Note}
-use Rattle.book_edits.specs.Faults.{◌>>=◌, must, if_there}
+use Rattle.book_edits.specs.Faults.{if_there}
 use Rattle.book_edits.specs.Checks.{new_row, live_account, live_group, live_category, live_payee, no_income, without_balance, free_group_name, free_category_name, group_of, name_of, a_day, a_month, an_amount, a_held, a_name}
 use Rattle.book_edits.specs.Writing.{write, flag}
-use Rattle.book_edits.specs.Accounts.{is_account, is_payee, account_writes, account_add, account_rename, account_offbudget, account_reopen, account_close, payee_add, payee_rename, payee_delete}
+use Rattle.book_edits.specs.Accounts.{is_account, is_payee, account_add, account_rename, account_offbudget, account_reopen, account_close, payee_add, payee_rename, payee_delete}
 use Rattle.book_edits.specs.Categories.{is_group, is_category, takes_income, is_live_in, categories_of, group_add, group_rename, category_deletion, group_delete, placed_in, category_add, category_rename, category_move, category_delete}
-use Rattle.book_edits.specs.Transactions.{is_tx, tx_writes, tx_add, note}
-use Rattle.book_edits.specs.Budgets.{budgeted, row_made, budget_writes, two_amounts, budget, carryover, hold, may_move, move}
-use Rattle.book_edits.specs.Edits.{write_unless, set_writes, book_writes, IsBookEdit}
-use Rattle.book_edits.proofs.Passing.{name_of_is, amount_is, held_is, there}
+use Rattle.book_edits.specs.Transactions.{is_tx, tx_add, note}
+use Rattle.book_edits.specs.Budgets.{budgeted, row_made, budget_writes, budget, carryover, hold, may_move, move}
+use Rattle.book_edits.specs.Edits.{write_unless, book_writes, IsBookEdit}
+use Rattle.book_edits.proofs.Passing.{name_of_is, amount_is, held_is}
 use Rattle.book_edits.proofs.Valid.{inside, passed, was_so, flag_is, text_or_null_is, notes_is, day_is, month_is, month_name, name_there, new_row_is, id_value_is, write_is, all_append, all_map}
 
 -- one write
@@ -55,11 +52,18 @@ module _ (rows : Rows) (names : HasNames rows) where
       let p = passed (new_row (is_account rows) id) _ _ h in
       let row = new_row_is _ id p.0 4 p.1 (omega arith) in
       subst AreWrites (inside _ _ p.2) (
-      write_is 4 (codes "accounts") p.0 (codes "name") (IsText name) refl row refl tt,
-      (write_is 4 (codes "accounts") p.0 (codes "offbudget") (flag off) refl row refl (flag_is off),
-      (write_is 4 (codes "payees") (Made 2) (codes "name") (IsText []) refl (omega arith) refl tt,
-      (record { dataset = name_of_is (codes "payees") refl; row = omega arith; column = name_of_is (codes "transfer_acct") refl; value = id_value_is p.0 4 row },
-      tt))))
+        write_is 4 (codes "accounts") p.0 (codes "name") (IsText name) refl row refl tt,
+        (
+          write_is 4 (codes "accounts") p.0 (codes "offbudget") (flag off) refl row refl (flag_is off),
+          (
+            write_is 4 (codes "payees") (Made 2) (codes "name") (IsText []) refl (omega arith) refl tt,
+            (
+              record { dataset = name_of_is (codes "payees") refl; row = omega arith; column = name_of_is (codes "transfer_acct") refl; value = id_value_is p.0 4 row },
+              tt,
+            ),
+          ),
+        ),
+      )
 
   account_rename_valid : (id name : Text) (ws : List Write) → account_rename rows id name ≡ Ok ws → AreWrites ws
   account_rename_valid id name ws h =
@@ -111,9 +115,12 @@ module _ (rows : Rows) (names : HasNames rows) where
       let q = passed (free_group_name rows name) _ _ p.2 in
       let row = new_row_is _ id p.0 2 p.1 (omega arith) in
       subst AreWrites (inside _ _ q.2) (
-      write_is 2 (codes "category_groups") p.0 (codes "name") (IsText name) refl row refl tt,
-      (write_is 2 (codes "category_groups") p.0 (codes "is_income") (flag income) refl row refl (flag_is income),
-      tt))
+        write_is 2 (codes "category_groups") p.0 (codes "name") (IsText name) refl row refl tt,
+        (
+          write_is 2 (codes "category_groups") p.0 (codes "is_income") (flag income) refl row refl (flag_is income),
+          tt,
+        ),
+      )
 
   group_rename_valid : (id name : Text) (ws : List Write) → group_rename rows id name ≡ Ok ws → AreWrites ws
   group_rename_valid id name ws h =
@@ -128,17 +135,20 @@ module _ (rows : Rows) (names : HasNames rows) where
       let is = name_there rows.groups _ id names.groups (was_so _ _ _ p.1) in
       let n = length (list_map category_deletion (categories_of rows id) ++ write (codes "category_groups") (Given id) (codes "tombstone") (flag true) ∷ []) in
       let each = λ (q : Text) (among : is_among text_cmp (categories_of rows id) q ≡ true).
-          let name = name_there rows.categories (is_live_in rows id) q names.categories (sym (among-keys_where text_total text_same (is_live_in rows id) rows.categories q) ∙ among) in
-          write_is n (codes "categories") (Given q) (codes "tombstone") (flag true) refl name refl (flag_is true) in
+      let name = name_there rows.categories (is_live_in rows id) q names.categories (sym (among-keys_where text_total text_same (is_live_in rows id) rows.categories q) ∙ among) in
+      write_is n (codes "categories") (Given q) (codes "tombstone") (flag true) refl name refl (flag_is true) in
       subst AreWrites (inside _ _ p.2) (all_append (IsWrite n) (list_map category_deletion (categories_of rows id)) (write (codes "category_groups") (Given id) (codes "tombstone") (flag true) ∷ [])
       (all_map (IsWrite n) category_deletion (categories_of rows id) each)
       (write_is n (codes "category_groups") (Given id) (codes "tombstone") (flag true) refl is refl (flag_is true), tt))
 
   placed_valid : (n : ℕ) (row : RowName) (group : Text) → IsRowName n row → AllByRecursion (IsWrite n) (placed_in rows row group)
   placed_valid n row group is = (
-      write_is n (codes "categories") row (codes "cat_group") (IsText group) refl is refl tt,
-      (write_is n (codes "categories") row (codes "is_income") (flag (takes_income rows group)) refl is refl (flag_is (takes_income rows group)),
-      tt))
+    write_is n (codes "categories") row (codes "cat_group") (IsText group) refl is refl tt,
+    (
+      write_is n (codes "categories") row (codes "is_income") (flag (takes_income rows group)) refl is refl (flag_is (takes_income rows group)),
+      tt,
+    ),
+  )
 
   category_add_valid : (id : Option Text) (group name : Text) (ws : List Write) → category_add rows id group name ≡ Ok ws → AreWrites ws
   category_add_valid id group name ws h =
@@ -180,13 +190,24 @@ module _ (rows : Rows) (names : HasNames rows) where
       let c = passed (if_there (live_category rows) category) _ _ y.2 in
       let row = new_row_is _ id p.0 6 p.1 (omega arith) in
       subst AreWrites (inside _ _ c.2) (
-      write_is 6 (codes "transactions") p.0 (codes "acct") (IsText account) refl row refl tt,
-      (write_is 6 (codes "transactions") p.0 (codes "date") (Number (pos date)) refl row refl (day_is date (was_so _ _ _ d.1)),
-      (write_is 6 (codes "transactions") p.0 (codes "amount") (Number amount) refl row refl (amount_is amount (was_so _ _ _ z.1)),
-      (write_is 6 (codes "transactions") p.0 (codes "description") _ refl row refl (text_or_null_is payee),
-      (write_is 6 (codes "transactions") p.0 (codes "category") _ refl row refl (text_or_null_is category),
-      (write_is 6 (codes "transactions") p.0 (codes "notes") _ refl row refl (notes_is notes),
-      tt))))))
+        write_is 6 (codes "transactions") p.0 (codes "acct") (IsText account) refl row refl tt,
+        (
+          write_is 6 (codes "transactions") p.0 (codes "date") (Number (pos date)) refl row refl (day_is date (was_so _ _ _ d.1)),
+          (
+            write_is 6 (codes "transactions") p.0 (codes "amount") (Number amount) refl row refl (amount_is amount (was_so _ _ _ z.1)),
+            (
+              write_is 6 (codes "transactions") p.0 (codes "description") _ refl row refl (text_or_null_is payee),
+              (
+                write_is 6 (codes "transactions") p.0 (codes "category") _ refl row refl (text_or_null_is category),
+                (
+                  write_is 6 (codes "transactions") p.0 (codes "notes") _ refl row refl (notes_is notes),
+                  tt,
+                ),
+              ),
+            ),
+          ),
+        ),
+      )
 
   -- ---- budgets
   made_valid : (n : ℕ) (category : Text) (month : ℕ) → IsName (budget_id category month) → HoldsNumber (pos month) → AllByRecursion (IsWrite n) (row_made rows category month)

@@ -1,5 +1,5 @@
 -- Edits of accounts and payees.
-use Rattle.std.specs.Prelude.{Bool, true, false, List, [], ◌∷◌, Option, is_some, Result, Ok, Err, codes}
+use Rattle.std.specs.Prelude.{Bool, true, false, List, [], ◌∷◌, Option, is_some, Result, Ok, codes}
 use Rattle.std.specs.FinMap as map
 use Rattle.field_values.specs.declared.value.Value.TheVariants.{Text as IsText}
 use Rattle.finite_sums.specs.Maps.{Text}

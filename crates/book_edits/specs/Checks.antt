@@ -1,5 +1,5 @@
 -- What is asked of an edit. Each check tells its own fault.
-use Rattle.std.specs.Prelude.{ℕ, ℤ, pos, negsuc, unsigned_abs, nat_le, Bool, false, not, ◌&&◌, List, length, Option, None, Some, is_some, Result, Ok, Err}
+use Rattle.std.specs.Prelude.{ℕ, ℤ, pos, negsuc, unsigned_abs, nat_le, Bool, false, not, ◌&&◌, List, length, Option, None, Some, Result, Ok, Err}
 use Rattle.std.specs.Option.{is_none, option_map, option_and_then}
 use Rattle.std.specs.Result.{is_err}
 use Rattle.std.specs.List as list
@@ -9,7 +9,7 @@ use Rattle.field_values.specs.declared.name.NamePart.TheVariants.{Row}
 use Rattle.field_values.specs.Names.{name_fault}
 use Rattle.field_values.specs.Value.{largest_number}
 use Rattle.hybrid_clock.specs.Reading.{read_stamp}
-use Rattle.finite_sums.specs.Maps.{Text, text_cmp, some_and}
+use Rattle.finite_sums.specs.Maps.{Text, text_cmp}
 use Rattle.book_rows.specs.declared.rows.Rows.{Rows}
 use Rattle.book_rows.specs.declared.rows.GroupRow.{GroupRow}
 use Rattle.book_rows.specs.declared.rows.CategoryRow.{CategoryRow}
@@ -22,7 +22,7 @@ use Rattle.book_rows.specs.Kinds.{is_day}
 use Rattle.book_rows.specs.Months.{is_month}
 use Rattle.book_rows.specs.Parts.{is_text}
 use Rattle.book_rows.specs.Balances.{balance_of}
-use Rattle.book_edits.specs.Faults.{◌>>=◌, Check, must, if_there}
+use Rattle.book_edits.specs.Faults.{◌>>=◌, Check, must}
 
 -- ---- ids
 

@@ -1,5 +1,5 @@
 -- What the laws say.
-use Rattle.std.specs.Prelude.{◌≡◌, ◌≢◌, ◌↔◌, ℕ, ℤ, ◌+ℤ◌, ◌-ℤ◌, Bool, true, false, List, Option, None, Some, Result, Ok, Err}
+use Rattle.std.specs.Prelude.{◌≡◌, ◌≢◌, ◌↔◌, ℕ, ℤ, ◌+ℤ◌, ◌-ℤ◌, Bool, true, false, List, Option, Some, Ok, Err}
 use Rattle.std.specs.Option.{option_map}
 use Rattle.std.specs.declared.cmp.Ordering.TheVariants.{Greater}
 use Rattle.std.specs.FinMap as map

@@ -1,5 +1,5 @@
 -- New transactions, and notes.
-use Rattle.std.specs.Prelude.{ℕ, ℤ, pos, Bool, List, [], ◌∷◌, Option, is_some, Result, Ok, Err, codes}
+use Rattle.std.specs.Prelude.{ℕ, ℤ, pos, Bool, List, [], ◌∷◌, Option, is_some, Result, Ok, codes}
 use Rattle.std.specs.FinMap as map
 use Rattle.field_values.specs.declared.value.Value.TheVariants.{Number, Text as IsText}
 use Rattle.finite_sums.specs.Maps.{Text}

@@ -1,5 +1,5 @@
 -- The writes of edits.
-use Rattle.std.specs.Prelude.{ℕ, ℤ, pos, Bool, List, [], ◌∷◌, Option, None, Some, if◌then◌else◌}
+use Rattle.std.specs.Prelude.{pos, Bool, [], ◌∷◌, Option, None, Some, if◌then◌else◌}
 use Rattle.field_values.specs.declared.value.Value.{Value}
 use Rattle.field_values.specs.declared.value.Value.TheVariants.{Null, Number, Text as IsText}
 use Rattle.finite_sums.specs.Maps.{Text}

@@ -199,16 +199,7 @@ fn moved(
         less,
     )?;
     let more = Value::Number(more);
-    push_column(
-        alloc,
-        &mut writes,
-        book,
-        target,
-        to,
-        month,
-        "amount",
-        more,
-    )?;
+    push_column(alloc, &mut writes, book, target, to, month, "amount", more)?;
     Ok(writes)
 }
 
@@ -231,7 +222,5 @@ pub(crate) fn move_amount(
     let more = given_more(book, &target, amount)?;
     a_name(&source)?;
     a_name(&target)?;
-    Ok(moved(
-        alloc, book, month, from, &source, less, to, &target, more,
-    )?)
+    Ok(moved(alloc, book, month, from, &source, less, to, &target, more)?)
 }

@@ -53,7 +53,14 @@ pub(crate) fn group_add(
     let name = text(name)?;
     push(alloc, &mut writes, "category_groups", &row, "name", name)?;
     let income = flag(income);
-    push(alloc, &mut writes, "category_groups", &row, "is_income", income)?;
+    push(
+        alloc,
+        &mut writes,
+        "category_groups",
+        &row,
+        "is_income",
+        income,
+    )?;
     Ok(writes)
 }
 

@@ -43,9 +43,23 @@ fn tx_writes(
     let amount = Value::Number(amount);
     push(alloc, &mut writes, "transactions", row, "amount", amount)?;
     let payee = text_or_null(payee)?;
-    push(alloc, &mut writes, "transactions", row, "description", payee)?;
+    push(
+        alloc,
+        &mut writes,
+        "transactions",
+        row,
+        "description",
+        payee,
+    )?;
     let category = text_or_null(category)?;
-    push(alloc, &mut writes, "transactions", row, "category", category)?;
+    push(
+        alloc,
+        &mut writes,
+        "transactions",
+        row,
+        "category",
+        category,
+    )?;
     let notes = notes_value(notes)?;
     push(alloc, &mut writes, "transactions", row, "notes", notes)?;
     Ok(writes)
@@ -72,9 +86,7 @@ pub(crate) fn tx_add(
     an_amount(i128::from(amount))?;
     maybe_live_payee(book, payee)?;
     maybe_live_category(book, category)?;
-    Ok(tx_writes(
-        alloc, &row, account, date, amount, payee, category, notes,
-    )?)
+    Ok(tx_writes(alloc, &row, account, date, amount, payee, category, notes)?)
 }
 
 /// Notes a text under an id.

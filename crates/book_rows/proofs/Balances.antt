@@ -1,7 +1,7 @@
 -- A balance is the sum over the ids that the index has.
 use Rattle.std.proofs.Common.{◌≡◌, Bool, true, false, List, [], ◌∷◌, Option, Some, None, refl, ap, sym, ◌∙◌, arith}
 use Rattle.std.specs.Prelude.{◌||◌}
-use lib.IntN.{ℤ, pos, ◌+ℤ◌}
+use lib.IntN.{ℤ, pos}
 use Rattle.std.specs.Ordering.{eq_by_cmp}
 use Rattle.std.specs.Cmp.{eq_by_cmp_equiv}
 use Rattle.std.specs.List.{list_any}
@@ -17,7 +17,7 @@ use Rattle.book_rows.specs.declared.rows.Rows.{Rows}
 use Rattle.book_rows.specs.declared.rows.TxRow.{TxRow}
 use Rattle.book_rows.specs.declared.txs.TxIndex.{TxIndex}
 use Rattle.book_rows.specs.Parts.{is_in_account}
-use Rattle.book_rows.specs.Book.{IsTxIndex, keys_of, holds}
+use Rattle.book_rows.specs.Book.{IsTxIndex, holds}
 use Rattle.book_rows.specs.Balances.{adds, balance_of}
 use Rattle.book_rows.proofs.Lists.{account_there}
 

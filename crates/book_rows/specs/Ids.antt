@@ -1,5 +1,5 @@
 -- The ids of the rows that speak of a month.
-use Rattle.std.specs.Prelude.{ℕ, ◌+◌, ◌/◌, ◌%◌, List, [], ◌∷◌, ◌++◌}
+use Rattle.std.specs.Prelude.{ℕ, ◌+◌, ◌/◌, ◌%◌, [], ◌∷◌, ◌++◌}
 use Rattle.finite_sums.specs.Maps.{Text}
 
 -- the two, or the four, last digits of a number

@@ -1,5 +1,5 @@
 -- Tables: how the values of fields make the rows of a dataset.
-use Rattle.std.specs.Prelude.{◌≡◌, ℕ, Bool, ◌&&◌, List, Option, None, Some, is_some, unwrap_or, if◌then◌else◌}
+use Rattle.std.specs.Prelude.{◌≡◌, Bool, ◌&&◌, Option, None, Some, is_some, unwrap_or, if◌then◌else◌}
 use Rattle.std.specs.List.{list_any}
 use Rattle.std.specs.Coded.{Coded, coded_list, coded_ℕ}
 use Rattle.std.specs.FinMap as map

@@ -1,10 +1,9 @@
-use Rattle.std.proofs.Common.{◌≡◌, ◌++◌, ◌∷◌, [], List, false, ap, sym, ◌∙◌, rules, if◌then◌else◌}
+use Rattle.std.proofs.Common.{◌≡◌, ◌++◌, ◌∷◌, [], false, ap, sym, ◌∙◌, rules, if◌then◌else◌}
 use Rattle.std.specs.Prelude.{codes, is_some}
 use lib.IntN.{pos}
 use Rattle.std.specs.FinMap as map
 use Rattle.field_values.specs.declared.value.Value.TheVariants.{Number, Text as IsText}
 use Rattle.book_rows.specs.declared.write.RowName.TheVariants.{Given}
-use Rattle.book_rows.specs.declared.write.Write.{Write}
 use Rattle.book_rows.specs.Ids.{budget_id}
 use Rattle.book_edits.specs.Writing.{write}
 use Rattle.book_edits.specs.Budgets.{row_made}
@@ -23,7 +22,7 @@ returns c =
     let second = write (codes "zero_budgets") (Given id) (codes "category") (IsText category) in
     let absent : is_some (map.get rows.budgets c.args.id.now) ≡ false = search rules in
     let made : row_made rows category month ≡ first ∷ second ∷ [] =
-        ap (λ b. if b then [] else first ∷ second ∷ []) (ap (λ k. is_some (map.get rows.budgets k)) (sym c.requires) ∙ absent) in
+    ap (λ b. if b then [] else first ∷ second ∷ []) (ap (λ k. is_some (map.get rows.budgets k)) (sym c.requires) ∙ absent) in
     on_ok c.push-2.result
     (λ e. two_more items c.push.new.writes.items c.push-2.new.writes.items first second
     (c.in_ok-push.ensures

@@ -1,5 +1,4 @@
 use Rattle.std.proofs.Common.{◌≡◌, ◌++◌, map as list_map}
-use Rattle.std.specs.FinMap.{entries}
 use Rattle.finite_sums.specs.Maps.{keys_where}
 use Rattle.book_edits.specs.Categories.{is_live_in, categories_of, category_deletion}
 use Rattle.book_edits.proofs.categories.deletions.Given as goal

@@ -1,8 +1,8 @@
-use Rattle.std.proofs.Common.{◌≡◌, ◌++◌, ◌∷◌, [], ap, ◌∙◌}
+use Rattle.std.proofs.Common.{◌++◌, ◌∷◌, [], ap, ◌∙◌}
 use Rattle.std.specs.Prelude.{codes}
 use Rattle.field_values.specs.declared.value.Value.TheVariants.{Text as IsText}
 use Rattle.book_edits.specs.Writing.{write, flag}
-use Rattle.book_edits.specs.Categories.{placed_in, takes_income}
+use Rattle.book_edits.specs.Categories.{takes_income}
 use Rattle.book_edits.proofs.Lists.{on_ok, two_more}
 use Rattle.book_edits.proofs.categories.push_placed.Goals as goal
 

@@ -1,10 +1,8 @@
-use Rattle.std.proofs.Common.{◌≡◌, ◌∷◌, Some, Err, true, false, ap, sym, ◌∙◌, rules}
+use Rattle.std.proofs.Common.{◌≡◌, ◌∷◌, false, sym, ◌∙◌, rules}
 use Rattle.std.specs.Map.Iter.{deref_pair}
-use Rattle.std.specs.FinMap.{entries}
 use Rattle.std.proofs.lemmas.Map.Iter.{rest_more}
-use Rattle.book_rows.specs.declared.fault.EditFault.TheVariants.{NameTaken}
-use Rattle.book_edits.specs.Checks.{least_where, is_group_named, nobody}
-use Rattle.book_edits.proofs.Least.{least_here, least_after}
+use Rattle.book_edits.specs.Checks.{is_group_named}
+use Rattle.book_edits.proofs.Least.{least_after}
 use Rattle.book_edits.proofs.names.free_group_name.Goals as goal
 
 pub loop-id-preserved : goal.loop-id-preserved

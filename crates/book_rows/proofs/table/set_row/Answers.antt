@@ -1,4 +1,4 @@
-use Rattle.std.proofs.Common.{◌≡◌, Option, Some, None, IsSome, OnOk, cond, Result, Ok, Err, refl, ap, sym, ◌∙◌, rules, subst}
+use Rattle.std.proofs.Common.{◌≡◌, Some, None, IsSome, OnOk, cond, Result, Ok, Err, refl, ap, sym, ◌∙◌, rules, subst}
 use Rattle.std.specs.Prelude.{unwrap_or}
 use Rattle.std.specs.FinMap as map
 use Rattle.std.specs.BTreeMap as tree

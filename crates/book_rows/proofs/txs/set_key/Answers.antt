@@ -1,5 +1,4 @@
-use Rattle.std.proofs.Common.{◌≡◌, ap, sym, ◌∙◌, subst}
-use Rattle.std.specs.FinMap as map
+use Rattle.std.proofs.Common.{ap, ◌∙◌, subst}
 use Rattle.book_rows.specs.declared.txs.Keys.{Keys}
 use Rattle.book_rows.specs.Book.{MovesKeys, keys_of}
 use Rattle.book_rows.proofs.Pairs.{on_ok}

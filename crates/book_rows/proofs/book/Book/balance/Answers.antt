@@ -1,5 +1,5 @@
 use lib.IntN.{pos}
-use Rattle.std.proofs.Common.{◌≡◌, false, List, [], Option, None, Some, refl, ap, sym, ◌∙◌, subst, rules}
+use Rattle.std.proofs.Common.{◌≡◌, false, [], Option, None, Some, ap, sym, ◌∙◌, subst, rules}
 use Rattle.std.specs.BTreeMap as tree
 use Rattle.std.specs.FinMap as map
 use Rattle.std.proofs.lemmas.Int.{to_z-of_z}
