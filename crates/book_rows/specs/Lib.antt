@@ -11,5 +11,6 @@ pub mod Spans
 pub mod Laws
 pub mod Writes
 pub mod Balances
+pub mod Faults
 pub mod Ids
 pub mod Named

@@ -1,11 +1,14 @@
 -- Edits, and the writes that they make.
 use Rattle.std.specs.Prelude.{List, Result}
 use Rattle.book_rows.specs.declared.fault.EditFault.{EditFault}
+use Rattle.book_rows.specs.Faults.{TellsId}
 use Rattle.book_rows.specs.declared.rows.Rows.{Rows}
 use Rattle.book_rows.specs.declared.write.Write.{Write}
 use Rattle.book_edits.specs.Edits.{book_writes, IsBookEdit, MayWantMemory as MayWantForBook}
 use Rattle.device_core.specs.declared.edit.Edit.{Edit}
 use Rattle.device_core.specs.declared.edit.Edit.TheVariants.{Book}
+use Rattle.device_core.specs.declared.edit.LineRefusal.{LineRefusal}
+use Rattle.device_core.specs.declared.edit.LineRefusal.TheVariants.{Edit as OfEdit}
 
 -- the writes of an edit in a book of these rows, in the order in which they are made, or why it is refused
 abbrev pub writes_of : Rows → Edit → Result (List Write) EditFault
@@ -18,3 +21,8 @@ IsEdit (Book edit) = IsBookEdit edit
 -- memory may be wanted before the edit is answered
 abbrev pub MayWantMemory : Edit → Type 0
 MayWantMemory (Book edit) = MayWantForBook edit
+
+-- the refusal tells an id
+abbrev pub RefusesId : LineRefusal → Type 0
+RefusesId (OfEdit fault) = TellsId fault
+RefusesId refusal = ⊥

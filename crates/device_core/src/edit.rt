@@ -1,9 +1,9 @@
 //! Edits, and why a device refuses a line.
-ghost use Rattle.std.specs.Prelude.{◌≡◌, false, IfOk, IfErr, Ok, Err};
+ghost use Rattle.std.specs.Prelude.{◌≡◌, false, IfOk, IfErr, OnErr, Ok, Err};
 ghost use Rattle.book_rows.specs.Writes.{AreWrites};
 ghost use Rattle.book_rows.specs.declared.fault.EditFault.TheVariants.{NoMemory as OutOfMemory};
 ghost use Rattle.book_edits.specs.Faults.{IsEditFault};
-ghost use Rattle.device_core.specs.Edits.{writes_of, IsEdit, MayWantMemory};
+ghost use Rattle.device_core.specs.Edits.{writes_of, IsEdit, MayWantMemory, RefusesId};
 
 use book_edits::{BookEdit, writes};
 use book_rows::{Book, EditFault, Write};
@@ -25,7 +25,8 @@ pub enum LineRefusal {
 impl LineRefusal {
     /// An equal refusal.
     pub fn copy(&self) -> Result<LineRefusal, NoMemory>
-        ensures { IfOk result (λ refusal. refusal ≡ self.now) }
+        ensures copy { IfOk result (λ refusal. refusal ≡ self.now) }
+        ensures memory { OnErr result (RefusesId self.now) }
     {
         match self {
             LineRefusal::Edit(fault) => Ok(LineRefusal::Edit(fault.copy()?)),
