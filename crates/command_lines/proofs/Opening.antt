@@ -7,7 +7,7 @@ use Rattle.hybrid_clock.specs.Stamp.{IsStamp, stamp_text}
 use Rattle.hybrid_clock.specs.Reading.{read_stamp}
 use Rattle.hybrid_clock.proofs.Writing.{text_reads}
 use Rattle.command_lines.specs.declared.command.Command.{Command}
-use Rattle.command_lines.specs.Forms.{Share, Wanted, no_more, word, may_end, some_texts, some_shares, misfit, is_name, of_stamp, stamp_word, name_word, of_amount, amount_of, id_or_none, behind}
+use Rattle.command_lines.specs.Forms.{Share, Wanted, no_more, word, may_end, some_texts, some_shares, misfit, is_name, of_stamp, stamp_word, name_word, if_read, amount_of, id_or_none, behind}
 use Rattle.command_lines.specs.FormLaws.{share_texts}
 use Rattle.command_lines.proofs.FormLemmas.{IsForm, Makes}
 use Rattle.command_lines.proofs.RepeatLemmas.{some_made, texts_make, shares_make}
@@ -46,7 +46,7 @@ goes_behind (may_end c next) text on = on text
 goes_behind (some_texts texts made) text on = tt
 goes_behind (some_shares shares made) text on = by (amount_of text)
   where
-    by : (o : Option ℤ) → GoesOn (of_amount (λ n. word (λ id. some_shares (shares ++ (n, id_or_none id) ∷ []) made)) o)
+    by : (o : Option ℤ) → GoesOn (if_read (λ n. word (λ id. some_shares (shares ++ (n, id_or_none id) ∷ []) made)) o)
     by None = tt
     by (Some n) =
         let more : List Share = shares ++ (n, id_or_none []) ∷ [] in

@@ -12,7 +12,7 @@ use Rattle.hybrid_clock.specs.declared.stamp.Stamp.{Stamp}
 use Rattle.hybrid_clock.specs.declared.stamp.StampFault.{StampFault}
 use Rattle.hybrid_clock.specs.Reading.{read_stamp}
 use Rattle.command_lines.specs.declared.command.Command.{Command}
-use Rattle.command_lines.specs.Forms.{Share, Wanted, no_more, word, may_end, some_texts, some_shares, misfit, is_name, of_stamp, of_amount, amount_of, id_or_none, ends, behind}
+use Rattle.command_lines.specs.Forms.{Share, Wanted, no_more, word, may_end, some_texts, some_shares, misfit, is_name, of_stamp, if_read, amount_of, id_or_none, ends, behind}
 use Rattle.command_lines.specs.Commands.{IsCommand}
 use Rattle.command_lines.specs.FormLaws.{share_texts, id_text, IsShare}
 use Rattle.command_lines.specs.Written.{command_texts}
@@ -58,7 +58,7 @@ tells_behind (some_texts texts made) front text h =
     (sym (append_assoc front (text ∷ []) more)) (ap made (sym (append_assoc texts (text ∷ []) more))) (h (text ∷ more))
 tells_behind (some_shares shares made) front text h = by (amount_of text) refl
   where
-    by : (o : Option ℤ) → amount_of text ≡ o → Tells (front ++ text ∷ []) (of_amount (λ n. word (λ id. some_shares (shares ++ (n, id_or_none id) ∷ []) made)) o)
+    by : (o : Option ℤ) → amount_of text ≡ o → Tells (front ++ text ∷ []) (if_read (λ n. word (λ id. some_shares (shares ++ (n, id_or_none id) ∷ []) made)) o)
     by None e = tt
     by (Some n) e = λ id more valid.
         let share : Share = (n, id_or_none id) in

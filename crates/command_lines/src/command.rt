@@ -5,6 +5,7 @@ ghost use Rattle.command_lines.specs.declared.command.CommandFault.TheVariants.{
 ghost use Rattle.command_lines.specs.Commands.{set_words, receive_words, fields_words, messages_words, value_words, trie_words, line_words, is_too_long, command, IsRead, IsCommand, HoldsText};
 ghost use Rattle.command_lines.specs.Unread.{command_of_unread, IsFaultOf, ReadsTextIn};
 
+use crate::edit_lines::row_line;
 use crate::words::{Words, cut_word};
 use device_core::{BookEdit, Edit};
 use field_merge::Message;
@@ -16,6 +17,8 @@ use std::alloc::Global;
 pub enum Command {
     /// `set DATASET ROW COLUMN VALUE`: an edit of the device's own.
     Edit(Edit),
+    /// INTERIM
+    Plan(book_edits::BookEdit),
     /// `receive STAMP DATASET ROW COLUMN VALUE`: a message of another device.
     Receive { message: Message },
     /// `fields`: the latest message of each field.
@@ -26,6 +29,14 @@ pub enum Command {
     Value { dataset: Txt, row: Txt, column: Txt },
     /// `trie`: the JSON text of the trie of all messages.
     Trie,
+    /// `balance ACCOUNT`: the sum of an account's transactions.
+    Balance { account: Txt },
+    /// `register ACCOUNT`: an account's transactions.
+    Register { account: Txt },
+    /// `cell MONTH NAME`: what one cell of a month YYYYMM tells.
+    Cell { month: u32, name: Txt },
+    /// `sheet MONTH`: all cells of a month YYYYMM.
+    Sheet { month: u32 },
 }
 
 impl Command {
@@ -55,6 +66,18 @@ impl Command {
                 column: column.copy()?,
             }),
             Command::Trie => Ok(Command::Trie),
+            Command::Plan(edit) => Ok(Command::Plan(edit.copy()?)),
+            Command::Balance { account } => Ok(Command::Balance {
+                account: account.copy()?,
+            }),
+            Command::Register { account } => Ok(Command::Register {
+                account: account.copy()?,
+            }),
+            Command::Cell { month, name } => Ok(Command::Cell {
+                month: *month,
+                name: name.copy()?,
+            }),
+            Command::Sheet { month } => Ok(Command::Sheet { month: *month }),
         }
     }
 }
@@ -193,7 +216,7 @@ fn command_of(alloc: Global, name: &str, words: &mut Words<'_>) -> Result<Comman
         "messages" => messages(alloc, words),
         "value" => value(alloc, words),
         "trie" => trie(words),
-        _ => Err(CommandFault::BadCommand { word: 0 }),
+        _ => row_line(alloc, name, words),
     }
 }
 

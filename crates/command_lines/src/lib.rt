@@ -4,8 +4,15 @@
 #![tactic(auto)]
 
 mod answer;
+mod book_answer;
+mod book_lines;
+mod cell_names;
 mod command;
+mod edit_lines;
+mod forms;
 mod laws;
+mod refusal;
+mod register;
 mod reply;
 mod words;
 

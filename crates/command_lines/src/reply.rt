@@ -1,5 +1,5 @@
 //! The replies to lines, and their texts.
-ghost use Rattle.std.specs.Prelude.{◌≡◌, ◌++◌, codes, string_bytes, IfOk, OnOk, Some};
+ghost use Rattle.std.specs.Prelude.{◌≡◌, ◌++◌, ◌∷◌, [], codes, string_bytes, IfOk, OnOk, Some};
 ghost use Rattle.std.specs.Fmt.{decimal};
 ghost use Rattle.command_lines.specs.declared.reply.Reply.TheVariants.{Done, Refused};
 ghost use Rattle.command_lines.specs.Replies.{wrote, added, faulty, refused, refused_edit, refused_clock, reply_text_of, detail_text};
@@ -43,8 +43,19 @@ impl Reply {
     }
 }
 
+/// A reply of one line.
+pub(crate) fn one_line(alloc: Global, line: Txt) -> Result<Reply, NoMemory>
+    ensures { IfOk result (λ r. r ≡ Done (line ∷ [])) }
+{
+    let mut lines = Vec::new(alloc);
+    lines.push(line)?;
+    Ok(Reply::Done {
+        lines: Items::new(lines),
+    })
+}
+
 /// A refusal with this code and detail.
-fn refusal(alloc: Global, number: u8, code: &str, detail: Txt) -> Result<Reply, NoMemory>
+pub(crate) fn refusal(alloc: Global, number: u8, code: &str, detail: Txt) -> Result<Reply, NoMemory>
     ensures { IfOk result (λ r. r ≡ Refused number code.now detail) }
 {
     Ok(Reply::Refused {
@@ -55,7 +66,7 @@ fn refusal(alloc: Global, number: u8, code: &str, detail: Txt) -> Result<Reply, 
 }
 
 /// The text of a number.
-fn number_text(alloc: Global, number: u64) -> Result<Txt, NoMemory>
+pub(crate) fn number_text(alloc: Global, number: u64) -> Result<Txt, NoMemory>
     ensures { IfOk result (λ t. t ≡ decimal number) }
 {
     let text = number.to_string(alloc)?;
@@ -91,11 +102,7 @@ pub fn added_reply(alloc: Global, count: u64) -> Result<Reply, NoMemory>
     ensures { IfOk result (λ r. r ≡ added count) }
 {
     let text = format!(in alloc; "added {count}")?;
-    let mut lines = Vec::new(alloc);
-    lines.push(Txt::new(text))?;
-    Ok(Reply::Done {
-        lines: Items::new(lines),
-    })
+    one_line(alloc, Txt::new(text))
 }
 
 /// The reply to a line whose word at the index `word` is the first that is not of its form.
