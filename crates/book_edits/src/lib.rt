@@ -4,8 +4,13 @@
 //! ([`writes`]). It changes nothing itself.
 #![tactic(auto)]
 
+mod accounts;
+mod checks;
 mod edit;
+mod given;
 mod making;
+mod names;
+mod writing;
 
 pub use edit::BookEdit;
 pub use making::writes;

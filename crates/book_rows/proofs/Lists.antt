@@ -24,7 +24,7 @@ child_there : (key : Text) (o : Option TxRow) → is_text key (keys_of o).parent
 child_there key None = refl
 child_there key (Some x) = parent_is key x
 
-account_there : (key : Text) (o : Option TxRow) → is_text key (keys_of o).account ≡ some_and (is_in_account key) o
+pub account_there : (key : Text) (o : Option TxRow) → is_text key (keys_of o).account ≡ some_and (is_in_account key) o
 account_there key None = refl
 account_there key (Some x) = refl
 

@@ -1,5 +1,5 @@
 -- What an account has.
-use Rattle.std.specs.Prelude.{Bool, not, ◌&&◌, ℤ}
+use Rattle.std.specs.Prelude.{not, ◌&&◌, ℤ}
 use Rattle.finite_sums.specs.Sums.{only_if}
 use Rattle.finite_sums.specs.Maps.{Text, total_of}
 use Rattle.book_rows.specs.declared.rows.Rows.{Rows}
@@ -7,10 +7,10 @@ use Rattle.book_rows.specs.declared.rows.TxRow.{TxRow}
 use Rattle.book_rows.specs.Live.{is_live_tx}
 use Rattle.book_rows.specs.Parts.{is_in_account}
 
--- the transaction adds to the balance of the account: it is one of it, live, and not split
-abbrev pub is_in_balance : Rows → Text → TxRow → Bool
-is_in_balance rows account x = is_in_account account x && (is_live_tx rows x && not x.is_parent)
+-- what a transaction adds to the balance of its account: nothing where it is dead, or where its parts add it
+abbrev pub adds : Rows → TxRow → ℤ
+adds rows x = only_if (is_live_tx rows x && not x.is_parent) x.amount
 
--- the balance of an account: the sum of the amounts of all transactions that add to it, whether it stands in the budget or not
+-- the balance of an account: what all transactions of it add, whether it stands in the budget or not
 abbrev pub balance_of : Rows → Text → ℤ
-balance_of rows account = total_of (λ x. only_if (is_in_balance rows account x) x.amount) rows.txs
+balance_of rows account = total_of (λ x. only_if (is_in_account account x) (adds rows x)) rows.txs

@@ -1,13 +1,6 @@
 -- The ids of rows are names.
-use Rattle.std.specs.Prelude.{◌≡◌, Some}
-use Rattle.std.specs.FinMap as map
-use Rattle.field_values.specs.Names.{IsName}
-use Rattle.finite_sums.specs.Maps.{Text, Texts}
 use Rattle.book_rows.specs.declared.rows.Rows.{Rows}
-
--- each id that has a row is a name
-abbrev pub AreNamed : {Row : Type 0} → Texts Row → Type 0
-AreNamed {Row} rows = (id : Text) (x : Row) → map.get rows id ≡ Some x → IsName id
+use Rattle.book_rows.specs.Tables.{AreNamed}
 
 -- each id of a row is a name
 pub record HasNames (rows : Rows) : Type 0 where

@@ -1,3 +1,4 @@
+pub mod Books
 pub mod Stamping
 pub mod Greatest
 pub mod Writing

@@ -9,20 +9,18 @@ use Rattle.hybrid_clock.specs.Clock.{clock_after, draw, receive}
 use Rattle.budget_ports.specs.declared.keeper.Record.{Record}
 use Rattle.field_merge.specs.declared.message.Message.{Message}
 use Rattle.budget_ports.specs.Keeper.{HaveKeys}
-use Rattle.field_merge.specs.Messages.{AreMessages}
-use Rattle.field_merge.specs.Log.{LogState, join, last_stamp}
-use Rattle.minute_trie.specs.declared.trie.Trie.{Trie}
-use Rattle.minute_trie.specs.Trie.{is_spent, IsTrieOf}
+use Rattle.field_merge.specs.Log.{join, last_stamp}
 use Rattle.kept_messages.specs.Records.{record_of}
 use Rattle.kept_messages.specs.News.{new_in}
-use Rattle.kept_messages.specs.Pairs.{pairs_of}
 use Rattle.device_core.specs.declared.edit.Edit.{Edit}
 use Rattle.device_core.specs.declared.edit.Write.{Write}
 use Rattle.device_core.specs.declared.edit.EditFault.{EditFault}
 use Rattle.device_core.specs.declared.edit.EditFault.TheVariants.{TooManyWrites}
 use Rattle.device_core.specs.declared.edit.LineRefusal.{LineRefusal}
 use Rattle.device_core.specs.declared.edit.LineRefusal.TheVariants.{Edit as OfEdit, Clock as OfClock, NoMemory}
+use Rattle.device_core.specs.declared.known.Known.{Known}
 use Rattle.device_core.specs.Edits.{writes_of}
+use Rattle.device_core.specs.Known.{IsKnown}
 
 -- the message set, and the timestamp at which the clock stands, with the device's own node
 pub record State : Type 0 where
@@ -132,10 +130,7 @@ IsRefused meant old new NoMemory = new.spent ≡ true
 IsRefused meant old new refusal = (meant ≡ Err refusal) × (new ≡ old)
 
 -- what holds of a device that is not spent
-pub record Stands (log : LogState) (trie : Trie) (clock : Stamp) (batch : List Record) : Type 0 where
-  pub live : log.spent ≡ false
-  pub valid : AreMessages log.messages
-  pub trie_live : is_spent trie ≡ false
-  pub trie_right : IsTrieOf (pairs_of log.messages) trie
-  pub ahead : IsAhead clock log.messages
+pub record Stands (known : Known) (clock : Stamp) (batch : List Record) : Type 0 where
+  pub right : IsKnown known
+  pub ahead : IsAhead clock known.log.messages
   pub keys : HaveKeys batch

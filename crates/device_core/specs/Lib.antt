@@ -1,3 +1,5 @@
+pub mod Books
+pub mod Known
 pub mod Edits
 pub mod Device
 pub mod Beginning

@@ -10,15 +10,18 @@ ghost use Rattle.kept_messages.specs.Records.{kept_set, IsStartFault, HasFirstSt
 ghost use Rattle.kept_messages.specs.declared.join.StartFault.TheVariants.{NoMemory as NoMemoryToStart};
 ghost use Rattle.kept_messages.specs.Pairs.{pairs_of};
 ghost use Rattle.device_core.specs.declared.edit.LineRefusal.TheVariants.{Edit as OfEdit};
+ghost use Rattle.device_core.specs.Books.{rows_of};
 ghost use Rattle.device_core.specs.Edits.{IsEdit, AreWrites};
 ghost use Rattle.device_core.specs.Device.{at_rest, begun, with_messages, stamped, writing, edited, later_of, greatest_of, received, IsAhead, IsAccepted, IsRefused};
 
 use crate::edit::{Edit, EditFault, LineRefusal, Write, edit_writes};
+use crate::known::{Known, join_all, read_all};
+use book_rows::Book;
 use budget_ports::Record;
 use field_merge::{Log, Message};
 use field_values::{Items, NoMemory, Steps, Txt};
 use hybrid_clock::{HybridClock, Node, Stamp};
-use kept_messages::{StartFault, join_all, read_log};
+use kept_messages::StartFault;
 use minute_trie::{Trie, tries_are_maps};
 use std::alloc::Global;
 use std::marker::Model;
@@ -36,8 +39,7 @@ const MOST_WRITES: usize = 65_536;
 #[derive(Drop)]
 pub struct Device {
     alloc: Global,
-    log: Log,
-    trie: Trie,
+    known: Known,
     clock: HybridClock,
     batch: Vec<Record>,
     made: Items<Txt>,
@@ -50,9 +52,9 @@ impl Model for Device {
 
     ghost Value = { DeviceState };
 
-    ghost view = { λ d. record { state = record { messages = d.log.messages; clock = d.clock }; batch = d.batch.items; made = d.made; spent = d.spent } };
+    ghost view = { λ d. record { state = record { messages = d.known.log.messages; clock = d.clock }; batch = d.batch.items; made = d.made; spent = d.spent } };
 
-    ghost invariant = { λ d. d.spent ≡ false → Stands d.log d.trie d.clock d.batch.items };
+    ghost invariant = { λ d. d.spent ≡ false → Stands d.known d.clock d.batch.items };
 }
 
 impl Device {
@@ -72,12 +74,11 @@ impl Device {
         ensures err { IfErr result (IsStartFault (kept_set records.now)) }
         ensures memory { result ≡ Err NoMemoryToStart → HasFirstStamp records.now }
     {
-        let (log, trie) = read_log(alloc, records)?;
-        let clock = HybridClock::new(node, log.last());
+        let known = read_all(alloc, records)?;
+        let clock = HybridClock::new(node, known.log.last());
         Ok(Device {
             alloc,
-            log,
-            trie,
+            known,
             clock,
             batch: Vec::new(alloc),
             made: Items::new(Vec::new(alloc)),
@@ -188,13 +189,7 @@ impl Device {
     {
         self.forget_made();
         self.spent = true;
-        join_all(
-            self.alloc,
-            &mut self.log,
-            &mut self.trie,
-            messages,
-            &mut self.batch,
-        )?;
+        join_all(self.alloc, &mut self.known, messages, &mut self.batch)?;
         self.spent = false;
         Ok(())
     }
@@ -268,7 +263,7 @@ impl Device {
         ensures messages { IfOk result (λ ms. ms ≡ messages_after since.now self.now.state.messages) }
         ensures valid { IfOk result AreMessages }
     {
-        self.log.since(since)
+        self.known.log.since(since)
     }
 
     /// The messages.
@@ -277,7 +272,7 @@ impl Device {
         ensures log { result.now ≡ record { messages = self.now.state.messages; spent = false } }
         ensures valid { AreMessages self.now.state.messages }
     {
-        &self.log
+        &self.known.log
     }
 
     /// The trie of the messages' timestamps, by which two devices find from when on they exchange messages.
@@ -292,7 +287,17 @@ impl Device {
     {
         // Each timestamp has a minute of the trie.
         tries_are_maps();
-        &self.trie
+        &self.known.trie
+    }
+
+    /// The rows that the values of the fields make.
+    ///
+    /// They depend on the messages alone, as the trie does.
+    pub fn book(&self) -> &Book
+        requires { self.now.spent ≡ false }
+        ensures { result.now ≡ record { rows = rows_of self.now.state.messages; spent = false } }
+    {
+        &self.known.book
     }
 
     /// The timestamp at which the clock stands. No message has a greater time and counter.

@@ -2,6 +2,7 @@
 ghost use Rattle.device_core.specs.Accepting.{AcceptedAreJoined};
 ghost use Rattle.device_core.specs.Answering.{WritesAreAnswered, MessagesAreAnswered};
 ghost use Rattle.device_core.specs.Beginning.{DevicesBegin};
+ghost use Rattle.device_core.specs.Books.{BooksFollowMessages};
 ghost use Rattle.device_core.specs.Greatest.{GreatestIsTold};
 ghost use Rattle.device_core.specs.ReadBack.{EditsReadBack, ReceivedAreJoined};
 ghost use Rattle.device_core.specs.Several.{WritesAreJoined};
@@ -10,6 +11,13 @@ ghost use Rattle.device_core.specs.Several.{WritesAreJoined};
 /// counter of the last of them, or at the start of 1970 where there are none.
 pub fn devices_begin()
     ensures { DevicesBegin }
+{}
+
+/// A law: the rows of messages are those that the values of the fields make, and no others are. So devices
+/// whose fields have the same values have the same books, and where equal timestamps mean equal messages,
+/// the order and the number in which messages came do not matter.
+pub fn books_follow_messages()
+    ensures { BooksFollowMessages }
 {}
 
 /// A law: of every accepted line some messages have joined, and the records of the new ones, and no

@@ -8,5 +8,5 @@ use Rattle.book_rows.proofs.txs.set_key.Goals as goal
 
 pub returns-clause-index : goal.returns-clause-index
 returns-clause-index c = on_ok c.change_keys.result (λ e.
-    keyed c.args.index.now c.change_keys.new.index c.args.txs.now c.set.new.self c.args.id.now c.args.column c.args.value.now c.requires c.in_ok-set.ensures
+    keyed c.args.index.now c.change_keys.new.index c.args.txs.now c.set.new.self c.args.id.now c.args.column c.args.value.now c.requires.index c.in_ok-set.ensures
     (subst (λ (keys : Keys). MovesKeys c.args.index.now c.change_keys.new.index c.args.id.now keys) (c.in_ok-after.ensures ∙ ap keys_of c.get-2.ensures) e)) c.change_keys.ensures
