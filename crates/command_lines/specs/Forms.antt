@@ -98,9 +98,12 @@ month_word = form_word month_of
 abbrev pub id_or_none : List ℕ → Option (List ℕ)
 id_or_none text = if bytes_eq text (codes "-") then None else Some text
 
--- a word that is such an id
+-- any text is such an id
+unfoldable pub id_of : List ℕ → Option (Option (List ℕ))
+id_of text = Some (id_or_none text)
+
 abbrev pub id_word : (Option (List ℕ) → Wanted) → Wanted
-id_word next = word (λ text. next (id_or_none text))
+id_word = form_word id_of
 
 -- ---- the words of a line
 

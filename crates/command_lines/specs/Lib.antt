@@ -2,10 +2,10 @@ pub mod Forms
 pub mod FormLaws
 pub mod Commands
 pub mod Unread
-pub mod Interim
 pub mod Refusals
 pub mod Replies
 pub mod Register
+pub mod RegisterLaws
 pub mod CellNames
 pub mod BookAnswers
 pub mod Readings

@@ -13,7 +13,7 @@ use Rattle.kept_messages.specs.Pairs.{pairs_of}
 use Rattle.command_lines.specs.declared.command.Command.{Command}
 use Rattle.command_lines.specs.declared.command.Command.TheVariants.{Edit, Plan, Receive, Fields, Messages, Value, Trie, Balance, Register, Cell, Sheet}
 use Rattle.book_rows.specs.declared.rows.Rows.{Rows}
-use Rattle.command_lines.specs.Interim.{rows_of}
+use Rattle.device_core.specs.Books.{rows_of}
 use Rattle.command_lines.specs.BookAnswers.{balance_answer, register_answer, cell_answer, sheet_answer}
 use Rattle.command_lines.specs.declared.reply.Reply.{Reply}
 use Rattle.command_lines.specs.declared.reply.Reply.TheVariants.{Done}

@@ -10,7 +10,6 @@ ghost use Rattle.field_merge.specs.Log.{fields, value_in};
 ghost use Rattle.minute_trie.specs.Trie.{trie_of};
 ghost use Rattle.minute_trie.specs.Json.{trie_text};
 ghost use Rattle.kept_messages.specs.Pairs.{pairs_of};
-ghost use Rattle.command_lines.specs.Interim.{rows_of};
 ghost use Rattle.command_lines.specs.Readings.{answer, book_answer, shown, IsReading, AsksBooks};
 
 use crate::book_answer::{balance_reply, cell_reply, register_reply, sheet_reply};
@@ -174,9 +173,8 @@ fn book_reply(alloc: Global, book: &Book, command: &Command) -> Result<Reply, No
 
 /// The reply to a line that only reads: `fields`, `messages`, `value`, `trie`, `balance`, `register`, `cell` or `sheet`. It is told
 /// by the device's messages alone, so devices that have the same messages reply the same.
-pub fn read_reply(alloc: Global, device: &Device, book: &Book, command: &Command) -> Result<Reply, NoMemory>
+pub fn read_reply(alloc: Global, device: &Device, command: &Command) -> Result<Reply, NoMemory>
     requires live { device.now.spent ≡ false }
-    requires interim { book.now ≡ record { rows = rows_of device.now.state.messages; spent = false } }
     requires reading { IsReading command.now }
     ensures { IfOk result (λ r. r ≡ answer device.now.state.messages command.now) }
 {
@@ -197,7 +195,7 @@ pub fn read_reply(alloc: Global, device: &Device, book: &Book, command: &Command
         Command::Balance { .. }
         | Command::Register { .. }
         | Command::Cell { .. }
-        | Command::Sheet { .. } => book_reply(alloc, book, command),
+        | Command::Sheet { .. } => book_reply(alloc, device.book(), command),
         Command::Edit(_) | Command::Plan(_) | Command::Receive { .. } => unreachable!(),
     }
 }

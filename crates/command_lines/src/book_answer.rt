@@ -2,7 +2,6 @@
 ghost use Rattle.std.specs.Prelude.{◌≡◌, false, IsTrue, IfOk, map};
 ghost use Rattle.std.specs.Fmt.{signed_decimal};
 ghost use Rattle.book_rows.specs.Live.{is_live_account};
-ghost use Rattle.book_rows.specs.Balances.{balance_of};
 ghost use Rattle.book_rows.specs.Months.{is_month};
 ghost use Rattle.envelope_cells.specs.BudgetOf.{budget_of};
 ghost use Rattle.envelope_cells.specs.CellOf.{cell_of};
@@ -31,16 +30,6 @@ fn is_live(book: &Book, account: &Txt) -> bool
     }
 }
 
-/// INTERIM
-fn interim_balance(book: &Book, account: &Txt) -> i128
-    requires live { book.now.spent ≡ false }
-    ensures { result ≡ balance_of book.now.rows account.now }
-{
-    let _ = book;
-    let _ = account;
-    0
-}
-
 /// The decimal text of a number.
 fn signed_text(alloc: Global, number: i128) -> Result<Txt, NoMemory>
     ensures { IfOk result (λ t. t ≡ signed_decimal number) }
@@ -57,7 +46,7 @@ pub(crate) fn balance_reply(alloc: Global, book: &Book, account: &Txt) -> Result
     if !is_live(book, account) {
         return no_account(alloc, account);
     }
-    let balance = signed_text(alloc, interim_balance(book, account))?;
+    let balance = signed_text(alloc, book.balance(account))?;
     one_line(alloc, balance)
 }
 

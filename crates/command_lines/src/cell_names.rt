@@ -37,7 +37,9 @@ fn is_of_month(kind: CellKind) -> bool
 fn id_behind<'a>(kind: CellKind, name: &'a str) -> Option<&'a str>
     ensures { option_copied result ≡ id_behind kind name.now }
 {
-    let rest = name.strip_prefix(kind.text())?;
+    let Some(rest) = name.strip_prefix(kind.text()) else {
+        return None;
+    };
     if is_of_month(kind) && !rest.is_empty() {
         return None;
     }

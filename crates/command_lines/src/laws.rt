@@ -46,7 +46,10 @@ pub fn first_bad_is_told()
 /// A law: what lines that only read are answered. `value` tells the value of the latest message of the field, escaped, and
 /// `none` where no message is one of the field. `fields` tells the line of the latest message of each field, by
 /// dataset, row and column. `messages` tells the line of each message whose timestamp's text is greater than the text, by
-/// timestamp. `trie` tells a text that is read as the trie of the messages' timestamps, in whichever order they came.
+/// timestamp. `trie` tells a text that is read as the trie of the messages' timestamps, in whichever order they came. `balance`
+/// and `register` tell of a live account, `cell` and `sheet` of a month, what the rows of the messages say: the balance, exactly
+/// the live transactions of the account by day and id, what the cell tells, and the lines of the sheet. Which account, month,
+/// group, category or kind of cell is refused is told, too.
 pub fn answers_tell()
     ensures { AnswersTell }
 {

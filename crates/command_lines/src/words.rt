@@ -198,6 +198,7 @@ impl<'a> Words<'a> {
     }
 
     /// The id that the next word is, or none where it is a hyphen. The word is at fault where it is missing or has a bad escape.
+    #[tactic(auto, unfolding(crate::specs::Forms::id_of))]
     pub(crate) fn id_or_none(&mut self, alloc: Global) -> Result<Option<Txt>, CommandFault>
         ensures ok { IfOk result (λ id. (next : Choice (List ℕ) → Wanted) → command_of_unread (id_word next) self.old ≡ command_of_unread (next id) self.new) }
         ensures err { IfErr result (λ fault. (next : Choice (List ℕ) → Wanted) → IsCommandFault (command_of_unread (id_word next) self.old) fault) }
