@@ -11,12 +11,15 @@ ghost use Rattle.kept_messages.specs.declared.join.StartFault.TheVariants.{NoMem
 ghost use Rattle.kept_messages.specs.Pairs.{pairs_of};
 ghost use Rattle.device_core.specs.declared.edit.LineRefusal.TheVariants.{Edit as OfEdit};
 ghost use Rattle.device_core.specs.Books.{rows_of};
-ghost use Rattle.device_core.specs.Edits.{IsEdit, AreWrites};
-ghost use Rattle.device_core.specs.Device.{at_rest, begun, with_messages, stamped, writing, edited, later_of, greatest_of, received, IsAhead, IsAccepted, IsRefused};
+ghost use Rattle.book_rows.specs.Writes.{AreWrites};
+ghost use Rattle.book_edits.specs.Faults.{IsEditFault};
+ghost use Rattle.device_core.specs.Edits.{IsEdit, MayWantMemory, writes_of};
+ghost use Rattle.device_core.specs.Device.{at_rest, begun, with_messages, with_writes, writing, edited, later_of, greatest_of, received, IsAhead, IsAccepted, IsRefused};
 
-use crate::edit::{Edit, EditFault, LineRefusal, Write, edit_writes};
+use crate::edit::{Edit, LineRefusal, edit_writes};
 use crate::known::{Known, join_all, read_all};
-use book_rows::Book;
+use crate::placing::place_writes;
+use book_rows::{Book, EditFault, Write};
 use budget_ports::Record;
 use field_merge::{Log, Message};
 use field_values::{Items, NoMemory, Steps, Txt};
@@ -89,13 +92,13 @@ impl Device {
     /// Makes an edit at a reading of the wall clock, in milliseconds since 1970, and answers how many
     /// writes it was. What was pending has to be kept before (`commit`).
     ///
-    /// The writes become messages under timestamps in a row, whose records are then pending. An edit
-    /// without writes draws no timestamp. The counter of steps counts nothing yet.
+    /// The writes become messages under timestamps in a row, whose records are then pending; the id of a row
+    /// that is made is the text of its first write's timestamp. An edit without writes draws no timestamp. The counter of steps counts nothing yet.
     ///
     /// # Errors
     ///
-    /// Tested in this order: the edit's own checks, `TooManyWrites`, the clock. An empty name is told
-    /// before memory is taken. After a refusal the device is as it was, and after `NoMemory` it is spent.
+    /// Tested in this order: the edit's own checks, in the book of the messages, `TooManyWrites`, the clock.
+    /// That a field with an empty name can't be set is told before memory is taken. After a refusal the device is as it was, and after `NoMemory` it is spent.
     pub fn prepare<G: Ledger>(
         &mut self,
         edit: &Edit,
@@ -109,10 +112,10 @@ impl Device {
         ensures refused { IfErr result (IsRefused (edited self.old.state edit.now reading) self.old self.new) }
         ensures live { OnOk result (self.new.spent ≡ false) }
         ensures memory { result ≢ Err (OfEdit EditFault.NoMemory) }
-        ensures empty { result ≡ Err LineRefusal.NoMemory → edited self.old.state edit.now reading ≢ Err (OfEdit (EditFault.BadId [])) }
+        ensures empty { result ≡ Err LineRefusal.NoMemory → MayWantMemory edit.now }
         ensures steps { steps.new ≡ steps.old }
     {
-        match edit_writes(self.alloc, edit) {
+        match self.writes(edit) {
             Ok(writes) => self.write(writes.as_slice(), reading),
             Err(EditFault::NoMemory) => {
                 self.spent = true;
@@ -120,6 +123,18 @@ impl Device {
             }
             Err(fault) => Err(LineRefusal::Edit(fault)),
         }
+    }
+
+    /// The writes of an edit in the book of the messages.
+    fn writes(&self, edit: &Edit) -> Result<Vec<Write>, EditFault>
+        requires live { self.now.spent ≡ false }
+        requires valid { IsEdit edit.now }
+        ensures ok { IfOk result (λ ws. writes_of (rows_of self.now.state.messages) edit.now ≡ Ok ws.items) }
+        ensures valid { IfOk result (λ ws. AreWrites ws.items) }
+        ensures err { IfErr result (IsEditFault (writes_of (rows_of self.now.state.messages) edit.now)) }
+        ensures memory { result ≡ Err EditFault.NoMemory → MayWantMemory edit.now }
+    {
+        edit_writes(self.alloc, self.book(), edit)
     }
 
     /// Makes writes at a reading of the wall clock.
@@ -166,11 +181,11 @@ impl Device {
         requires stamp { IsStamp first }
         requires row { self.old.state.clock ≡ record first { counter = first.counter + (length writes.now - 1) } }
         requires room { first.counter + length writes.now ≤ 65_536 }
-        ensures ok { OnOk result (self.new ≡ with_messages self.old.state.messages (stamped first writes.now) self.old.state.clock) }
+        ensures ok { OnOk result (self.new ≡ with_writes self.old.state.messages first writes.now self.old.state.clock) }
         ensures err { OnErr result (self.new.spent ≡ true) }
     {
-        match stamp_writes(self.alloc, first, writes) {
-            Ok(messages) => self.join(messages.as_slice()),
+        match place_writes(self.alloc, &first, writes) {
+            Ok((messages, made)) => self.join(messages.as_slice(), made),
             Err(fault) => {
                 self.spent = true;
                 Err(fault)
@@ -178,16 +193,16 @@ impl Device {
         }
     }
 
-    /// Joins messages, the records of the new ones of which are then pending.
-    fn join(&mut self, messages: &[Message]) -> Result<(), NoMemory>
+    /// Joins messages, the records of the new ones of which are then pending, by a line that made these ids.
+    fn join(&mut self, messages: &[Message], made: Items<Txt>) -> Result<(), NoMemory>
         requires live { self.old.spent ≡ false }
         requires idle { self.old.batch ≡ [] }
         requires valid { AreMessages messages.now }
         requires ahead { IsAhead self.old.state.clock messages.now }
-        ensures ok { OnOk result (self.new ≡ with_messages self.old.state.messages messages.now self.old.state.clock) }
+        ensures ok { OnOk result (self.new ≡ with_messages self.old.state.messages messages.now self.old.state.clock made) }
         ensures err { OnErr result (self.new.spent ≡ true) }
     {
-        self.forget_made();
+        self.made = made;
         self.spent = true;
         join_all(self.alloc, &mut self.known, messages, &mut self.batch)?;
         self.spent = false;
@@ -226,7 +241,8 @@ impl Device {
         if let Err(fault) = self.clock.receive(reading, &stamp) {
             return Err(LineRefusal::Clock(fault));
         }
-        match self.join(batch) {
+        let made = Items::new(Vec::new(self.alloc));
+        match self.join(batch, made) {
             Ok(()) => Ok(self.batch.len() as u64),
             Err(NoMemory) => Err(LineRefusal::NoMemory),
         }
@@ -241,7 +257,7 @@ impl Device {
         self.batch.as_slice()
     }
 
-    /// The ids that were made for rows: `prepare` and `incoming` say which. No edit makes one yet.
+    /// The ids that were made for rows: `prepare` and `incoming` say which.
     pub fn made(&self) -> &Items<Txt>
         requires { self.now.spent ≡ false }
         ensures { result.now ≡ self.now.made }
@@ -316,34 +332,6 @@ impl Device {
     {
         self.spent
     }
-}
-
-/// The message of a write under a timestamp that has another counter.
-fn stamp_write(first: Stamp, counter: u16, write: &Write) -> Result<Message, NoMemory>
-    ensures { IfOk result (λ m. m ≡ record { stamp = record first { counter = counter }; field = write.now.field; value = write.now.value }) }
-{
-    Ok(Message {
-        stamp: Stamp {
-            millis: first.millis,
-            counter,
-            node: first.node,
-        },
-        field: write.field.copy()?,
-        value: write.value.copy()?,
-    })
-}
-
-/// The messages of writes under timestamps in a row.
-fn stamp_writes(alloc: Global, first: Stamp, writes: &[Write]) -> Result<Vec<Message>, NoMemory>
-    requires room { first.counter + length writes.now ≤ 65_536 }
-    ensures { IfOk result (λ ms. ms.items ≡ stamped first writes.now) }
-{
-    let mut messages = Vec::new(alloc);
-    for (index, write) in writes.iter().enumerate() {
-        let counter = first.counter as usize + index;
-        messages.push(stamp_write(first, counter as u16, write)?)?;
-    }
-    Ok(messages)
 }
 
 /// The greatest timestamp of messages.

@@ -107,9 +107,9 @@ pub fn join_message(
     ensures latest { IfOk result (λ entered. (f : FieldNames) → latest log.new.messages f ≡ (if entered.latest && has_field f message.now then Some message.now else latest log.old.messages f)) }
 {
     let kept = write_record(alloc, message)?;
-    let entered = enter(log, trie, message.copy()?)?;
-    push_if(entered.fresh, batch, kept)?;
-    Ok(entered)
+    let told = enter(log, trie, message.copy()?)?;
+    push_if(told.fresh, batch, kept)?;
+    Ok(told)
 }
 
 /// Adds a record where it is new.

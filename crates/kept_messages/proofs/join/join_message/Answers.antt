@@ -8,5 +8,5 @@ use Rattle.kept_messages.proofs.join.join_message.Goals as goal
 pub returns-clause-batch : goal.returns-clause-batch
 returns-clause-batch c =
     subst (λ (x : List Record). c.push_if.new.batch.items ≡ c.args.batch.now.items ++ x)
-    (one_new c.args.log.now.messages c.args.message.now c.in_ok-entered.entered.fresh c.in_ok-kept.kept
-    (c.in_ok-entered.ensures.fresh ∙ ap (λ (m : Message). is_none (at_stamp c.args.log.now.messages m.stamp)) c.in_ok-copy.ensures) c.in_ok-kept.ensures) c.in_ok-push_if.ensures
+    (one_new c.args.log.now.messages c.args.message.now c.in_ok-told.told.fresh c.in_ok-kept.kept
+    (c.in_ok-told.ensures.fresh ∙ ap (λ (m : Message). is_none (at_stamp c.args.log.now.messages m.stamp)) c.in_ok-copy.ensures) c.in_ok-kept.ensures) c.in_ok-push_if.ensures

@@ -12,7 +12,7 @@ use Rattle.device_core.proofs.device.Device.join.Goals as goal
 
 pub invariant_of-self-2 : goal.invariant_of-self-2
 invariant_of-self-2 c = λ _.
-    let state = c.self.view_is ∙ c.forget_made.ensures in
+    let state = c.self.view_is in
     let live : c.self.inside.spent ≡ false = ap (λ (d : DeviceState). d.spent) state ∙ c.requires.live in
     let idle : c.self.inside.batch.items ≡ [] = ap (λ (d : DeviceState). d.batch) state ∙ c.requires.idle in
     let clock : c.self.inside.clock ≡ c.args.self.now.state.clock = ap (λ (d : DeviceState). d.state.clock) state in
