@@ -3,7 +3,6 @@ use Rattle.std.proofs.Common.{◌≡◌, ◌≢◌, ℕ, Bool, true, false, cond
 use Rattle.std.specs.Prelude.{ℤ, nat_eq, ◌&&◌, not}
 use Rattle.std.specs.List.{flat_map, starts_with}
 use Rattle.std.specs.Fmt.{signed_decimal}
-use Rattle.std.proofs.lemmas.Bool.Decides.{nat_tests}
 use Rattle.field_merge.specs.declared.message.Message.{Message}
 use Rattle.field_merge.specs.Lines.{ended}
 use Rattle.book_rows.specs.declared.rows.Rows.{Rows}
@@ -25,6 +24,7 @@ use Rattle.command_lines.specs.CellNames.{is_of_group, is_of_month, is_empty, id
 use Rattle.command_lines.specs.Refusals.{no_such_account, no_such_group, no_such_category, bad_month}
 use Rattle.command_lines.specs.Register.{register_lines, register_of}
 use Rattle.command_lines.specs.Replies.{faulty}
+use Rattle.command_lines.proofs.Prefixes.{starts_written}
 use Rattle.command_lines.proofs.RegisterLemmas.{is_register}
 
 -- ---- names of cells
@@ -57,18 +57,6 @@ named_back month OfBudget id h = refl
 named_back month Carryover id h = refl
 named_back month Leftover id h = refl
 
-nat_same : (m n : ℕ) → nat_eq m n ≡ true → m ≡ n
-nat_same m n h = grind (arith, nat_tests)
-
-starts_written : (p text : List ℕ) → starts_with nat_eq text p ≡ true → p ++ drop (length p) text ≡ text
-starts_written [] text h = refl
-starts_written (x ∷ p) [] h = absurd (cc)
-starts_written (x ∷ p) (y ∷ text) h = by (nat_eq y x) refl h
-  where
-    by : (b : Bool) → nat_eq y x ≡ b → (b && starts_with nat_eq text p) ≡ true → x ∷ (p ++ drop (length p) text) ≡ y ∷ text
-    by true e rest = (λ i. sym (nat_same y x e) i ∷ starts_written p text rest i)
-    by false e rest = absurd (cc)
-
 record IsNameOf (name : CellName) (text : List ℕ) : Type 0 where
   id : MayHaveId name.kind name.id
   same : name_text name ≡ text
@@ -99,11 +87,11 @@ behind_written month kind text id e = by (starts_with nat_eq text (kind_text kin
 -- what a text names has the text as its name
 named_written : (kinds : List CellKind) (month : ℕ) (text : List ℕ) (name : CellName) → named_by kinds month text ≡ Some name → IsNameOf name text
 named_written [] month text name e = absurd (cc)
-named_written (kind ∷ kinds) month text name e = by (id_behind kind text) refl e
+named_written (kind ∷ kinds) month text name e = by (id_behind kind text) refl (named_written kinds month text name) e
   where
-    by : (o : Option (List ℕ)) → id_behind kind text ≡ o → this_or month kind o (named_by kinds month text) ≡ Some name → IsNameOf name text
-    by None p found = named_written kinds month text name found
-    by (Some id) p found =
+    by : (o : Option (List ℕ)) → id_behind kind text ≡ o → (named_by kinds month text ≡ Some name → IsNameOf name text) → this_or month kind o (named_by kinds month text) ≡ Some name → IsNameOf name text
+    by None p rest found = rest found
+    by (Some id) p rest found =
         let same : record { month = month; kind = kind; id = id } ≡ name = cc in
         subst (λ (n : CellName). IsNameOf n text) same (behind_written month kind text id p)
 
@@ -125,9 +113,7 @@ lines_of_sheet [] = refl
 lines_of_sheet (c ∷ cs) = ap (λ t. t ++ flat_map ended (map cell_text cs)) (one c) ∙ ap (λ t. cell_line c ++ t) (lines_of_sheet cs)
   where
     one : (c : ACell) → ended (cell_text c) ≡ cell_line c
-    one c =
-        append_assoc (kind_text c.name.kind) (c.name.id ++ 32 ∷ signed_decimal c.value) (10 ∷ [])
-        ∙ ap (λ t. kind_text c.name.kind ++ t) (append_assoc c.name.id (32 ∷ signed_decimal c.value) (10 ∷ []))
+    one c = ap (λ t. t ++ 10 ∷ []) (sym (append_assoc (kind_text c.name.kind ++ c.name.id) (32 ∷ []) (signed_decimal c.value)))
 
 not_of_group : (kind : CellKind) → is_of_category kind ≡ true → is_of_group kind ≡ false
 not_of_group TotalIncome h = refl

@@ -14,6 +14,7 @@ use Rattle.book_rows.specs.declared.rows.Rows.{Rows}
 use Rattle.book_rows.specs.declared.rows.TxRow.{TxRow}
 use Rattle.book_rows.specs.Live.{is_live_tx, is_live_group, is_live_category, is_live_category_row, category_of, payee_of}
 use Rattle.book_rows.specs.Parts.{account_txs}
+use Rattle.book_rows.specs.Named.{HasNames}
 use Rattle.book_rows.specs.Book.{dated_cmp}
 use Rattle.envelope_cells.specs.Budget.{Budget, categories, categories_of}
 use Rattle.envelope_cells.specs.BudgetOf.{budget_of, groups_of}
@@ -21,7 +22,7 @@ use Rattle.envelope_cells.specs.Ids.{month_number}
 use Rattle.envelope_cells.specs.SheetOf.{cell, month_cells, category_cells, categories_cells, group_cells, groups_cells, sheet_of}
 use Rattle.envelope_cells.specs.Text.{kind_text}
 use Rattle.envelope_cells.specs.Laws.{LiveOnesAreListed}
-use Rattle.envelope_cells.specs.declared.groups.BudgetGroup.{BudgetGroup}
+use Rattle.book_rows.specs.Rows.{no_rows}
 use Rattle.envelope_cells.specs.declared.name.Cell.{Cell}
 use Rattle.envelope_cells.specs.declared.name.CellKind.{CellKind}
 use Rattle.envelope_cells.specs.declared.name.CellKind.TheVariants.{TotalIncome, FromLastMonth, AvailableFunds, LastMonthOverspent, TotalBudgeted, Buffered, ToBudget, TotalSpent, TotalLeftover, GroupSum, GroupBudget, GroupLeftover, Sum, Budget as OfBudget, Carryover, Leftover}
@@ -31,7 +32,7 @@ use Rattle.command_lines.specs.Register.{Entry, day_text, shown_id, register_lin
 use Rattle.command_lines.specs.BookAnswers.{cell_text}
 use Rattle.command_lines.specs.ReplyLines.{IsLine, AreLines}
 use Rattle.command_lines.proofs.PlainTexts.{Plain, both, tested, is_line, plain_of, number_plain, signed_plain}
-use Rattle.command_lines.proofs.RowIds.{AreNames, name_line, there_named}
+use Rattle.command_lines.proofs.RowIds.{name_line, there_named}
 
 -- ---- a register
 
@@ -45,26 +46,22 @@ id_plain (Some id) = escaped-no_feed id
 
 line_plain : (rows : Rows) (id : Text) (x : TxRow) → Plain id → Plain (register_line rows id x)
 line_plain rows id x h =
-    let payee : Text = shown_id (payee_of rows x) in
-    let category : Text = shown_id (category_of rows x) ++ 9 ∷ payee in
-    let amount : Text = signed_decimal x.amount ++ 9 ∷ category in
-    let day : Text = day_text x.date ++ 9 ∷ amount in
-    both id (9 ∷ day) h (
-      refl,
-      both (day_text x.date) (9 ∷ amount) (day_plain x.date) (
-        refl,
-        both (signed_decimal x.amount) (9 ∷ category) (signed_plain x.amount) (
-          refl,
-          both (shown_id (category_of rows x)) (9 ∷ payee) (id_plain (category_of rows x)) (refl, id_plain (payee_of rows x)),
-        ),
-      ),
-    )
+    let day : Text = id ++ 9 ∷ day_text x.date in
+    let amount : Text = day ++ 9 ∷ signed_decimal x.amount in
+    let category : Text = amount ++ 9 ∷ shown_id (category_of rows x) in
+    both category (9 ∷ shown_id (payee_of rows x))
+    (both amount (9 ∷ shown_id (category_of rows x))
+    (both day (9 ∷ signed_decimal x.amount)
+    (both id (9 ∷ day_text x.date) h (refl, day_plain x.date))
+    (refl, signed_plain x.amount))
+    (refl, id_plain (category_of rows x)))
+    (refl, id_plain (payee_of rows x))
 
 -- the lines of entries have no line feed
 abbrev HaveLines : List Entry → Type 0
 HaveLines es = AllByRecursion (λ e. IsLine e.1) es
 
-entry_lines : (rows : Rows) → AreNames rows → (id : Text) → HaveLines (entry_of rows id)
+entry_lines : (rows : Rows) → HasNames rows → (id : Text) → HaveLines (entry_of rows id)
 entry_lines rows named id = by (fin.get rows.txs id) refl
   where
     live : (x : TxRow) (b : Bool) → Plain id → HaveLines (cond b (((day_or_first x.date, id), register_line rows id x) ∷ []) [])
@@ -78,7 +75,7 @@ append_lines : (es fs : List Entry) → HaveLines es → HaveLines fs → HaveLi
 append_lines [] fs h k = k
 append_lines (e ∷ es) fs h k = (h.0, append_lines es fs h.1 k)
 
-all_entry_lines : (rows : Rows) → AreNames rows → (ids : List Text) → HaveLines (flat_map (entry_of rows) ids)
+all_entry_lines : (rows : Rows) → HasNames rows → (ids : List Text) → HaveLines (flat_map (entry_of rows) ids)
 all_entry_lines rows named [] = tt
 all_entry_lines rows named (id ∷ ids) = append_lines (entry_of rows id) (flat_map (entry_of rows) ids) (entry_lines rows named id) (all_entry_lines rows named ids)
 
@@ -99,7 +96,7 @@ lines_of : (es : List Entry) → HaveLines es → AreLines (map (λ (e : Entry).
 lines_of [] h = tt
 lines_of (e ∷ es) h = (h.0, lines_of es h.1)
 
-pub register_is : (rows : Rows) (account : Text) → AreNames rows → AreLines (register_lines rows account)
+pub register_is : (rows : Rows) (account : Text) → HasNames rows → AreLines (register_lines rows account)
 register_is rows account named =
     lines_of (register_of rows account) (placed_lines (flat_map (entry_of rows) (account_txs rows account)) [] (all_entry_lines rows named (account_txs rows account)) tt)
 
@@ -126,7 +123,7 @@ kind_plain Leftover = tested (kind_text Leftover) refl
 cell_line : (month : ℕ) (kind : CellKind) (id : Text) (z : ℤ) → IsLine id → IsLine (cell_text (cell month kind id z))
 cell_line month kind id z h =
     is_line (kind_text kind ++ id ++ 32 ∷ signed_decimal z)
-    (both (kind_text kind) (id ++ 32 ∷ signed_decimal z) (kind_plain kind) (both id (32 ∷ signed_decimal z) (plain_of id h) (refl, signed_plain z)))
+    (both (kind_text kind ++ id) (32 ∷ signed_decimal z) (both (kind_text kind) id (kind_plain kind) (plain_of id h)) (refl, signed_plain z))
 
 abbrev TellLines : List Cell → Type 0
 TellLines cells = AreLines (map cell_text cells)
@@ -144,18 +141,26 @@ categories_lines b month m income [] h = tt
 categories_lines b month m income (id ∷ ids) h =
     append_cells (category_cells b month m income id) (categories_cells b month m income ids) (category_lines b month m income id h.0) (categories_lines b month m income ids h.1)
 
-group_lines : (b : Budget) (month m : ℕ) (g : BudgetGroup) → IsLine g.id → TellLines (group_cells b month m g)
-group_lines b month m g h = by g.is_income
-  where
-    by : (income : Bool) → TellLines (cell month GroupSum g.id _ ∷ (cond income [] (cell month GroupBudget g.id _ ∷ cell month GroupLeftover g.id _ ∷ [])))
-    by true = (cell_line month GroupSum g.id _ h, tt)
-    by false = (cell_line month GroupSum g.id _ h, (cell_line month GroupBudget g.id _ h, (cell_line month GroupLeftover g.id _ h, tt)))
+-- a group of a budget
+abbrev ElementOf : {A : Type 0} → List A → Type 0
+ElementOf {A} xs = A
+
+abbrev Group : Type 0
+Group = ElementOf (groups_of no_rows)
+
+either_cells : (t : Bool) (cs ds : List Cell) → TellLines cs → TellLines ds → TellLines (cond t cs ds)
+either_cells true cs ds h k = h
+either_cells false cs ds h k = k
+
+group_lines : (b : Budget) (month m : ℕ) (g : Group) → IsLine g.id → TellLines (group_cells b month m g)
+group_lines b month m g h =
+    (cell_line month GroupSum g.id _ h, either_cells g.is_income [] _ tt (cell_line month GroupBudget g.id _ h, (cell_line month GroupLeftover g.id _ h, tt)))
 
 -- the ids of groups and of their categories have no line feed
-abbrev HaveIds : List BudgetGroup → Type 0
+abbrev HaveIds : List Group → Type 0
 HaveIds gs = AllByRecursion (λ g. IsLine g.id × AreLines g.categories) gs
 
-groups_lines : (b : Budget) (month m : ℕ) (gs : List BudgetGroup) → HaveIds gs → TellLines (groups_cells b month m gs)
+groups_lines : (b : Budget) (month m : ℕ) (gs : List Group) → HaveIds gs → TellLines (groups_cells b month m gs)
 groups_lines b month m [] h = tt
 groups_lines b month m (g ∷ gs) h =
     append_cells (group_cells b month m g ++ categories_cells b month m g.is_income g.categories) (groups_cells b month m gs)
@@ -191,16 +196,16 @@ all_among [] h = tt
 all_among (id ∷ ids) h =
     (h id (or_left (eq_by_cmp text_cmp id id) (is_among text_cmp ids id) (itself id)), all_among ids (λ q e. h q (or_right (eq_by_cmp text_cmp q id) (is_among text_cmp ids q) e)))
 
-have_ids : (gs : List BudgetGroup) → ((q : Text) → is_among text_cmp (map (λ (g : BudgetGroup). g.id) gs) q ≡ true → IsLine q) → ((q : Text) → is_among text_cmp (categories_of gs) q ≡ true → IsLine q)
+have_ids : (gs : List Group) → ((q : Text) → is_among text_cmp (map (λ (g : Group). g.id) gs) q ≡ true → IsLine q) → ((q : Text) → is_among text_cmp (categories_of gs) q ≡ true → IsLine q)
     → HaveIds gs
 have_ids [] h k = tt
 have_ids (g ∷ gs) h k =
-    let ids : List Text = map (λ (g : BudgetGroup). g.id) gs in (
+    let ids : List Text = map (λ (g : Group). g.id) gs in (
       (h g.id (or_left (eq_by_cmp text_cmp g.id g.id) (is_among text_cmp ids g.id) (itself g.id)), all_among g.categories (λ q e. k q (in_front g.categories (categories_of gs) q e))),
       have_ids gs (λ q e. h q (or_right (eq_by_cmp text_cmp q g.id) (is_among text_cmp ids q) e)) (λ q e. k q (in_back g.categories (categories_of gs) q e)),
     )
 
-pub sheet_is : (rows : Rows) (month : ℕ) → AreNames rows → AreLines (map cell_text (sheet_of (budget_of rows) month))
+pub sheet_is : (rows : Rows) (month : ℕ) → HasNames rows → AreLines (map cell_text (sheet_of (budget_of rows) month))
 sheet_is rows month named =
     let listed : LiveOnesAreListed rows = live_ones_are_listed_lem rows in
     let m : ℕ = month_number month in

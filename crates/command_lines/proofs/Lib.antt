@@ -17,6 +17,7 @@ pub mod RawLemmas
 pub mod ReceivedLines
 pub mod FirstBad
 pub mod RegisterLemmas
+pub mod Prefixes
 pub mod BookAnswerLemmas
 pub mod AnswerLemmas
 pub mod PlainTexts

@@ -112,17 +112,17 @@ AreApart (e ∷ es) done = Apart e.0.1 done × Apart e.0.1 es × AreApart es don
 apart_put : (e : Entry) (es done : List Entry) → Apart e.0.1 done → Apart e.0.1 es → AreApart es done → AreApart es (put e.0 e.1 done)
 apart_put e [] done h k a = tt
 apart_put e (f ∷ es) done h k a =
-    (put_all e.0 e.1 (λ x. eq_by_cmp text_cmp f.0.1 x.0.1 ≡ false) done h ((eq_by_cmp_equiv text_total).symm f.0.1 e.0.1 ∙ k.0) a.0, a.1.0, apart_put e es done h k.1 a.1.1)
+    (put_all e.0 e.1 (λ x. eq_by_cmp text_cmp f.0.1 x.0.1 ≡ false) done h ((eq_by_cmp_equiv text_total).symm f.0.1 e.0.1 ∙ k.0) a.0, a.1, apart_put e es done h k.1 a.2)
 
 placed_all : (P : Entry → Type 0) (es done : List Entry) → AreApart es done → AllByRecursion P es → AllByRecursion P done → AllByRecursion P (placed es done)
 placed_all P [] done a h k = k
-placed_all P (e ∷ es) done a h k = placed_all P es (put e.0 e.1 done) (apart_put e es done a.0 a.1.0 a.1.1) h.1 (put_all e.0 e.1 P done a.0 h.0 k)
+placed_all P (e ∷ es) done a h k = placed_all P es (put e.0 e.1 done) (apart_put e es done a.0 a.1 a.2) h.1 (put_all e.0 e.1 P done a.0 h.0 k)
 
 placed_has : (es done : List Entry) → AreApart es done → AllByRecursion (λ x. Contains (placed es done) x) done × AllByRecursion (λ x. Contains (placed es done) x) es
 placed_has [] done a = (others_in (0, []) [] done, tt)
 placed_has (e ∷ es) done a =
     let more : List Entry = put e.0 e.1 done in
-    let rest = placed_has es more (apart_put e es done a.0 a.1.0 a.1.1) in
+    let rest = placed_has es more (apart_put e es done a.0 a.1 a.2) in
     let found : (x : Entry) → Contains more x → Contains (placed es more) x = all_of (λ x. Contains (placed es more) x) more rest.0 in
     (all_weaker (λ x. Contains more x) (λ x. Contains (placed es more) x) found done (put_keeps e.0 e.1 done a.0), (found e (put_there e.0 e.1 done a.0), rest.1))
 

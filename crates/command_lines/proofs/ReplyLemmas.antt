@@ -21,12 +21,12 @@ use Rattle.minute_trie.specs.Held.{Held, after, or_zero}
 use Rattle.minute_trie.specs.Trie.{trie_of}
 use Rattle.minute_trie.specs.Names.{child_name, hash_name}
 use Rattle.minute_trie.specs.Json.{hash_text, key_text, object_text, child_text, members_text, trie_text}
-use Rattle.device_core.specs.declared.edit.EditFault.TheVariants.{BadId, TooManyWrites, NoMemory as EditNoMemory}
+use Rattle.book_rows.specs.declared.fault.EditFault.TheVariants.{BadId, IdTaken, NoSuchAccount, NoSuchGroup, NoSuchCategory, NoSuchPayee, NoSuchTransaction, BadDate, BadAmount, BadMonth, SplitSum, IsChild, IsTransferPart, SameAccount, ClosedAccount, IncomeCategory, NameTaken, TooManyWrites, BadRule, NoSuchSchedule, BadRecur, ScheduleDone, BadStatement, NothingToUndo, NothingToRedo, NoMemory as EditNoMemory}
 use Rattle.device_core.specs.declared.edit.LineRefusal.{LineRefusal}
 use Rattle.device_core.specs.declared.edit.LineRefusal.TheVariants.{Edit as OfEdit, Clock as OfClock, NoMemory}
 use Rattle.kept_messages.specs.Pairs.{pairs_of}
 use Rattle.command_lines.specs.declared.command.Command.{Command}
-use Rattle.command_lines.specs.declared.command.Command.TheVariants.{Edit, Plan, Receive, Fields, Messages, Value, Trie, Balance, Register, Cell, Sheet}
+use Rattle.command_lines.specs.declared.command.Command.TheVariants.{Edit, Receive, Fields, Messages, Value, Trie, Balance, Register, Cell, Sheet}
 use Rattle.command_lines.specs.declared.reply.Reply.{Reply}
 use Rattle.command_lines.specs.declared.reply.Reply.TheVariants.{Done, Refused}
 use Rattle.finite_sums.specs.Maps.{Text}
@@ -47,7 +47,8 @@ use Rattle.command_lines.specs.Readings.{shown, answer}
 use Rattle.command_lines.specs.Replies.{detail_text, reply_lines, refused_clock, refused}
 use Rattle.command_lines.specs.ReplyLines.{IsLine, AreLines, IsReply, RepliesAreLines}
 use Rattle.command_lines.proofs.PlainTexts.{Plain, both, tested, is_line, plain_of, number_plain, signed_plain}
-use Rattle.command_lines.proofs.RowIds.{AreNames, rows_named}
+use Rattle.book_rows.specs.Named.{HasNames}
+use Rattle.device_core.proofs.RowsNamed.{rows_named}
 use Rattle.command_lines.proofs.BookLineLemmas.{register_is, sheet_is}
 use Rattle.command_lines.proofs.Cutting.{pieces, pieces-at}
 use Rattle.command_lines.proofs.LineLemmas.{OnOneLine}
@@ -108,7 +109,7 @@ balance_is rows account = by (is_live_account rows account)
     by true = (is_line (signed_decimal (balance_of rows account)) (signed_plain (balance_of rows account)), tt)
     by false = code (codes "no-such-account") refl
 
-register_reply_is : (rows : Rows) (account : List ℕ) → AreNames rows → IsReply (register_answer rows account)
+register_reply_is : (rows : Rows) (account : List ℕ) → HasNames rows → IsReply (register_answer rows account)
 register_reply_is rows account named = by (is_live_account rows account)
   where
     by : (live : Bool) → IsReply (cond live (Done (register_lines rows account)) (no_such_account account))
@@ -134,7 +135,7 @@ cell_is rows month name = by (is_month month)
     by true = named_is rows (cell_named month name)
     by false = code (codes "bad-month") refl
 
-sheet_reply_is : (rows : Rows) (month : ℕ) → AreNames rows → IsReply (sheet_answer rows month)
+sheet_reply_is : (rows : Rows) (month : ℕ) → HasNames rows → IsReply (sheet_answer rows month)
 sheet_reply_is rows month named = by (is_month month)
   where
     by : (is : Bool) → IsReply (cond is (Done (map cell_text (sheet_of (budget_of rows) month))) (bad_month month))
@@ -153,7 +154,6 @@ answer_is law messages (Register account) valid = register_reply_is (rows_of mes
 answer_is law messages (Cell month name) valid = cell_is (rows_of messages) month name
 answer_is law messages (Sheet month) valid = sheet_reply_is (rows_of messages) month (rows_named messages valid)
 answer_is law messages (Edit edit) valid = tt
-answer_is law messages (Plan edit) valid = tt
 answer_is law messages (Receive message) valid = tt
 
 -- a word and a number
@@ -177,7 +177,30 @@ IsReplyIf (Some reply) = IsReply reply
 
 refusal_if : (refusal : LineRefusal) → IsReplyIf (refused refusal)
 refusal_if (OfEdit (BadId id)) = code (codes "bad-id") refl
-refusal_if (OfEdit (TooManyWrites count)) = code (codes "too-many-writes") refl
+refusal_if (OfEdit (IdTaken id)) = code (codes "id-taken") refl
+refusal_if (OfEdit (NoSuchAccount id)) = code (codes "no-such-account") refl
+refusal_if (OfEdit (NoSuchGroup id)) = code (codes "no-such-group") refl
+refusal_if (OfEdit (NoSuchCategory id)) = code (codes "no-such-category") refl
+refusal_if (OfEdit (NoSuchPayee id)) = code (codes "no-such-payee") refl
+refusal_if (OfEdit (NoSuchTransaction id)) = code (codes "no-such-transaction") refl
+refusal_if (OfEdit (BadDate n)) = code (codes "bad-date") refl
+refusal_if (OfEdit (BadAmount n)) = code (codes "bad-amount") refl
+refusal_if (OfEdit (BadMonth n)) = code (codes "bad-month") refl
+refusal_if (OfEdit (SplitSum difference)) = code (codes "split-sum") refl
+refusal_if (OfEdit (IsChild id)) = code (codes "split-part") refl
+refusal_if (OfEdit (IsTransferPart id)) = code (codes "transfer-part") refl
+refusal_if (OfEdit (SameAccount id)) = code (codes "same-id") refl
+refusal_if (OfEdit (ClosedAccount balance)) = code (codes "account-balance") refl
+refusal_if (OfEdit (IncomeCategory id)) = code (codes "income-category") refl
+refusal_if (OfEdit (NameTaken id)) = code (codes "name-taken") refl
+refusal_if (OfEdit (TooManyWrites n)) = code (codes "too-many-writes") refl
+refusal_if (OfEdit (BadRule part at)) = code (codes "bad-rule") refl
+refusal_if (OfEdit (NoSuchSchedule id)) = code (codes "no-such-schedule") refl
+refusal_if (OfEdit (BadRecur part)) = code (codes "bad-recur") refl
+refusal_if (OfEdit (ScheduleDone id)) = code (codes "schedule-done") refl
+refusal_if (OfEdit (BadStatement row column)) = code (codes "bad-statement") refl
+refusal_if (OfEdit NothingToUndo) = code (codes "nothing-to-undo") refl
+refusal_if (OfEdit NothingToRedo) = code (codes "nothing-to-redo") refl
 refusal_if (OfEdit EditNoMemory) = tt
 refusal_if (OfClock fault) = clock_is fault
 refusal_if NoMemory = tt

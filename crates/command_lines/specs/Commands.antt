@@ -6,24 +6,23 @@ use Rattle.field_values.specs.Value.{value_of}
 use Rattle.field_merge.specs.Lines.{parts}
 use Rattle.field_merge.specs.Messages.{IsMessage, message_of}
 use Rattle.device_core.specs.declared.edit.Edit.TheVariants.{Book}
-use Rattle.device_core.specs.declared.edit.BookEdit.TheVariants.{Set}
 use Rattle.device_core.specs.Edits.{IsEdit}
 use Rattle.book_edits.specs.declared.edit.BookEdit.{BookEdit}
-use Rattle.book_edits.specs.declared.edit.BookEdit.TheVariants.{AccountAdd, AccountRename, AccountOffbudget, AccountReopen, AccountClose, GroupAdd, GroupRename, GroupDelete, CategoryAdd, CategoryRename, CategoryMove, CategoryDelete, PayeeAdd, PayeeRename, PayeeDelete, TxAdd, Budget, Carryover, Hold, Move, Note}
+use Rattle.book_edits.specs.declared.edit.BookEdit.TheVariants.{Set, AccountAdd, AccountRename, AccountOffbudget, AccountReopen, AccountClose, GroupAdd, GroupRename, GroupDelete, CategoryAdd, CategoryRename, CategoryMove, CategoryDelete, PayeeAdd, PayeeRename, PayeeDelete, TxAdd, Budget, Carryover, Hold, Move, Note}
 use Rattle.command_lines.specs.declared.command.Command.{Command}
-use Rattle.command_lines.specs.declared.command.Command.TheVariants.{Edit, Plan, Receive, Fields, Messages, Value, Trie, Balance, Register, Cell, Sheet}
+use Rattle.command_lines.specs.declared.command.Command.TheVariants.{Edit, Receive, Fields, Messages, Value, Trie, Balance, Register, Cell, Sheet}
 use Rattle.command_lines.specs.declared.command.CommandFault.{CommandFault}
 use Rattle.command_lines.specs.declared.command.CommandFault.TheVariants.{BadCommand, NoMemory}
 use Rattle.command_lines.specs.Forms.{Wanted, word, no_more, misfit, stamp_word, name_word, amount_word, flag_word, date_word, month_word, id_word, command_of}
 
 -- an edit of the books
 abbrev pub edit : BookEdit → Command
-edit e = Plan e
+edit e = Edit (Book e)
 
 -- the words of each line, behind its name. `set`: a field's three names, which the edit judges, and the text of a value
 abbrev pub set_words : Wanted
 set_words = word (λ dataset. word (λ row. word (λ column. word (λ value.
-    no_more (Edit (Book (Set dataset row column (value_of value))))))))
+    no_more (edit (Set dataset row column (value_of value)))))))
 
 -- `receive`: the parts of a message's line
 abbrev pub receive_words : Wanted

@@ -11,7 +11,7 @@ use Rattle.minute_trie.specs.Trie.{trie_of}
 use Rattle.minute_trie.specs.Json.{trie_text}
 use Rattle.kept_messages.specs.Pairs.{pairs_of}
 use Rattle.command_lines.specs.declared.command.Command.{Command}
-use Rattle.command_lines.specs.declared.command.Command.TheVariants.{Edit, Plan, Receive, Fields, Messages, Value, Trie, Balance, Register, Cell, Sheet}
+use Rattle.command_lines.specs.declared.command.Command.TheVariants.{Edit, Receive, Fields, Messages, Value, Trie, Balance, Register, Cell, Sheet}
 use Rattle.book_rows.specs.declared.rows.Rows.{Rows}
 use Rattle.device_core.specs.Books.{rows_of}
 use Rattle.command_lines.specs.BookAnswers.{balance_answer, register_answer, cell_answer, sheet_answer}
@@ -39,12 +39,16 @@ answer messages Fields = Done (map message_line (fields messages))
 answer messages (Messages since) = Done (map message_line (messages_after since messages))
 answer messages (Value dataset row column) = Done (shown (value_in messages (field_of dataset row column)) ∷ [])
 answer messages Trie = Done (trie_text (trie_of (pairs_of messages)) ∷ [])
-answer messages asked = book_answer (rows_of messages) asked
+answer messages (Balance account) = book_answer (rows_of messages) (Balance account)
+answer messages (Register account) = book_answer (rows_of messages) (Register account)
+answer messages (Cell month name) = book_answer (rows_of messages) (Cell month name)
+answer messages (Sheet month) = book_answer (rows_of messages) (Sheet month)
+answer messages (Edit edit) = Done []
+answer messages (Receive message) = Done []
 
 -- a line that only reads
 abbrev pub IsReading : Command → Type 0
 IsReading (Edit edit) = ⊥
-IsReading (Plan edit) = ⊥
 IsReading (Receive message) = ⊥
 IsReading _ = Unit {0}
 

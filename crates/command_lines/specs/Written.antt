@@ -7,15 +7,14 @@ use Rattle.field_merge.specs.Escapes.{raw_escaped}
 use Rattle.field_merge.specs.Lines.{reading}
 use Rattle.field_merge.specs.Messages.{message_texts, line_of_texts}
 use Rattle.device_core.specs.declared.edit.Edit.TheVariants.{Book}
-use Rattle.device_core.specs.declared.edit.BookEdit.TheVariants.{Set}
 use Rattle.book_edits.specs.declared.edit.BookEdit.{BookEdit}
-use Rattle.book_edits.specs.declared.edit.BookEdit.TheVariants.{AccountAdd, AccountRename, AccountOffbudget, AccountReopen, AccountClose, GroupAdd, GroupRename, GroupDelete, CategoryAdd, CategoryRename, CategoryMove, CategoryDelete, PayeeAdd, PayeeRename, PayeeDelete, TxAdd, Budget, Carryover, Hold, Move, Note}
+use Rattle.book_edits.specs.declared.edit.BookEdit.TheVariants.{Set, AccountAdd, AccountRename, AccountOffbudget, AccountReopen, AccountClose, GroupAdd, GroupRename, GroupDelete, CategoryAdd, CategoryRename, CategoryMove, CategoryDelete, PayeeAdd, PayeeRename, PayeeDelete, TxAdd, Budget, Carryover, Hold, Move, Note}
 use Rattle.std.specs.Fmt.{signed_decimal}
 use Rattle.book_rows.specs.Ids.{two_digits, four_digits, month_id}
 use Rattle.command_lines.specs.Forms.{is_amount}
 use Rattle.command_lines.specs.FormLaws.{id_text}
 use Rattle.command_lines.specs.declared.command.Command.{Command}
-use Rattle.command_lines.specs.declared.command.Command.TheVariants.{Edit, Plan, Receive, Fields, Messages, Value, Trie, Balance, Register, Cell, Sheet}
+use Rattle.command_lines.specs.declared.command.Command.TheVariants.{Edit, Receive, Fields, Messages, Value, Trie, Balance, Register, Cell, Sheet}
 use Rattle.command_lines.specs.Commands.{command, longest_line, IsCommand}
 
 -- how a flag is written, a number YYYYMMDD and a number YYYYMM
@@ -31,6 +30,7 @@ month_text n = month_id n
 
 -- the name of an edit's line and its words, each as a text
 abbrev pub edit_texts : BookEdit → List (List ℕ)
+edit_texts (Set dataset row column value) = codes "set" ∷ dataset ∷ row ∷ column ∷ value_text value ∷ []
 edit_texts (AccountAdd id name off) = codes "account-add" ∷ id_text id ∷ name ∷ flag_text off ∷ []
 edit_texts (AccountRename id name) = codes "account-rename" ∷ id ∷ name ∷ []
 edit_texts (AccountOffbudget id off) = codes "account-offbudget" ∷ id ∷ flag_text off ∷ []
@@ -82,20 +82,19 @@ CanWriteEdit other = Unit {0}
 
 -- the words of a line can write what the command holds
 abbrev pub CanBeWritten : Command → Type 0
-CanBeWritten (Plan edit) = CanWriteEdit edit
+CanBeWritten (Edit (Book edit)) = CanWriteEdit edit
 CanBeWritten (Cell month name) = HasSix month
 CanBeWritten (Sheet month) = HasSix month
 CanBeWritten other = Unit {0}
 
 -- the name of a command and its words, each as a text
 abbrev pub command_texts : Command → List (List ℕ)
-command_texts (Edit (Book (Set dataset row column value))) = codes "set" ∷ dataset ∷ row ∷ column ∷ value_text value ∷ []
+command_texts (Edit (Book edit)) = edit_texts edit
 command_texts (Receive message) = codes "receive" ∷ message_texts message
 command_texts Fields = codes "fields" ∷ []
 command_texts (Messages since) = codes "messages" ∷ since ∷ []
 command_texts (Value dataset row column) = codes "value" ∷ dataset ∷ row ∷ column ∷ []
 command_texts Trie = codes "trie" ∷ []
-command_texts (Plan edit) = edit_texts edit
 command_texts (Balance account) = codes "balance" ∷ account ∷ []
 command_texts (Register account) = codes "register" ∷ account ∷ []
 command_texts (Cell month name) = codes "cell" ∷ month_text month ∷ name ∷ []

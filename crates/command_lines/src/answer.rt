@@ -10,6 +10,7 @@ ghost use Rattle.field_merge.specs.Log.{fields, value_in};
 ghost use Rattle.minute_trie.specs.Trie.{trie_of};
 ghost use Rattle.minute_trie.specs.Json.{trie_text};
 ghost use Rattle.kept_messages.specs.Pairs.{pairs_of};
+ghost use Rattle.device_core.specs.Books.{rows_of};
 ghost use Rattle.command_lines.specs.Readings.{answer, book_answer, shown, IsReading, AsksBooks};
 
 use crate::book_answer::{balance_reply, cell_reply, register_reply, sheet_reply};
@@ -171,6 +172,15 @@ fn book_reply(alloc: Global, book: &Book, command: &Command) -> Result<Reply, No
     book_reply_over::<Brand>(alloc, book, command, Blank::new(1))
 }
 
+/// What a device's books answer to a line that asks of them.
+fn told_of_books(alloc: Global, device: &Device, command: &Command) -> Result<Reply, NoMemory>
+    requires live { device.now.spent ≡ false }
+    requires asks { AsksBooks command.now }
+    ensures { IfOk result (λ r. r ≡ book_answer (rows_of device.now.state.messages) command.now) }
+{
+    book_reply(alloc, device.book(), command)
+}
+
 /// The reply to a line that only reads: `fields`, `messages`, `value`, `trie`, `balance`, `register`, `cell` or `sheet`. It is told
 /// by the device's messages alone, so devices that have the same messages reply the same.
 pub fn read_reply(alloc: Global, device: &Device, command: &Command) -> Result<Reply, NoMemory>
@@ -195,7 +205,7 @@ pub fn read_reply(alloc: Global, device: &Device, command: &Command) -> Result<R
         Command::Balance { .. }
         | Command::Register { .. }
         | Command::Cell { .. }
-        | Command::Sheet { .. } => book_reply(alloc, device.book(), command),
-        Command::Edit(_) | Command::Plan(_) | Command::Receive { .. } => unreachable!(),
+        | Command::Sheet { .. } => told_of_books(alloc, device, command),
+        Command::Edit(_) | Command::Receive { .. } => unreachable!(),
     }
 }

@@ -5,7 +5,7 @@ ghost use Rattle.command_lines.specs.Unread.{command_of_unread, IsFaultOf};
 
 use crate::command::{Command, CommandFault};
 use crate::words::Words;
-use book_edits::BookEdit;
+use device_core::{BookEdit, Edit};
 use std::alloc::Global;
 
 /// The words behind `budget`: a month, a category and an amount.
@@ -18,7 +18,7 @@ fn budget(alloc: Global, words: &mut Words<'_>) -> Result<Command, CommandFault>
     let category = words.text(alloc)?;
     let amount = words.amount(alloc)?;
     words.end()?;
-    Ok(Command::Plan(BookEdit::Budget { month, category, amount }))
+    Ok(Command::Edit(Edit::Book(BookEdit::Budget { month, category, amount })))
 }
 
 /// The words behind `carryover`: a month, a category, and whether it carries over.
@@ -31,7 +31,7 @@ fn carryover(alloc: Global, words: &mut Words<'_>) -> Result<Command, CommandFau
     let category = words.text(alloc)?;
     let carries = words.flag(alloc)?;
     words.end()?;
-    Ok(Command::Plan(BookEdit::Carryover { month, category, flag: carries }))
+    Ok(Command::Edit(Edit::Book(BookEdit::Carryover { month, category, flag: carries })))
 }
 
 /// The words behind `hold`: a month and an amount.
@@ -43,7 +43,7 @@ fn hold(alloc: Global, words: &mut Words<'_>) -> Result<Command, CommandFault>
     let month = words.month(alloc)?;
     let amount = words.amount(alloc)?;
     words.end()?;
-    Ok(Command::Plan(BookEdit::Hold { month, amount }))
+    Ok(Command::Edit(Edit::Book(BookEdit::Hold { month, amount })))
 }
 
 /// The words behind `move`: a month, two categories and an amount.
@@ -57,7 +57,7 @@ fn move_amount(alloc: Global, words: &mut Words<'_>) -> Result<Command, CommandF
     let to = words.text(alloc)?;
     let amount = words.amount(alloc)?;
     words.end()?;
-    Ok(Command::Plan(BookEdit::Move { month, from, to, amount }))
+    Ok(Command::Edit(Edit::Book(BookEdit::Move { month, from, to, amount })))
 }
 
 /// The words behind `balance`: an account.

@@ -1,7 +1,7 @@
 //! The names of cells.
-ghost use Rattle.std.specs.Prelude.{◌≡◌, IfOk};
+ghost use Rattle.std.specs.Prelude.{◌≡◌, IfOk, IfSome};
 ghost use Rattle.std.specs.Option.{option_copied};
-ghost use Rattle.command_lines.specs.CellNames.{is_of_group, is_of_month, id_behind, cell_named};
+ghost use Rattle.command_lines.specs.CellNames.{is_of_group, is_of_month, id_behind, named_by, cell_named};
 
 use envelope_cells::{CellKind, CellName};
 use field_values::{NoMemory, Txt};
@@ -46,13 +46,37 @@ fn id_behind<'a>(kind: CellKind, name: &'a str) -> Option<&'a str>
     Some(rest)
 }
 
+/// The cell of a month that a name names, if it begins with the text of one of some kinds.
+fn named_by(
+    alloc: Global,
+    kinds: &[CellKind],
+    month: u32,
+    name: &Txt,
+) -> Result<Option<CellName>, NoMemory>
+    ensures cell { IfOk result (λ cell. cell ≡ named_by kinds.now month name.now) }
+    ensures month { IfOk result (λ cell. IfSome cell (λ c. c.month ≡ month)) }
+{
+    for kind in kinds {
+        if let Some(id) = id_behind(*kind, name.as_str()) {
+            let id = Txt::from_text(alloc, id)?;
+            return Ok(Some(CellName {
+                month,
+                kind: *kind,
+                id,
+            }));
+        }
+    }
+    Ok(None)
+}
+
 /// The cell of a month YYYYMM that a name names, if it begins with the text of a kind.
 pub(crate) fn cell_named(
     alloc: Global,
     month: u32,
     name: &Txt,
 ) -> Result<Option<CellName>, NoMemory>
-    ensures { IfOk result (λ cell. cell ≡ cell_named month name.now) }
+    ensures cell { IfOk result (λ cell. cell ≡ cell_named month name.now) }
+    ensures month { IfOk result (λ cell. IfSome cell (λ c. c.month ≡ month)) }
 {
     let kinds = [
         CellKind::TotalIncome,
@@ -72,15 +96,5 @@ pub(crate) fn cell_named(
         CellKind::Carryover,
         CellKind::Leftover,
     ];
-    for kind in &kinds {
-        if let Some(id) = id_behind(*kind, name.as_str()) {
-            let id = Txt::from_text(alloc, id)?;
-            return Ok(Some(CellName {
-                month,
-                kind: *kind,
-                id,
-            }));
-        }
-    }
-    Ok(None)
+    named_by(alloc, &kinds, month, name)
 }

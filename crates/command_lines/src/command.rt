@@ -17,8 +17,6 @@ use std::alloc::Global;
 pub enum Command {
     /// `set DATASET ROW COLUMN VALUE`: an edit of the device's own.
     Edit(Edit),
-    /// INTERIM
-    Plan(book_edits::BookEdit),
     /// `receive STAMP DATASET ROW COLUMN VALUE`: a message of another device.
     Receive { message: Message },
     /// `fields`: the latest message of each field.
@@ -66,7 +64,6 @@ impl Command {
                 column: column.copy()?,
             }),
             Command::Trie => Ok(Command::Trie),
-            Command::Plan(edit) => Ok(Command::Plan(edit.copy()?)),
             Command::Balance { account } => Ok(Command::Balance {
                 account: account.copy()?,
             }),

@@ -6,7 +6,7 @@ ghost use Rattle.command_lines.specs.Unread.{command_of_unread, IsFaultOf};
 use crate::book_lines::month_line;
 use crate::command::{Command, CommandFault};
 use crate::words::Words;
-use book_edits::BookEdit;
+use device_core::{BookEdit, Edit};
 use std::alloc::Global;
 
 /// The words behind `account-rename`: an account and its new name.
@@ -18,7 +18,7 @@ fn account_rename(alloc: Global, words: &mut Words<'_>) -> Result<Command, Comma
     let id = words.text(alloc)?;
     let name = words.text(alloc)?;
     words.end()?;
-    Ok(Command::Plan(BookEdit::AccountRename { id, name }))
+    Ok(Command::Edit(Edit::Book(BookEdit::AccountRename { id, name })))
 }
 
 /// The words behind `group-rename`: a group and its new name.
@@ -30,7 +30,7 @@ fn group_rename(alloc: Global, words: &mut Words<'_>) -> Result<Command, Command
     let id = words.text(alloc)?;
     let name = words.text(alloc)?;
     words.end()?;
-    Ok(Command::Plan(BookEdit::GroupRename { id, name }))
+    Ok(Command::Edit(Edit::Book(BookEdit::GroupRename { id, name })))
 }
 
 /// The words behind `category-rename`: a category and its new name.
@@ -42,7 +42,7 @@ fn category_rename(alloc: Global, words: &mut Words<'_>) -> Result<Command, Comm
     let id = words.text(alloc)?;
     let name = words.text(alloc)?;
     words.end()?;
-    Ok(Command::Plan(BookEdit::CategoryRename { id, name }))
+    Ok(Command::Edit(Edit::Book(BookEdit::CategoryRename { id, name })))
 }
 
 /// The words behind `payee-rename`: a payee and its new name.
@@ -54,7 +54,7 @@ fn payee_rename(alloc: Global, words: &mut Words<'_>) -> Result<Command, Command
     let id = words.text(alloc)?;
     let name = words.text(alloc)?;
     words.end()?;
-    Ok(Command::Plan(BookEdit::PayeeRename { id, name }))
+    Ok(Command::Edit(Edit::Book(BookEdit::PayeeRename { id, name })))
 }
 
 /// The words behind `category-move`: a category and the group that it moves to.
@@ -66,7 +66,7 @@ fn category_move(alloc: Global, words: &mut Words<'_>) -> Result<Command, Comman
     let id = words.text(alloc)?;
     let group = words.text(alloc)?;
     words.end()?;
-    Ok(Command::Plan(BookEdit::CategoryMove { id, group }))
+    Ok(Command::Edit(Edit::Book(BookEdit::CategoryMove { id, group })))
 }
 
 /// The words behind `note`: an id and the text that is noted under it.
@@ -78,7 +78,7 @@ fn note(alloc: Global, words: &mut Words<'_>) -> Result<Command, CommandFault>
     let id = words.text(alloc)?;
     let text = words.text(alloc)?;
     words.end()?;
-    Ok(Command::Plan(BookEdit::Note { id, text }))
+    Ok(Command::Edit(Edit::Book(BookEdit::Note { id, text })))
 }
 
 /// The words behind `account-reopen`: an account.
@@ -89,7 +89,7 @@ fn account_reopen(alloc: Global, words: &mut Words<'_>) -> Result<Command, Comma
 {
     let id = words.text(alloc)?;
     words.end()?;
-    Ok(Command::Plan(BookEdit::AccountReopen { id }))
+    Ok(Command::Edit(Edit::Book(BookEdit::AccountReopen { id })))
 }
 
 /// The words behind `account-close`: an account.
@@ -100,7 +100,7 @@ fn account_close(alloc: Global, words: &mut Words<'_>) -> Result<Command, Comman
 {
     let id = words.text(alloc)?;
     words.end()?;
-    Ok(Command::Plan(BookEdit::AccountClose { id }))
+    Ok(Command::Edit(Edit::Book(BookEdit::AccountClose { id })))
 }
 
 /// The words behind `account-offbudget`: an account, and whether it stands outside the budget.
@@ -112,7 +112,7 @@ fn account_offbudget(alloc: Global, words: &mut Words<'_>) -> Result<Command, Co
     let id = words.text(alloc)?;
     let off = words.flag(alloc)?;
     words.end()?;
-    Ok(Command::Plan(BookEdit::AccountOffbudget { id, offbudget: off }))
+    Ok(Command::Edit(Edit::Book(BookEdit::AccountOffbudget { id, offbudget: off })))
 }
 
 /// The words behind `group-delete`: a group.
@@ -123,7 +123,7 @@ fn group_delete(alloc: Global, words: &mut Words<'_>) -> Result<Command, Command
 {
     let id = words.text(alloc)?;
     words.end()?;
-    Ok(Command::Plan(BookEdit::GroupDelete { id }))
+    Ok(Command::Edit(Edit::Book(BookEdit::GroupDelete { id })))
 }
 
 /// The words behind `category-delete`: a category.
@@ -134,7 +134,7 @@ fn category_delete(alloc: Global, words: &mut Words<'_>) -> Result<Command, Comm
 {
     let id = words.text(alloc)?;
     words.end()?;
-    Ok(Command::Plan(BookEdit::CategoryDelete { id }))
+    Ok(Command::Edit(Edit::Book(BookEdit::CategoryDelete { id })))
 }
 
 /// The words behind `payee-delete`: a payee.
@@ -145,7 +145,7 @@ fn payee_delete(alloc: Global, words: &mut Words<'_>) -> Result<Command, Command
 {
     let id = words.text(alloc)?;
     words.end()?;
-    Ok(Command::Plan(BookEdit::PayeeDelete { id }))
+    Ok(Command::Edit(Edit::Book(BookEdit::PayeeDelete { id })))
 }
 
 /// The words behind `account-add`: an id or none, a name, and whether the account stands outside the budget.
@@ -158,7 +158,7 @@ fn account_add(alloc: Global, words: &mut Words<'_>) -> Result<Command, CommandF
     let name = words.text(alloc)?;
     let off = words.flag(alloc)?;
     words.end()?;
-    Ok(Command::Plan(BookEdit::AccountAdd { id, name, offbudget: off }))
+    Ok(Command::Edit(Edit::Book(BookEdit::AccountAdd { id, name, offbudget: off })))
 }
 
 /// The words behind `group-add`: an id or none, a name, and whether the group takes income.
@@ -171,7 +171,7 @@ fn group_add(alloc: Global, words: &mut Words<'_>) -> Result<Command, CommandFau
     let name = words.text(alloc)?;
     let income = words.flag(alloc)?;
     words.end()?;
-    Ok(Command::Plan(BookEdit::GroupAdd { id, name, income }))
+    Ok(Command::Edit(Edit::Book(BookEdit::GroupAdd { id, name, income })))
 }
 
 /// The words behind `category-add`: an id or none, a group and a name.
@@ -184,7 +184,7 @@ fn category_add(alloc: Global, words: &mut Words<'_>) -> Result<Command, Command
     let group = words.text(alloc)?;
     let name = words.text(alloc)?;
     words.end()?;
-    Ok(Command::Plan(BookEdit::CategoryAdd { id, group, name }))
+    Ok(Command::Edit(Edit::Book(BookEdit::CategoryAdd { id, group, name })))
 }
 
 /// The words behind `payee-add`: an id or none, and a name.
@@ -196,7 +196,7 @@ fn payee_add(alloc: Global, words: &mut Words<'_>) -> Result<Command, CommandFau
     let id = words.id_or_none(alloc)?;
     let name = words.text(alloc)?;
     words.end()?;
-    Ok(Command::Plan(BookEdit::PayeeAdd { id, name }))
+    Ok(Command::Edit(Edit::Book(BookEdit::PayeeAdd { id, name })))
 }
 
 /// The words behind `tx-add`: an id or none, an account, a date, an amount, a payee or none, a category or none, and notes.
@@ -213,7 +213,7 @@ fn tx_add(alloc: Global, words: &mut Words<'_>) -> Result<Command, CommandFault>
     let category = words.id_or_none(alloc)?;
     let notes = words.text(alloc)?;
     words.end()?;
-    Ok(Command::Plan(BookEdit::TxAdd { id, account, date, amount, payee, category, notes }))
+    Ok(Command::Edit(Edit::Book(BookEdit::TxAdd { id, account, date, amount, payee, category, notes })))
 }
 
 /// The words behind a name that may be one of the lines that give a row a name, a place or a note.

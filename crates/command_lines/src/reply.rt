@@ -2,10 +2,11 @@
 ghost use Rattle.std.specs.Prelude.{◌≡◌, ◌++◌, ◌∷◌, [], codes, string_bytes, IfOk, OnOk, Some};
 ghost use Rattle.std.specs.Fmt.{decimal};
 ghost use Rattle.command_lines.specs.declared.reply.Reply.TheVariants.{Done, Refused};
-ghost use Rattle.command_lines.specs.Replies.{wrote, added, faulty, refused, refused_edit, refused_clock, reply_text_of, detail_text};
+ghost use Rattle.command_lines.specs.Replies.{wrote, added, faulty, refused, refused_clock, reply_text_of, detail_text};
 ghost use Rattle.field_merge.specs.Lines.{ended};
 
-use device_core::{EditFault, LineRefusal};
+use crate::refusal::edit_refusal;
+use device_core::LineRefusal;
 use field_merge::push_escaped;
 use field_values::{Items, NoMemory, Txt};
 use hybrid_clock::ClockFault;
@@ -111,19 +112,6 @@ pub fn faulty_reply(alloc: Global, word: u32) -> Result<Reply, NoMemory>
 {
     let detail = number_text(alloc, word as u64)?;
     refusal(alloc, 30, "bad-command", detail)
-}
-
-/// The reply to an edit that was refused, and not for want of memory.
-fn edit_refusal(alloc: Global, fault: &EditFault) -> Result<Reply, NoMemory>
-    ensures { IfOk result (λ r. refused_edit fault.now ≡ Some r) }
-{
-    match fault {
-        EditFault::BadId { id } => refusal(alloc, 1, "bad-id", id.copy()?),
-        EditFault::TooManyWrites { n } => {
-            refusal(alloc, 18, "too-many-writes", number_text(alloc, *n)?)
-        }
-        EditFault::NoMemory => Err(NoMemory),
-    }
 }
 
 /// The reply to a timestamp that the clock refused.

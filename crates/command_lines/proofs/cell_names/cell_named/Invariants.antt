@@ -1,6 +1,0 @@
-use Rattle.std.proofs.Common.{◌≡◌, drop}
-use Rattle.command_lines.specs.CellNames.{named_by, cell_named}
-use Rattle.command_lines.proofs.cell_names.cell_named.Given as goal
-
-abbrev pub invariant-loop-kind : goal.invariant-loop-kind
-invariant-loop-kind l = named_by (drop l.kind-index l.kinds) l.month l.name ≡ cell_named l.month l.name
