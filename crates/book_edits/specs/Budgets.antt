@@ -9,13 +9,17 @@ use Rattle.book_rows.specs.declared.write.RowName.TheVariants.{Given}
 use Rattle.book_rows.specs.declared.write.Write.{Write}
 use Rattle.book_rows.specs.declared.fault.EditFault.{EditFault}
 use Rattle.book_rows.specs.Ids.{budget_id, month_id}
-use Rattle.book_edits.specs.Faults.{◌>>=◌}
+use Rattle.book_edits.specs.Faults.{◌>>=◌, Check}
 use Rattle.book_edits.specs.Checks.{live_category, no_income, two_ids, a_month, an_amount, a_held, a_name}
 use Rattle.book_edits.specs.Writing.{write, flag}
 
--- what a category is given in a month: 0 where it has no row there
+-- the amount of a budget row, 0 where it is not there
+abbrev pub amount_at : Rows → Text → ℤ
+amount_at rows id = value_or_zero (λ b. b.amount) (map.get rows.budgets id)
+
+-- what a category is given in a month. The id of the row alone says of what it speaks
 abbrev pub budgeted : Rows → Text → ℕ → ℤ
-budgeted rows category month = value_or_zero (λ b. b.amount) (map.get rows.budgets (budget_id category month))
+budgeted rows category month = amount_at rows (budget_id category month)
 
 -- a row that is not there is made: what it is of stands in two of its columns, for readers of the data; here its id alone tells
 abbrev pub row_made : Rows → Text → ℕ → List Write
@@ -53,23 +57,27 @@ hold month amount = do
   _ ← a_held amount
   Ok (write (codes "zero_budget_months") (Given (month_id month)) (codes "buffered") (Number amount) ∷ [])
 
--- what one category is given less the amount, and what the other one is given with it
-abbrev pub moved : Rows → ℕ → Text → Text → ℤ → List Write
-moved rows month from to amount =
-    budget_writes rows from month (codes "amount") (Number (budgeted rows from month -ℤ amount))
-    ++ budget_writes rows to month (codes "amount") (Number (budgeted rows to month +ℤ amount))
+-- two categories are given these amounts
+abbrev pub two_amounts : Rows → ℕ → Text → ℤ → Text → ℤ → List Write
+two_amounts rows month from less to more =
+    budget_writes rows from month (codes "amount") (Number less) ++ budget_writes rows to month (codes "amount") (Number more)
 
-abbrev pub move : Rows → ℕ → Text → Text → ℤ → Result (List Write) EditFault
-move rows month from to amount = do
+-- an amount can be moved between two expense categories
+abbrev pub may_move : Rows → ℕ → Text → Text → ℤ → Check
+may_move rows month from to amount = do
   _ ← a_month month
   _ ← live_category rows from
   _ ← live_category rows to
   _ ← no_income rows from
   _ ← no_income rows to
   _ ← two_ids from to
-  _ ← an_amount amount
+  an_amount amount
+
+abbrev pub move : Rows → ℕ → Text → Text → ℤ → Result (List Write) EditFault
+move rows month from to amount = do
+  _ ← may_move rows month from to amount
   _ ← an_amount (budgeted rows from month -ℤ amount)
   _ ← an_amount (budgeted rows to month +ℤ amount)
   _ ← a_name (budget_id from month)
   _ ← a_name (budget_id to month)
-  Ok (moved rows month from to amount)
+  Ok (two_amounts rows month from (budgeted rows from month -ℤ amount) to (budgeted rows to month +ℤ amount))

@@ -49,11 +49,15 @@ group_rename rows id name = do
 abbrev pub category_deletion : Text → Write
 category_deletion id = write (codes "categories") (Given id) (codes "tombstone") (flag true)
 
+-- a group is deleted
+abbrev pub group_deletion : Text → Write
+group_deletion id = write (codes "category_groups") (Given id) (codes "tombstone") (flag true)
+
 -- the live categories of a group are deleted with it, and before it
 abbrev pub group_delete : Rows → Text → Result (List Write) EditFault
 group_delete rows id = do
   _ ← live_group rows id
-  Ok (list_map category_deletion (categories_of rows id) ++ write (codes "category_groups") (Given id) (codes "tombstone") (flag true) ∷ [])
+  Ok (list_map category_deletion (categories_of rows id) ++ group_deletion id ∷ [])
 
 -- a category comes to a group, whose kind it takes over
 abbrev pub placed_in : Rows → RowName → Text → List Write

@@ -6,3 +6,4 @@ pub mod Categories
 pub mod Transactions
 pub mod Budgets
 pub mod Edits
+pub mod Laws

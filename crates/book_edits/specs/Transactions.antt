@@ -4,6 +4,7 @@ use Rattle.std.specs.FinMap as map
 use Rattle.field_values.specs.declared.value.Value.TheVariants.{Number, Text as IsText}
 use Rattle.finite_sums.specs.Maps.{Text}
 use Rattle.book_rows.specs.declared.rows.Rows.{Rows}
+use Rattle.book_rows.specs.declared.write.RowName.{RowName}
 use Rattle.book_rows.specs.declared.write.RowName.TheVariants.{Given}
 use Rattle.book_rows.specs.declared.write.Write.{Write}
 use Rattle.book_rows.specs.declared.fault.EditFault.{EditFault}
@@ -15,6 +16,17 @@ use Rattle.book_edits.specs.Writing.{write, text_or_null, notes_value}
 abbrev pub is_tx : Rows → Text → Bool
 is_tx rows id = is_some (map.get rows.txs id)
 
+-- a new transaction
+abbrev pub tx_writes : RowName → Text → ℕ → ℤ → Option Text → Option Text → Text → List Write
+tx_writes row account date amount payee category notes =
+    write (codes "transactions") row (codes "acct") (IsText account)
+    ∷ write (codes "transactions") row (codes "date") (Number (pos date))
+    ∷ write (codes "transactions") row (codes "amount") (Number amount)
+    ∷ write (codes "transactions") row (codes "description") (text_or_null payee)
+    ∷ write (codes "transactions") row (codes "category") (text_or_null category)
+    ∷ write (codes "transactions") row (codes "notes") (notes_value notes)
+    ∷ []
+
 abbrev pub tx_add : Rows → Option Text → Text → ℕ → ℤ → Option Text → Option Text → Text → Result (List Write) EditFault
 tx_add rows id account date amount payee category notes = do
   row ← new_row (is_tx rows) id
@@ -23,14 +35,7 @@ tx_add rows id account date amount payee category notes = do
   _ ← an_amount amount
   _ ← if_there (live_payee rows) payee
   _ ← if_there (live_category rows) category
-  Ok (
-      write (codes "transactions") row (codes "acct") (IsText account)
-      ∷ write (codes "transactions") row (codes "date") (Number (pos date))
-      ∷ write (codes "transactions") row (codes "amount") (Number amount)
-      ∷ write (codes "transactions") row (codes "description") (text_or_null payee)
-      ∷ write (codes "transactions") row (codes "category") (text_or_null category)
-      ∷ write (codes "transactions") row (codes "notes") (notes_value notes)
-      ∷ [])
+  Ok (tx_writes row account date amount payee category notes)
 
 -- an id that is noted under only has to be a name
 abbrev pub note : Text → Text → Result (List Write) EditFault

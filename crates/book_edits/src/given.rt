@@ -124,3 +124,12 @@ pub(crate) fn a_held(n: i128) -> Result<(), EditFault>
     }
     Err(EditFault::BadAmount { n })
 }
+
+/// An amount that a value holds, as it does.
+pub(crate) fn as_amount(n: i128) -> Result<i64, EditFault>
+    ensures ok { IfOk result (λ m. (m ≡ n) × (an_amount n ≡ Ok tt)) }
+    ensures err { IfErr result (IsEditFault (an_amount n)) }
+{
+    an_amount(n)?;
+    Ok(n as i64)
+}

@@ -5,12 +5,18 @@
 #![tactic(auto)]
 
 mod accounts;
+mod budgets;
+mod categories;
 mod checks;
 mod edit;
 mod given;
+mod laws;
 mod making;
 mod names;
+mod set;
+mod transactions;
 mod writing;
 
 pub use edit::BookEdit;
+pub use laws::{ids_alone_choose, moves_keep_money, names_are_told};
 pub use making::writes;

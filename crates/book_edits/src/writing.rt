@@ -1,6 +1,6 @@
 //! The writes of edits, one by one.
-ghost use Rattle.std.specs.Prelude.{◌≡◌, ◌++◌, ◌∷◌, [], OnOk, IfOk};
-ghost use Rattle.field_values.specs.declared.value.Value.TheVariants.{Text as IsText};
+ghost use Rattle.std.specs.Prelude.{◌≡◌, ◌++◌, ◌∷◌, [], pos, OnOk, IfOk};
+ghost use Rattle.field_values.specs.declared.value.Value.TheVariants.{Number, Text as IsText};
 ghost use Rattle.book_rows.specs.declared.write.RowName.TheVariants.{Given};
 ghost use Rattle.book_edits.specs.Writing.{write, flag, text_or_null, notes_value, id_value};
 
@@ -13,6 +13,13 @@ pub(crate) fn flag(set: bool) -> Value
     ensures { result ≡ flag set }
 {
     Value::Number(if set { 1 } else { 0 })
+}
+
+/// A month or a day as a value.
+pub(crate) fn number(n: u32) -> Value
+    ensures { result ≡ Number (pos n) }
+{
+    Value::Number(i64::from(n))
 }
 
 /// A text as a value.
