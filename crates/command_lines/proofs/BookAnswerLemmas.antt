@@ -70,6 +70,7 @@ behind_written month kind text id e = by (starts_with nat_eq text (kind_text kin
   where
     rest : List ℕ
     rest = drop (length (kind_text kind)) text
+
     either : (whole empty : Bool) → is_of_month kind ≡ whole → is_empty rest ≡ empty → starts_with nat_eq text (kind_text kind) ≡ true → cond (whole && not empty) None (Some rest) ≡ Some id
         → IsNameOf (record { month = month; kind = kind; id = id }) text
     either true false p q s found = absurd (cc)
@@ -79,6 +80,7 @@ behind_written month kind text id e = by (starts_with nat_eq text (kind_text kin
     either false empty p q s found =
         let same : rest ≡ id = cc in
         record { id = λ is. absurd (let clash : true ≡ false = sym is ∙ p in cc); same = ap (λ t. kind_text kind ++ t) (sym same) ∙ starts_written (kind_text kind) text s }
+
     by : (b : Bool) → starts_with nat_eq text (kind_text kind) ≡ b → cond b (cond (is_of_month kind && not (is_empty rest)) None (Some rest)) None ≡ Some id
         → IsNameOf (record { month = month; kind = kind; id = id }) text
     by true s found = either (is_of_month kind) (is_empty rest) refl refl s found

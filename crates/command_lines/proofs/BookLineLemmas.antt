@@ -67,6 +67,7 @@ entry_lines rows named id = by (fin.get rows.txs id) refl
     live : (x : TxRow) (b : Bool) → Plain id → HaveLines (cond b (((day_or_first x.date, id), register_line rows id x) ∷ []) [])
     live x true h = (is_line (register_line rows id x) (line_plain rows id x h), tt)
     live x false h = tt
+
     by : (o : Option TxRow) → fin.get rows.txs id ≡ o → HaveLines (entry_of_row rows id o)
     by None e = tt
     by (Some x) e = live x (is_live_tx rows x) (plain_of id (name_line id (named.txs id x e)))

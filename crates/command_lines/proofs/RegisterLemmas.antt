@@ -214,7 +214,7 @@ module _ (rows : Rows) (account : Text) where
         exactly = λ e. (
           all_of (IsRegistered rows account) (register_of rows account) (placed_all (IsRegistered rows account) (entries ids) [] apart (all_are ids (λ q h. sym (of_map q) ∙ h)) tt) e,
           λ is.
-            let among : is_among text_cmp ids e.0.1 ≡ true = of_map e.0.1 ∙ ap (some_and (is_in_account account)) is.there ∙ is.of_account in
-            all_of (λ x. Contains (register_of rows account) x) (entries ids) (placed_has (entries ids) [] apart).1 e (has_entry e ids is among),
+              let among : is_among text_cmp ids e.0.1 ≡ true = of_map e.0.1 ∙ ap (some_and (is_in_account account)) is.there ∙ is.of_account in
+              all_of (λ x. Contains (register_of rows account) x) (entries ids) (placed_has (entries ids) [] apart).1 e (has_entry e ids is among),
         );
       }

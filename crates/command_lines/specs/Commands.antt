@@ -64,7 +64,6 @@ category_move_words = word (λ id. word (λ group. no_more (edit (CategoryMove i
 abbrev pub note_words : Wanted
 note_words = word (λ id. word (λ text. no_more (edit (Note id text))))
 
-
 -- the lines that open, close or delete a row: an id; and whether an account stands outside the budget
 abbrev pub account_reopen_words : Wanted
 account_reopen_words = word (λ id. no_more (edit (AccountReopen id)))
@@ -84,7 +83,6 @@ category_delete_words = word (λ id. no_more (edit (CategoryDelete id)))
 abbrev pub payee_delete_words : Wanted
 payee_delete_words = word (λ id. no_more (edit (PayeeDelete id)))
 
-
 -- the lines that add a row: an id or a hyphen for a new one, and what the row is to have
 abbrev pub account_add_words : Wanted
 account_add_words = id_word (λ id. word (λ name. flag_word (λ off. no_more (edit (AccountAdd id name off)))))
@@ -101,7 +99,6 @@ payee_add_words = id_word (λ id. word (λ name. no_more (edit (PayeeAdd id name
 abbrev pub tx_add_words : Wanted
 tx_add_words = id_word (λ id. word (λ account. date_word (λ date. amount_word (λ amount. id_word (λ payee. id_word (λ category. word (λ notes. no_more (edit (TxAdd id account date amount payee category notes)))))))))
 
-
 -- the lines that budget a month: a month, and what is given, held back or moved in it
 abbrev pub budget_words : Wanted
 budget_words = month_word (λ month. word (λ category. amount_word (λ amount. no_more (edit (Budget month category amount)))))
@@ -114,7 +111,6 @@ hold_words = month_word (λ month. amount_word (λ amount. no_more (edit (Hold m
 
 abbrev pub move_amount_words : Wanted
 move_amount_words = month_word (λ month. word (λ from. word (λ to. amount_word (λ amount. no_more (edit (Move month from to amount))))))
-
 
 -- the lines that ask of the books: an account; or a month, and the name of a cell
 abbrev pub balance_words : Wanted

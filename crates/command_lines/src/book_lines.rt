@@ -18,7 +18,11 @@ fn budget(alloc: Global, words: &mut Words<'_>) -> Result<Command, CommandFault>
     let category = words.text(alloc)?;
     let amount = words.amount(alloc)?;
     words.end()?;
-    Ok(Command::Edit(Edit::Book(BookEdit::Budget { month, category, amount })))
+    Ok(Command::Edit(Edit::Book(BookEdit::Budget {
+        month,
+        category,
+        amount,
+    })))
 }
 
 /// The words behind `carryover`: a month, a category, and whether it carries over.
@@ -31,7 +35,11 @@ fn carryover(alloc: Global, words: &mut Words<'_>) -> Result<Command, CommandFau
     let category = words.text(alloc)?;
     let carries = words.flag(alloc)?;
     words.end()?;
-    Ok(Command::Edit(Edit::Book(BookEdit::Carryover { month, category, flag: carries })))
+    Ok(Command::Edit(Edit::Book(BookEdit::Carryover {
+        month,
+        category,
+        flag: carries,
+    })))
 }
 
 /// The words behind `hold`: a month and an amount.
@@ -57,7 +65,12 @@ fn move_amount(alloc: Global, words: &mut Words<'_>) -> Result<Command, CommandF
     let to = words.text(alloc)?;
     let amount = words.amount(alloc)?;
     words.end()?;
-    Ok(Command::Edit(Edit::Book(BookEdit::Move { month, from, to, amount })))
+    Ok(Command::Edit(Edit::Book(BookEdit::Move {
+        month,
+        from,
+        to,
+        amount,
+    })))
 }
 
 /// The words behind `balance`: an account.
@@ -107,7 +120,11 @@ fn sheet(alloc: Global, words: &mut Words<'_>) -> Result<Command, CommandFault>
 
 /// The words behind a name that may be one of the lines that budget a month.
 #[tactic(auto, unfolding(crate::specs::Commands::words_of_month_lines))]
-pub(crate) fn month_line(alloc: Global, name: &str, words: &mut Words<'_>) -> Result<Command, CommandFault>
+pub(crate) fn month_line(
+    alloc: Global,
+    name: &str,
+    words: &mut Words<'_>,
+) -> Result<Command, CommandFault>
     requires { words.old.last ≡ 0 }
     ensures read { IsRead (command_of_unread (words_of_month_lines name.now) words.old) result }
     ensures valid { IfOk result IsCommand }
@@ -124,7 +141,11 @@ pub(crate) fn month_line(alloc: Global, name: &str, words: &mut Words<'_>) -> Re
 
 /// The words behind a name that may be one of the lines that ask of the books.
 #[tactic(auto, unfolding(crate::specs::Commands::words_of_book_lines))]
-pub(crate) fn book_line(alloc: Global, name: &str, words: &mut Words<'_>) -> Result<Command, CommandFault>
+pub(crate) fn book_line(
+    alloc: Global,
+    name: &str,
+    words: &mut Words<'_>,
+) -> Result<Command, CommandFault>
     requires { words.old.last ≡ 0 }
     ensures read { IsRead (command_of_unread (words_of_book_lines name.now) words.old) result }
     ensures valid { IfOk result IsCommand }

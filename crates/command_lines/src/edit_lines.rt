@@ -158,7 +158,11 @@ fn account_add(alloc: Global, words: &mut Words<'_>) -> Result<Command, CommandF
     let name = words.text(alloc)?;
     let off = words.flag(alloc)?;
     words.end()?;
-    Ok(Command::Edit(Edit::Book(BookEdit::AccountAdd { id, name, offbudget: off })))
+    Ok(Command::Edit(Edit::Book(BookEdit::AccountAdd {
+        id,
+        name,
+        offbudget: off,
+    })))
 }
 
 /// The words behind `group-add`: an id or none, a name, and whether the group takes income.
@@ -213,12 +217,24 @@ fn tx_add(alloc: Global, words: &mut Words<'_>) -> Result<Command, CommandFault>
     let category = words.id_or_none(alloc)?;
     let notes = words.text(alloc)?;
     words.end()?;
-    Ok(Command::Edit(Edit::Book(BookEdit::TxAdd { id, account, date, amount, payee, category, notes })))
+    Ok(Command::Edit(Edit::Book(BookEdit::TxAdd {
+        id,
+        account,
+        date,
+        amount,
+        payee,
+        category,
+        notes,
+    })))
 }
 
 /// The words behind a name that may be one of the lines that give a row a name, a place or a note.
 #[tactic(auto, unfolding(crate::specs::Commands::words_of_row_lines))]
-pub(crate) fn row_line(alloc: Global, name: &str, words: &mut Words<'_>) -> Result<Command, CommandFault>
+pub(crate) fn row_line(
+    alloc: Global,
+    name: &str,
+    words: &mut Words<'_>,
+) -> Result<Command, CommandFault>
     requires { words.old.last ≡ 0 }
     ensures read { IsRead (command_of_unread (words_of_row_lines name.now) words.old) result }
     ensures valid { IfOk result IsCommand }
@@ -237,7 +253,11 @@ pub(crate) fn row_line(alloc: Global, name: &str, words: &mut Words<'_>) -> Resu
 
 /// The words behind a name that may be one of the lines that open, close or delete a row.
 #[tactic(auto, unfolding(crate::specs::Commands::words_of_state_lines))]
-pub(crate) fn state_line(alloc: Global, name: &str, words: &mut Words<'_>) -> Result<Command, CommandFault>
+pub(crate) fn state_line(
+    alloc: Global,
+    name: &str,
+    words: &mut Words<'_>,
+) -> Result<Command, CommandFault>
     requires { words.old.last ≡ 0 }
     ensures read { IsRead (command_of_unread (words_of_state_lines name.now) words.old) result }
     ensures valid { IfOk result IsCommand }
@@ -256,7 +276,11 @@ pub(crate) fn state_line(alloc: Global, name: &str, words: &mut Words<'_>) -> Re
 
 /// The words behind a name that may be one of the lines that add a row.
 #[tactic(auto, unfolding(crate::specs::Commands::words_of_add_lines))]
-pub(crate) fn add_line(alloc: Global, name: &str, words: &mut Words<'_>) -> Result<Command, CommandFault>
+pub(crate) fn add_line(
+    alloc: Global,
+    name: &str,
+    words: &mut Words<'_>,
+) -> Result<Command, CommandFault>
     requires { words.old.last ≡ 0 }
     ensures read { IsRead (command_of_unread (words_of_add_lines name.now) words.old) result }
     ensures valid { IfOk result IsCommand }

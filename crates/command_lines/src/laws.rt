@@ -18,12 +18,13 @@ pub fn replies_are_lines()
     message_lines();
 }
 
-/// A law: the line of a valid command is read as the command, unless the line is too long.
+/// A law: the line of a valid command is read as the command, unless the line is too long. Words can write what it holds: no id
+/// that is given is a hyphen where that stands for none, a date has eight digits at most, a month six, and an amount 64 bits.
 pub fn commands_read_back()
     ensures { CommandsReadBack }
 {}
 
-/// A law: what a line is read as is a valid command, and the line is that of the command, but for the bytes 0 and LF that
+/// A law: what a line is read as is a valid command that words can write, and the line is that of the command, but for the bytes 0 and LF that
 /// stand in it without their escape. So each word of it counts, none has a bad escape, and lines that differ in anything else are read as
 /// different commands.
 pub fn lines_write_back()
