@@ -27,9 +27,9 @@ use Rattle.device_core.specs.Edits.{IsEdit, writes_of}
 use Rattle.device_core.specs.Placing.{stamped}
 use Rattle.device_core.proofs.Drawing.{draw_valid, greater, moved_valid}
 use Rattle.device_core.proofs.Greatest.{last_valid}
+use Rattle.device_core.proofs.Making.{writes_valid}
 use Rattle.device_core.proofs.RowsNamed.{rows_named}
 use Rattle.device_core.proofs.Stamping.{stamped_valid}
-use Rattle.device_core.proofs.WritesValid.{writes_valid}
 use Rattle.command_lines.specs.Commands.{command, IsCommand}
 use Rattle.command_lines.specs.declared.command.Command.{Command}
 use Rattle.command_lines.specs.declared.command.Command.TheVariants.{Edit as EditOf, Receive, Fields, Messages, Value as ValueOf, Trie, Balance, Register, Cell, Sheet}

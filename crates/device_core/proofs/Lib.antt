@@ -12,4 +12,3 @@ pub mod Answering
 pub mod Several
 pub mod Accepting
 pub mod RowsNamed
-pub mod WritesValid
