@@ -4,7 +4,7 @@ use Rattle.device_core.specs.declared.edit.LineRefusal.{LineRefusal}
 use Rattle.device_core.specs.Device.{State, Accepted, edited, received}
 use Rattle.device_core.specs.Accepting.{AcceptedAreJoined}
 use Rattle.command_lines.specs.declared.command.Command.{Command}
-use Rattle.command_lines.specs.declared.command.Command.TheVariants.{Edit as EditOf, Receive, Fields, Messages, Value, Trie}
+use Rattle.command_lines.specs.declared.command.Command.TheVariants.{Edit as EditOf, Receive, Fields, Messages, Value, Trie, Balance, Register, Cell, Sheet}
 use Rattle.command_lines.specs.declared.reply.Reply.{Reply}
 use Rattle.command_lines.specs.Replies.{refused, reply_lines, reply_text_of}
 use Rattle.command_lines.specs.ReplyLines.{RepliesAreLines, IsReply}
@@ -34,6 +34,10 @@ module _ (law : RepliesAreLines) (joined : AcceptedAreJoined) where
   obeyed_reply s reading (Ok (Messages since)) valid = law.answers s.messages (Messages since) valid.messages
   obeyed_reply s reading (Ok (Value dataset row column)) valid = law.answers s.messages (Value dataset row column) valid.messages
   obeyed_reply s reading (Ok Trie) valid = law.answers s.messages Trie valid.messages
+  obeyed_reply s reading (Ok (Balance account)) valid = law.answers s.messages (Balance account) valid.messages
+  obeyed_reply s reading (Ok (Register account)) valid = law.answers s.messages (Register account) valid.messages
+  obeyed_reply s reading (Ok (Cell month name)) valid = law.answers s.messages (Cell month name) valid.messages
+  obeyed_reply s reading (Ok (Sheet month)) valid = law.answers s.messages (Sheet month) valid.messages
 
 -- ---- one reply behind the other
 

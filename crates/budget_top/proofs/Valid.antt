@@ -32,7 +32,7 @@ use Rattle.device_core.proofs.RowsNamed.{rows_named}
 use Rattle.device_core.proofs.Stamping.{stamped_valid}
 use Rattle.command_lines.specs.Commands.{command, IsCommand}
 use Rattle.command_lines.specs.declared.command.Command.{Command}
-use Rattle.command_lines.specs.declared.command.Command.TheVariants.{Edit as EditOf, Receive, Fields, Messages, Value as ValueOf, Trie}
+use Rattle.command_lines.specs.declared.command.Command.TheVariants.{Edit as EditOf, Receive, Fields, Messages, Value as ValueOf, Trie, Balance, Register, Cell, Sheet}
 use Rattle.command_lines.specs.declared.reply.Reply.{Reply}
 use Rattle.command_lines.specs.Written.{LinesWriteBack}
 use Rattle.budget_top.specs.Session.{asked, obeyed, settled, wrote_all, added_all}
@@ -135,6 +135,10 @@ obeyed_valid s reading (Ok Fields) is valid = is
 obeyed_valid s reading (Ok (Messages since)) is valid = is
 obeyed_valid s reading (Ok (ValueOf dataset row column)) is valid = is
 obeyed_valid s reading (Ok Trie) is valid = is
+obeyed_valid s reading (Ok (Balance account)) is valid = is
+obeyed_valid s reading (Ok (Register account)) is valid = is
+obeyed_valid s reading (Ok (Cell month name)) is valid = is
+obeyed_valid s reading (Ok (Sheet month)) is valid = is
 
 begun_valid : (node : List ℕ) (ms : List Message) → IsNode node → AreMessages ms → IsState (begun node ms)
 begun_valid node ms is valid = by (last_stamp ms) (λ s e. last_valid ms valid s e)
