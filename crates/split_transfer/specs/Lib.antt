@@ -1,0 +1,10 @@
+pub mod Pairs
+pub mod Checks
+pub mod Writing
+pub mod Changes
+pub mod Splits
+pub mod Transfers
+pub mod Edits
+pub mod After
+pub mod Right
+pub mod Broken
