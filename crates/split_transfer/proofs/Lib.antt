@@ -1,1 +1,14 @@
 pub mod Lists
+pub mod Kept
+pub mod Basics
+pub mod Columns
+pub mod SameSums
+pub mod After
+pub mod Links
+pub mod Single
+pub mod Amounts
+pub mod Children
+pub mod Splitting
+pub mod Transfers
+pub mod Promise
+pub mod Telling

@@ -1,9 +1,11 @@
 //! A column of a transaction is changed, or it is deleted.
-ghost use Rattle.std.specs.Prelude.{◌≡◌, ◌++◌, ◌∷◌, false, IfOk, IfErr, Ok, option_to_list};
+ghost use Rattle.std.specs.Prelude.{◌≡◌, ◌++◌, ◌∷◌, codes, false, IfOk, IfErr, Ok, option_to_list};
 ghost use Rattle.std.specs.Option.{option_copied};
+ghost use Rattle.field_values.specs.declared.value.Value.TheVariants.{Number};
+ghost use Rattle.book_rows.specs.declared.write.RowName.TheVariants.{Given};
 ghost use Rattle.book_edits.specs.Faults.{IsEditFault};
 ghost use Rattle.split_transfer.specs.Pairs.{parts_of};
-ghost use Rattle.split_transfer.specs.Writing.{on_each};
+ghost use Rattle.split_transfer.specs.Writing.{tx_write, on_each};
 ghost use Rattle.split_transfer.specs.Changes.{set_date, set_amount, set_account, set_payee, set_category, set_notes, set_cleared, set_schedule, tx_set, tx_delete};
 
 use crate::checks::{live_tx, no_child, no_pair, stays_even, takes_category};
@@ -50,6 +52,22 @@ fn set_date(alloc: Global, book: &Book, id: &Txt, date: u32) -> Result<Vec<Write
     Ok(on_all(alloc, book, id, partner, "date", day(date))?)
 }
 
+/// The writes of an amount into a transaction, and of another one into a transaction that may be there.
+fn amount_writes(
+    alloc: Global,
+    id: &Txt,
+    amount: i64,
+    other: Option<&Txt>,
+    opposite: i64,
+) -> Result<Vec<Write>, NoMemory>
+    ensures { IfOk result (λ ws. ws.items ≡ tx_write (Given id.now) (codes "amount") (Number amount) ∷ on_each (codes "amount") (Number opposite) (option_to_list (option_copied other.entry))) }
+{
+    let mut writes = one(alloc, id, "amount", Value::Number(amount))?;
+    let opposite = Value::Number(opposite);
+    push_maybe(alloc, &mut writes, other, "amount", opposite)?;
+    Ok(writes)
+}
+
 /// Gives a transaction another amount, and its partner the opposite.
 fn set_amount(alloc: Global, book: &Book, id: &Txt, amount: i64) -> Result<Vec<Write>, EditFault>
     requires live { book.now.spent ≡ false }
@@ -60,11 +78,8 @@ fn set_amount(alloc: Global, book: &Book, id: &Txt, amount: i64) -> Result<Vec<W
     no_child(id, row)?;
     an_amount(amount)?;
     stays_even(book, id, row, amount)?;
-    let mut writes = one(alloc, id, "amount", Value::Number(amount))?;
-    let opposite = Value::Number(-amount);
     let partner = partner_of(book, id, row);
-    push_maybe(alloc, &mut writes, partner, "amount", opposite)?;
-    Ok(writes)
+    Ok(amount_writes(alloc, id, amount, partner, -amount)?)
 }
 
 /// Gives a transaction and its parts to another account.

@@ -1,6 +1,10 @@
 //! A transaction is split.
-ghost use Rattle.std.specs.Prelude.{◌≡◌, ◌++◌, ◌^◌, ◌≤ℤ◌, ◌-ℤ◌, pos, neg_ℤ, false, IfOk, IfErr, OnOk, Ok, length};
+ghost use Rattle.std.specs.Prelude.{◌≡◌, ◌++◌, ◌∷◌, [], ◌^◌, ◌≤ℤ◌, ◌-ℤ◌, pos, neg_ℤ, true, false, codes, IfOk, IfErr, OnOk, Ok, length};
 ghost use Rattle.finite_sums.specs.Sums.{total};
+ghost use Rattle.field_values.specs.declared.value.Value.TheVariants.{Text as IsText};
+ghost use Rattle.book_rows.specs.declared.write.RowName.TheVariants.{Made};
+ghost use Rattle.book_edits.specs.Writing.{flag};
+ghost use Rattle.split_transfer.specs.Writing.{tx_write};
 ghost use Rattle.book_edits.specs.Faults.{IsEditFault, if_there};
 ghost use Rattle.book_edits.specs.Checks.{an_amount, live_category};
 ghost use Rattle.split_transfer.specs.Checks.{each, no_rest};
@@ -11,7 +15,7 @@ use crate::edit::SplitPart;
 use crate::fields::{day_or_null, flag, text, text_or_null};
 use crate::given::{an_amount, maybe_live_category};
 use crate::pairs::parts_of;
-use crate::writing::{push, push_each, push_made};
+use crate::writing::{push, push_each, push_entry, push_made};
 use book_rows::{Book, EditFault, TxRow, Write};
 use field_values::{NoMemory, Txt, Value};
 use std::alloc::Global;
@@ -75,6 +79,19 @@ fn place_behind(writes: &Vec<Write>) -> Result<u32, NoMemory>
     }
 }
 
+/// Says of a new transaction that it is a part of another one.
+fn push_parent(
+    alloc: Global,
+    writes: &mut Vec<Write>,
+    at: u32,
+    id: &Txt,
+) -> Result<(), NoMemory>
+    ensures { OnOk result (writes.new.items ≡ writes.old.items ++ tx_write (Made at) (codes "isChild") (flag true) ∷ tx_write (Made at) (codes "parent_id") (IsText id.now) ∷ []) }
+{
+    push_made(alloc, writes, at, "isChild", flag(true))?;
+    push_made(alloc, writes, at, "parent_id", text(id)?)
+}
+
 /// Puts the writes of a new part behind others.
 fn push_part(
     alloc: Global,
@@ -86,15 +103,14 @@ fn push_part(
     ensures { OnOk result (writes.new.items ≡ writes.old.items ++ part_writes (length writes.old.items) id.now row.now part.now) }
 {
     let at = place_behind(writes)?;
-    push_made(alloc, writes, at, "acct", text_or_null(&row.acct)?)?;
-    push_made(alloc, writes, at, "date", day_or_null(row.date))?;
-    push_made(alloc, writes, at, "amount", Value::Number(part.amount))?;
+    let account = text_or_null(&row.acct)?;
+    let date = day_or_null(row.date);
+    push_entry(alloc, writes, at, account, date, part.amount)?;
     let category = text_or_null(&part.category)?;
     push_made(alloc, writes, at, "category", category)?;
     let payee = text_or_null(&row.description)?;
     push_made(alloc, writes, at, "description", payee)?;
-    push_made(alloc, writes, at, "isChild", flag(true))?;
-    push_made(alloc, writes, at, "parent_id", text(id)?)
+    push_parent(alloc, writes, at, id)
 }
 
 /// Puts the writes of new parts behind others.

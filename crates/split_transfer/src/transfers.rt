@@ -7,9 +7,9 @@ ghost use Rattle.split_transfer.specs.Transfers.{stands_for, payee_for, half_wri
 use crate::fields::{day, maybe_text, notes_value, text};
 use crate::given::{a_day, an_amount, live_account, two_ids};
 use crate::pairs::is_text;
-use crate::writing::{push_id, push_made};
+use crate::writing::{push_entry, push_id, push_made};
 use book_rows::{Book, EditFault, PayeeRow, Write};
-use field_values::{NoMemory, Txt, Value};
+use field_values::{NoMemory, Txt};
 use std::alloc::Global;
 
 /// Whether a payee is live and stands for the account.
@@ -45,9 +45,7 @@ fn push_half(
 ) -> Result<(), NoMemory>
     ensures { OnOk result (writes.new.items ≡ writes.old.items ++ half_writes at account.now date amount (option_copied payee.entry) notes.now other) }
 {
-    push_made(alloc, writes, at, "acct", text(account)?)?;
-    push_made(alloc, writes, at, "date", day(date))?;
-    push_made(alloc, writes, at, "amount", Value::Number(amount))?;
+    push_entry(alloc, writes, at, text(account)?, day(date), amount)?;
     push_made(alloc, writes, at, "description", maybe_text(payee)?)?;
     push_made(alloc, writes, at, "notes", notes_value(notes)?)?;
     push_id(alloc, writes, at, "transferred_id", other)

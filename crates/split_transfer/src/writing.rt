@@ -57,6 +57,22 @@ pub(crate) fn push_made(
     Ok(())
 }
 
+/// Puts the account, the day and the amount of a new transaction behind others.
+pub(crate) fn push_entry(
+    alloc: Global,
+    writes: &mut Vec<Write>,
+    at: u32,
+    account: Value,
+    date: Value,
+    amount: i64,
+) -> Result<(), NoMemory>
+    ensures { OnOk result (writes.new.items ≡ writes.old.items ++ tx_write (Made at) (codes "acct") account ∷ tx_write (Made at) (codes "date") date ∷ tx_write (Made at) (codes "amount") (Number amount) ∷ []) }
+{
+    push_made(alloc, writes, at, "acct", account)?;
+    push_made(alloc, writes, at, "date", date)?;
+    push_made(alloc, writes, at, "amount", Value::Number(amount))
+}
+
 /// Puts the write of the id of a new transaction into another new one behind others.
 pub(crate) fn push_id(
     alloc: Global,

@@ -1,0 +1,25 @@
+use Rattle.std.proofs.Common.{◌≡◌, ◌++◌, ◌∷◌, [], ap, ◌∙◌, codes}
+use lib.IntN.{pos}
+use Rattle.std.specs.Option.{option_copied}
+use Rattle.field_values.specs.declared.value.Value.TheVariants.{Number, Text as IsText}
+use Rattle.book_rows.specs.declared.write.RowName.TheVariants.{Made}
+use Rattle.book_rows.specs.declared.write.WriteValue.TheVariants.{IdOf}
+use Rattle.book_edits.specs.Writing.{text_or_null, notes_value}
+use Rattle.book_edits.proofs.Lists.{on_ok}
+use Rattle.split_transfer.specs.Writing.{tx_write}
+use Rattle.split_transfer.proofs.Lists.{four_more}
+use Rattle.split_transfer.proofs.transfers.push_half.Goals as goal
+
+pub returns : goal.returns
+returns c =
+    let items = c.args.writes.now.items in
+    let put = tx_write (Made c.args.at) in
+    let entry = λ a d. put (codes "acct") a ∷ put (codes "date") d ∷ put (codes "amount") (Number c.args.amount) ∷ [] in
+    on_ok c.push_id.result
+    (λ e. four_more items (entry (IsText c.args.account.now) (Number (pos c.args.date))) (record { dataset = codes "transactions"; row = Made c.args.at; column = codes "transferred_id"; value = IdOf c.args.other } ∷ [])
+    c.push_entry.new.writes.items c.push_made.new.writes.items c.push_made-2.new.writes.items c.push_id.new.writes.items (put (codes "description") (text_or_null (option_copied c.args.payee))) (put (codes "notes") (notes_value c.args.notes.now))
+    (c.in_ok-push_entry.ensures ∙ ap (λ v. items ++ entry v c.day.result) c.in_ok-text.ensures ∙ ap (λ v. items ++ entry (IsText c.args.account.now) v) c.day.ensures)
+    (c.in_ok-push_made.ensures ∙ ap (λ v. c.push_entry.new.writes.items ++ put (codes "description") v ∷ []) c.in_ok-maybe_text.ensures)
+    (c.in_ok-push_made-2.ensures ∙ ap (λ v. c.push_made.new.writes.items ++ put (codes "notes") v ∷ []) c.in_ok-notes_value.ensures)
+    e)
+    c.push_id.ensures
