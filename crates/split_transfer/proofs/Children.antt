@@ -131,6 +131,10 @@ module _ (ids : Ids) (id : Text) (x : TxRow) where
   only_plus true old head rest = omega (arith, ints)
   only_plus false old head rest = omega (arith, ints)
 
+  and_true : (b : Bool) → (b && true) ≡ b
+  and_true true = refl
+  and_true false = refl
+
   one_more : (m : Rows) (n : ℕ) (p : SplitPart) (other : Text) → get m.txs (ids n) ≡ None → parts_sum (with_writes ids m (part_writes n id x p)) other ≡ parts_sum m other +ℤ only_if (same_id id other) p.amount
   one_more m n p other none =
       let new = child id x p (blank (ids n)) in
@@ -140,7 +144,8 @@ module _ (ids : Ids) (id : Text) (x : TxRow) where
       (λ q. ap (value_or_zero (share other)) (get-part_writes m n p q ∙ by q (same_id q (ids n)) refl ∙ sym (get-insert text_total m.txs (ids n) new q))) in
       let f = total_of-insert text_total text_same (share other) m.txs (ids n) new in
       let g : value_or_zero (share other) (get m.txs (ids n)) ≡ pos 0 = ap (value_or_zero (share other)) none in
-      omega (arith, ints, e, f, g)
+      let s : share other new ≡ only_if (same_id id other) p.amount = ap (λ b. only_if b p.amount) (and_true (same_id id other)) in
+      omega (arith, ints, e, f, g, s)
     where
       by : (q : Text) (b : Bool) → same_id q (ids n) ≡ b → cond b (Some (child id x p (unwrap_or (get m.txs q) (blank q)))) (get m.txs q) ≡ cond b (Some (child id x p (blank (ids n)))) (get m.txs q)
       by q true t = ap (λ o. Some (child id x p (unwrap_or o (blank q)))) (ap (get m.txs) (same_is q (ids n) t) ∙ none) ∙ ap (λ k. Some (child id x p (blank k))) (same_is q (ids n) t)

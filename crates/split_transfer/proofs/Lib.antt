@@ -9,6 +9,6 @@ pub mod Single
 pub mod Amounts
 pub mod Children
 pub mod Splitting
-pub mod Transfers
+pub mod Transferring
 pub mod Promise
 pub mod Telling

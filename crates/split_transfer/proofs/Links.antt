@@ -173,22 +173,20 @@ module _ (ids : Ids) (r : Rows) (c : TxColumn) (v : Value) (ts : List Text) (are
       by q true None p g = absurd (are.there q p g)
       by q true (Some x) p g = sym (same q x g p)
 
+never : (t : Bool) → (t && false) ≡ false
+never true = refl
+never false = refl
+
+kept_by : (r : Rows) (k : Text) (ks : List Text) (q : Text) → is_among text_cmp (filter (is_kept r) ks) q ≡ (is_among text_cmp ks q && is_kept r q)
+    → (a b : Bool) → is_kept r k ≡ a → same_id q k ≡ b → is_among text_cmp (cond a (k ∷ filter (is_kept r) ks) (filter (is_kept r) ks)) q ≡ ((b || is_among text_cmp ks q) && is_kept r q)
+kept_by r k ks q rest true true h e = ap (λ t. t || is_among text_cmp (filter (is_kept r) ks) q) e ∙ sym (ap (is_kept r) (same_is q k e) ∙ h)
+kept_by r k ks q rest true false h e = ap (λ t. t || is_among text_cmp (filter (is_kept r) ks) q) e ∙ rest
+kept_by r k ks q rest false true h e = rest ∙ ap (λ t. is_among text_cmp ks q && t) (ap (is_kept r) (same_is q k e) ∙ h) ∙ never (is_among text_cmp ks q) ∙ sym (ap (is_kept r) (same_is q k e) ∙ h)
+kept_by r k ks q rest false false h e = rest
+
 kept_only : (r : Rows) (ks : List Text) (q : Text) → is_among text_cmp (filter (is_kept r) ks) q ≡ (is_among text_cmp ks q && is_kept r q)
 kept_only r [] q = refl
-kept_only r (k ∷ ks) q = by (is_kept r k) (same_id q k) refl refl
-  where
-    rest : (is_among text_cmp (filter (is_kept r) ks) q) ≡ (is_among text_cmp ks q && is_kept r q)
-    rest = kept_only r ks q
-
-    by : (a b : Bool) → is_kept r k ≡ a → same_id q k ≡ b → is_among text_cmp (cond a (k ∷ filter (is_kept r) ks) (filter (is_kept r) ks)) q ≡ ((b || is_among text_cmp ks q) && is_kept r q)
-    by true true h e = ap (λ t. t || is_among text_cmp (filter (is_kept r) ks) q) e ∙ sym (ap (is_kept r) (same_is q k e) ∙ h)
-    by true false h e = ap (λ t. t || is_among text_cmp (filter (is_kept r) ks) q) e ∙ rest
-    by false true h e = rest ∙ ap (λ t. is_among text_cmp ks q && t) (ap (is_kept r) (same_is q k e) ∙ h) ∙ never (is_among text_cmp ks q) ∙ sym (ap (is_kept r) (same_is q k e) ∙ h)
-      where
-        never : (t : Bool) → (t && false) ≡ false
-        never true = refl
-        never false = refl
-    by false false h e = rest
+kept_only r (k ∷ ks) q = kept_by r k ks q (kept_only r ks q) (is_kept r k) (same_id q k) refl refl
 
 pub parts_are : (r : Rows) (id q : Text) → is_among text_cmp (parts_of r id) q ≡ some_and (is_part id) (get r.txs q)
 parts_are r id q = kept_only r (children_of r id) q ∙ ap (λ t. t && is_kept r q) (among-keys_where text_total text_same (is_child_of id) r.txs q) ∙ by (get r.txs q)

@@ -45,7 +45,7 @@ use Rattle.split_transfer.specs.Right.{PairsAndSplitsStayRight}
 use Rattle.split_transfer.proofs.Single.{ArePlain, row_is_there, some_are_there, date_stays_right, column_stays_right, deletion_stays_right}
 use Rattle.split_transfer.proofs.Amounts.{amount_stays_right}
 use Rattle.split_transfer.proofs.Splitting.{split_stays_right}
-use Rattle.split_transfer.proofs.Transfers.{transfer_stays_right}
+use Rattle.split_transfer.proofs.Transferring.{transfer_stays_right}
 
 ok_or_some : {X : Type 0} (o : Option X) (e : EditFault) (x : X) → ok_or o e ≡ Ok x → o ≡ Some x
 ok_or_some None e x h = cc
