@@ -105,7 +105,7 @@ fn push_part(
     let at = place_behind(writes)?;
     let account = text_or_null(&row.acct)?;
     let date = day_or_null(row.date);
-    push_entry(alloc, writes, at, account, date, part.amount)?;
+    push_entry(alloc, writes, at, account, date, amount_of(part))?;
     let category = text_or_null(&part.category)?;
     push_made(alloc, writes, at, "category", category)?;
     let payee = text_or_null(&row.description)?;
