@@ -12,3 +12,4 @@ pub mod Splitting
 pub mod Transferring
 pub mod Promise
 pub mod Telling
+pub mod ValidWrites

@@ -17,11 +17,11 @@ pub on_each_append : (c : Text) (v : Value) (a b : List Text) → on_each c v (a
 on_each_append c v [] b = refl
 on_each_append c v (x ∷ a) b = ap (λ ws. tx_write (Given x) c v ∷ ws) (on_each_append c v a b)
 
-length-on_each : (c : Text) (v : Value) (a : List Text) → length (on_each c v a) ≡ length a
+pub length-on_each : (c : Text) (v : Value) (a : List Text) → length (on_each c v a) ≡ length a
 length-on_each c v [] = refl
 length-on_each c v (x ∷ a) = let e = length-on_each c v a in omega (arith, e)
 
-length-plus : (a b : List Write) → length (a ++ b) ≡ length a + length b
+pub length-plus : (a b : List Write) → length (a ++ b) ≡ length a + length b
 length-plus [] b = omega arith
 length-plus (x ∷ a) b = let e = length-plus a b in omega (arith, e)
 

@@ -1,6 +1,7 @@
 -- A transaction is split.
-use Rattle.std.specs.Prelude.{ℕ, ◌+◌, ◌-ℤ◌, true, List, [], ◌∷◌, ◌++◌, length, Result, Ok, codes}
+use Rattle.std.specs.Prelude.{◌≡◌, ℕ, pos, Some, ◌+◌, ◌-ℤ◌, true, List, [], ◌∷◌, ◌++◌, length, Result, Ok, codes}
 use Rattle.field_values.specs.declared.value.Value.TheVariants.{Null, Number, Text as IsText}
+use Rattle.field_values.specs.Value.{HoldsNumber}
 use Rattle.finite_sums.specs.Sums.{total}
 use Rattle.finite_sums.specs.Maps.{Text}
 use Rattle.book_rows.specs.declared.rows.Rows.{Rows}
@@ -40,6 +41,10 @@ split_writes rows id x parts =
     ++ (tx_write (Given id) (codes "isParent") (flag true)
     ∷ tx_write (Given id) (codes "category") Null
     ∷ parts_writes (length (parts_of rows id) + 2) id x parts)
+
+-- the day of a transaction is a number that a value holds
+abbrev pub HasDay : TxRow → Type 0
+HasDay x = (day : ℕ) → x.date ≡ Some day → HoldsNumber (pos day)
 
 -- the amounts of the parts add up to that of the transaction
 abbrev pub split : Rows → Text → List SplitPart → Result (List Write) EditFault

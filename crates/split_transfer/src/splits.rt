@@ -7,8 +7,9 @@ ghost use Rattle.book_edits.specs.Writing.{flag};
 ghost use Rattle.split_transfer.specs.Writing.{tx_write};
 ghost use Rattle.book_edits.specs.Faults.{IsEditFault, if_there};
 ghost use Rattle.book_edits.specs.Checks.{an_amount, live_category};
-ghost use Rattle.split_transfer.specs.Checks.{each, no_rest};
-ghost use Rattle.split_transfer.specs.Splits.{part_writes, parts_writes, split_writes, split};
+ghost use Rattle.book_rows.specs.declared.rows.TxRow.{TxRow as TxRowIs};
+ghost use Rattle.split_transfer.specs.Checks.{each, live_tx, no_rest};
+ghost use Rattle.split_transfer.specs.Splits.{part_writes, parts_writes, split_writes, split, HasDay};
 
 use crate::checks::{live_tx, no_child, no_pair, no_rest};
 use crate::edit::SplitPart;
@@ -150,6 +151,15 @@ fn split_writes(
     Ok(writes)
 }
 
+/// The day of a transaction is a number that a value holds.
+fn tell_day(row: &TxRow)
+    ensures { HasDay row.now }
+{
+    if let Some(day) = row.date {
+        let _ = i64::from(day);
+    }
+}
+
 /// Splits a transaction.
 pub(crate) fn split(
     alloc: Global,
@@ -160,8 +170,10 @@ pub(crate) fn split(
     requires live { book.now.spent ≡ false }
     ensures ok { IfOk result (λ ws. split book.now.rows id.now parts.now ≡ Ok ws.items) }
     ensures err { IfErr result (IsEditFault (split book.now.rows id.now parts.now)) }
+    ensures dated { IfOk result (λ ws. (x : TxRowIs) → live_tx book.now.rows id.now ≡ Ok x → HasDay x) }
 {
     let row = live_tx(book, id)?;
+    tell_day(row);
     no_child(id, row)?;
     no_pair(book, id, row)?;
     all_amounts(parts)?;
