@@ -175,8 +175,7 @@ module _ (rows : Rows) (names : HasNames rows) where
       let n = length (old ++ rest) in
       let fits : length (parts_of rows id) + 2 + length new ≤ n = (let p = length-plus old rest in let q = length-on_each (codes "tombstone") (flag true) (parts_of rows id) in omega (arith, p, q)) in
       subst AreWrites (inside _ _ g.2) (all_append (IsWrite n) old rest
-      (each_valid n (codes "tombstone") (flag true) (parts_of rows id) (parts_are_there rows id x.0 l) refl (flag_is true))
-      (
+      (each_valid n (codes "tombstone") (flag true) (parts_of rows id) (parts_are_there rows id x.0 l) refl (flag_is true)) (
         write_is n (codes "transactions") (Given id) (codes "isParent") (flag true) refl (row_name id x.0 l) refl (flag_is true),
         (
           write_is n (codes "transactions") (Given id) (codes "category") Null refl (row_name id x.0 l) refl tt,

@@ -44,12 +44,7 @@ fn is_paired(book: &Book, id: &Txt, row: &TxRow) -> bool
 }
 
 /// Puts the line of a transaction that names another one, and is in no right pair, behind a text.
-fn push_transfer(
-    text: &mut String,
-    book: &Book,
-    id: &Txt,
-    row: &TxRow,
-) -> Result<(), NoMemory>
+fn push_transfer(text: &mut String, book: &Book, id: &Txt, row: &TxRow) -> Result<(), NoMemory>
     ensures { OnOk result (string_bytes text.new ≡ string_bytes text.old ++ told_transfer book.now.rows id.now row.now) }
 {
     if row.transferred_id.is_some() && !is_paired(book, id, row) {

@@ -83,12 +83,7 @@ fn set_amount(alloc: Global, book: &Book, id: &Txt, amount: i64) -> Result<Vec<W
 }
 
 /// Gives a transaction and its parts to another account.
-fn set_account(
-    alloc: Global,
-    book: &Book,
-    id: &Txt,
-    account: &Txt,
-) -> Result<Vec<Write>, EditFault>
+fn set_account(alloc: Global, book: &Book, id: &Txt, account: &Txt) -> Result<Vec<Write>, EditFault>
     requires live { book.now.spent ≡ false }
     ensures ok { IfOk result (λ ws. set_account book.now.rows id.now account.now ≡ Ok ws.items) }
     ensures err { IfErr result (IsEditFault (set_account book.now.rows id.now account.now)) }

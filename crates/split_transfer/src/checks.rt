@@ -130,12 +130,7 @@ pub(crate) fn no_rest(rest: i128) -> Result<(), EditFault>
 }
 
 /// An amount, which is that of the parts where the transaction is split.
-pub(crate) fn stays_even(
-    book: &Book,
-    id: &Txt,
-    row: &TxRow,
-    amount: i64,
-) -> Result<(), EditFault>
+pub(crate) fn stays_even(book: &Book, id: &Txt, row: &TxRow, amount: i64) -> Result<(), EditFault>
     requires live { book.now.spent ≡ false }
     ensures ok { OnOk result (stays_even book.now.rows id.now row.now amount ≡ Ok tt) }
     ensures err { IfErr result (IsEditFault (stays_even book.now.rows id.now row.now amount)) }

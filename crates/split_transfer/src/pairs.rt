@@ -112,13 +112,7 @@ fn kept_amount(book: &Book, id: &Txt) -> i64
     ensures { result ≡ value_or_zero (λ x. only_if (not x.tombstone) x.amount) (map.get book.now.rows.txs id.now) }
 {
     match tx(book, id) {
-        Some(row) => {
-            if row.tombstone {
-                0
-            } else {
-                row.amount
-            }
-        }
+        Some(row) => { if row.tombstone { 0 } else { row.amount } }
         None => 0,
     }
 }

@@ -81,12 +81,7 @@ fn place_behind(writes: &Vec<Write>) -> Result<u32, NoMemory>
 }
 
 /// Says of a new transaction that it is a part of another one.
-fn push_parent(
-    alloc: Global,
-    writes: &mut Vec<Write>,
-    at: u32,
-    id: &Txt,
-) -> Result<(), NoMemory>
+fn push_parent(alloc: Global, writes: &mut Vec<Write>, at: u32, id: &Txt) -> Result<(), NoMemory>
     ensures { OnOk result (writes.new.items ≡ writes.old.items ++ tx_write (Made at) (codes "isChild") (flag true) ∷ tx_write (Made at) (codes "parent_id") (IsText id.now) ∷ []) }
 {
     push_made(alloc, writes, at, "isChild", flag(true))?;

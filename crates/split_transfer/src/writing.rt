@@ -11,12 +11,7 @@ use field_values::{NoMemory, Txt, Value};
 use std::alloc::Global;
 
 /// A write into a transaction.
-fn tx_write(
-    alloc: Global,
-    row: RowName,
-    column: &str,
-    value: WriteValue,
-) -> Result<Write, NoMemory>
+fn tx_write(alloc: Global, row: RowName, column: &str, value: WriteValue) -> Result<Write, NoMemory>
     ensures { IfOk result (λ w. w ≡ record { dataset = codes "transactions"; row = row; column = column.now; value = value }) }
 {
     Ok(Write {
