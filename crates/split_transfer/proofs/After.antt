@@ -1,27 +1,18 @@
 -- A row after writes.
-use Rattle.std.proofs.Common.{◌≡◌, ℕ, ◌+◌, ◌≤◌, Bool, true, false, cond, List, [], ◌∷◌, ◌++◌, length, Option, Some, None, refl, ap, sym, ◌∙◌, subst, arith}
-use Rattle.std.specs.Prelude.{◌≢◌, ◌&&◌, ◌||◌, ◌==◌, not, unwrap_or, option_to_list}
-use lib.IntN.{ℤ, pos, neg_ℤ, ◌+ℤ◌, ◌-ℤ◌}
-use Rattle.std.proofs.lemmas.Int.{ints}
+use Rattle.std.proofs.Common.{◌≡◌, Bool, true, false, cond, List, [], ◌∷◌, ◌++◌, Option, Some, refl, ap, sym, ◌∙◌}
+use Rattle.std.specs.Prelude.{◌||◌, unwrap_or}
 use Rattle.std.specs.FinMap.{get}
-use Rattle.finite_sums.specs.Sums.{total, only_if}
-use Rattle.finite_sums.specs.Maps.{Text, text_cmp, some_and, is_among, value_or_zero, total_of}
-use Rattle.finite_sums.proofs.Texts.{text_total, text_same}
+use Rattle.finite_sums.specs.Maps.{Text, text_cmp, is_among}
+use Rattle.finite_sums.proofs.Texts.{text_total}
 use Rattle.field_values.specs.declared.value.Value.{Value}
-use Rattle.field_values.specs.declared.value.Value.TheVariants.{Null, Number, Text as IsText}
 use Rattle.book_rows.specs.declared.rows.Rows.{Rows}
 use Rattle.book_rows.specs.declared.rows.TxRow.{TxRow}
 use Rattle.book_rows.specs.declared.write.Write.{Write}
-use Rattle.book_rows.specs.Parts.{is_text}
-use Rattle.book_rows.specs.Live.{is_live_tx, has_parent}
 use Rattle.book_edits.specs.Checks.{same_id}
-use Rattle.split_transfer.specs.declared.edit.SplitPart.{SplitPart}
-use Rattle.split_transfer.specs.Pairs.{only_where, live_row, names_back, partner_of, is_part, is_kept, parts_of, share, parts_sum}
-use Rattle.split_transfer.specs.After.{Ids, row_of, value_in, with_write, with_writes, makes}
-use Rattle.split_transfer.specs.Right.{IsLiveRow, ArePair, AreOpposite, IsSplit, PairsStayRight, SplitsStayRight, StayRight, AreApart}
-use Rattle.split_transfer.proofs.Columns.{TxColumn, Acct, Date, Amount, Description, Category, Notes, Cleared, Schedule, TransferredId, IsParent, IsChild, ParentId, Tombstone, with_column, blank, Put, put, as_write, named, made, on_each, twice}
-use Rattle.split_transfer.proofs.Basics.{bool_cases, option_cases, both_true, and_both, either, or_left, or_right, or_more, not_true, true_false, none_some, some_is, same_bool, of_cond, same_refl, same_is, not_same, is_other, names_is, names_it, holds_some, where_some, among-append, among-option_to_list, or_false}
-use Rattle.std.proofs.Common.{map as list_map, codes}
+use Rattle.split_transfer.specs.After.{Ids, row_of, value_in, with_write, with_writes}
+use Rattle.split_transfer.proofs.Columns.{TxColumn, with_column, blank, Put, as_write, named, on_each, twice}
+use Rattle.split_transfer.proofs.Basics.{same_is}
+use Rattle.std.proofs.Common.{map as list_map}
 use Rattle.std.specs.FinMap.{insert, get-insert}
 use Rattle.book_rows.specs.declared.column.Dataset.TheVariants.{Transactions}
 use Rattle.book_rows.specs.Columns.{column_name, column_of}

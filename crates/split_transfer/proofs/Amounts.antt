@@ -1,30 +1,22 @@
 -- An edit of an amount, and of that of the partner.
-use Rattle.std.proofs.Common.{◌≡◌, ℕ, ◌+◌, ◌≤◌, Bool, true, false, cond, List, [], ◌∷◌, ◌++◌, length, Option, Some, None, refl, ap, sym, ◌∙◌, subst, arith}
-use Rattle.std.specs.Prelude.{◌≢◌, ◌&&◌, ◌||◌, ◌==◌, not, unwrap_or, option_to_list}
-use lib.IntN.{ℤ, pos, neg_ℤ, ◌+ℤ◌, ◌-ℤ◌}
+use Rattle.std.proofs.Common.{◌≡◌, Bool, true, false, cond, List, [], ◌∷◌, Some, None, refl, ap, sym, ◌∙◌, subst, arith}
+use Rattle.std.specs.Prelude.{option_to_list}
+use lib.IntN.{ℤ, neg_ℤ}
 use Rattle.std.proofs.lemmas.Int.{ints}
 use Rattle.std.specs.FinMap.{get}
-use Rattle.finite_sums.specs.Sums.{total, only_if}
-use Rattle.finite_sums.specs.Maps.{Text, text_cmp, some_and, is_among, value_or_zero, total_of}
-use Rattle.finite_sums.proofs.Texts.{text_total, text_same}
+use Rattle.finite_sums.specs.Maps.{Text, text_cmp, is_among}
 use Rattle.field_values.specs.declared.value.Value.{Value}
-use Rattle.field_values.specs.declared.value.Value.TheVariants.{Null, Number, Text as IsText}
+use Rattle.field_values.specs.declared.value.Value.TheVariants.{Number}
 use Rattle.book_rows.specs.declared.rows.Rows.{Rows}
 use Rattle.book_rows.specs.declared.rows.TxRow.{TxRow}
-use Rattle.book_rows.specs.declared.write.Write.{Write}
-use Rattle.book_rows.specs.Parts.{is_text}
-use Rattle.book_rows.specs.Live.{is_live_tx, has_parent}
-use Rattle.book_edits.specs.Checks.{same_id}
-use Rattle.split_transfer.specs.declared.edit.SplitPart.{SplitPart}
-use Rattle.split_transfer.specs.Pairs.{only_where, live_row, names_back, partner_of, is_part, is_kept, parts_of, share, parts_sum}
-use Rattle.split_transfer.specs.After.{Ids, row_of, value_in, with_write, with_writes, makes}
-use Rattle.split_transfer.specs.Right.{IsLiveRow, ArePair, AreOpposite, IsSplit, PairsStayRight, SplitsStayRight, StayRight, AreApart}
-use Rattle.split_transfer.proofs.Columns.{TxColumn, Acct, Date, Amount, Description, Category, Notes, Cleared, Schedule, TransferredId, IsParent, IsChild, ParentId, Tombstone, with_column, blank, Put, put, as_write, named, made, on_each, twice}
-use Rattle.split_transfer.proofs.Basics.{bool_cases, option_cases, both_true, and_both, either, or_left, or_right, or_more, not_true, true_false, none_some, some_is, same_bool, of_cond, same_refl, same_is, not_same, is_other, names_is, names_it, holds_some, where_some, among-append, among-option_to_list, or_false}
-use Rattle.split_transfer.proofs.Links.{SameLinks, same_links, links_trans, KeepsLinks, was_live, pairs_from, splits_from, pair_swap, partner_is, partner_found, AreThere, not_there, each_links, each_sums, parts_are}
-use Rattle.split_transfer.proofs.Single.{ArePlain, no_part, clash, row_there, is_row, parts_are_there, partner_there, row_is_there, its_partner, its_row, deleted}
-use Rattle.split_transfer.proofs.After.{written, row_after, get-with_writes, with_writes-append, each_after, each_row, each_none}
-use Rattle.split_transfer.proofs.SameSums.{total_of-same_values, total_of-zero}
+use Rattle.split_transfer.specs.Pairs.{partner_of, share, parts_sum}
+use Rattle.split_transfer.specs.After.{Ids, with_writes}
+use Rattle.split_transfer.specs.Right.{IsLiveRow, ArePair, AreOpposite, StayRight}
+use Rattle.split_transfer.proofs.Columns.{Amount, with_column, named, on_each}
+use Rattle.split_transfer.proofs.Basics.{bool_cases, true_false, some_is, same_bool, of_cond, same_is, or_false}
+use Rattle.split_transfer.proofs.Links.{SameLinks, links_trans, KeepsLinks, pairs_from, splits_from, pair_swap, AreThere, not_there, each_links, each_sums}
+use Rattle.split_transfer.proofs.Single.{ArePlain, no_part, clash, is_row, partner_there, row_is_there, its_partner, its_row}
+use Rattle.split_transfer.proofs.After.{each_row}
 
 pub keeps_trans : (r m s : Rows) → KeepsLinks r m → KeepsLinks m s → ((q : Text) (x : TxRow) → get r.txs q ≡ Some x → (y : TxRow) × (get m.txs q ≡ Some y)) → KeepsLinks r s
 keeps_trans r m s k j stay = record {

@@ -1,24 +1,11 @@
 -- Tests on texts, options and truth values.
-use Rattle.std.proofs.Common.{◌≡◌, ℕ, ◌+◌, ◌≤◌, Bool, true, false, cond, List, [], ◌∷◌, ◌++◌, length, Option, Some, None, refl, ap, sym, ◌∙◌, subst, arith}
-use Rattle.std.specs.Prelude.{◌≢◌, ◌&&◌, ◌||◌, ◌==◌, not, unwrap_or, option_to_list}
-use lib.IntN.{ℤ, pos, neg_ℤ, ◌+ℤ◌, ◌-ℤ◌}
-use Rattle.std.proofs.lemmas.Int.{ints}
-use Rattle.std.specs.FinMap.{get}
-use Rattle.finite_sums.specs.Sums.{total, only_if}
-use Rattle.finite_sums.specs.Maps.{Text, text_cmp, some_and, is_among, value_or_zero, total_of}
+use Rattle.std.proofs.Common.{◌≡◌, Bool, true, false, cond, List, [], ◌∷◌, ◌++◌, Option, Some, None, refl, ap, sym, ◌∙◌, subst}
+use Rattle.std.specs.Prelude.{◌≢◌, ◌&&◌, ◌||◌, not, option_to_list}
+use Rattle.finite_sums.specs.Maps.{Text, text_cmp, some_and, is_among}
 use Rattle.finite_sums.proofs.Texts.{text_total, text_same}
-use Rattle.field_values.specs.declared.value.Value.{Value}
-use Rattle.field_values.specs.declared.value.Value.TheVariants.{Null, Number, Text as IsText}
-use Rattle.book_rows.specs.declared.rows.Rows.{Rows}
-use Rattle.book_rows.specs.declared.rows.TxRow.{TxRow}
-use Rattle.book_rows.specs.declared.write.Write.{Write}
 use Rattle.book_rows.specs.Parts.{is_text}
-use Rattle.book_rows.specs.Live.{is_live_tx, has_parent}
 use Rattle.book_edits.specs.Checks.{same_id}
-use Rattle.split_transfer.specs.declared.edit.SplitPart.{SplitPart}
-use Rattle.split_transfer.specs.Pairs.{only_where, live_row, names_back, partner_of, is_part, is_kept, parts_of, share, parts_sum}
-use Rattle.split_transfer.specs.After.{Ids, row_of, value_in, with_write, with_writes, makes}
-use Rattle.split_transfer.specs.Right.{IsLiveRow, ArePair, AreOpposite, IsSplit, PairsStayRight, SplitsStayRight, StayRight, AreApart}
+use Rattle.split_transfer.specs.Pairs.{only_where}
 use Rattle.std.specs.declared.cmp.Ordering.{Ordering}
 use Rattle.std.specs.declared.cmp.Ordering.TheVariants.{Less, Equal, Greater}
 use Rattle.std.specs.Ordering.{is_eq}

@@ -1,5 +1,5 @@
 -- The columns of transactions, and writes into them.
-use Rattle.std.proofs.Common.{◌≡◌, ℕ, Bool, true, List, map, refl, codes}
+use Rattle.std.proofs.Common.{◌≡◌, ℕ, true, List, refl, codes}
 use Rattle.std.specs.Prelude.{is_some}
 use Rattle.field_values.specs.declared.value.Value.{Value}
 use Rattle.finite_sums.specs.Maps.{Text}

@@ -1,18 +1,17 @@
 -- The parts of a transaction, which its children that were not deleted are.
-use Rattle.std.proofs.Common.{◌≡◌, Bool, true, false, cond, List, [], ◌∷◌, filter, Option, Some, None, refl, ap, sym, ◌∙◌, arith}
-use Rattle.std.specs.Prelude.{not, ◌&&◌, ◌||◌}
-use lib.IntN.{ℤ, pos}
+use Rattle.std.proofs.Common.{◌≡◌, Bool, true, false, refl, sym, ◌∙◌}
+use Rattle.std.specs.Prelude.{not, ◌&&◌}
+use lib.IntN.{ℤ}
 use Rattle.std.specs.FinMap as map
-use Rattle.std.specs.Ordering.{eq_by_cmp}
 use Rattle.finite_sums.specs.Sums.{total, only_if}
-use Rattle.finite_sums.specs.Maps.{Text, text_cmp, value_or_zero, total_of, some_and, is_among}
+use Rattle.finite_sums.specs.Maps.{Text, value_or_zero}
 use Rattle.finite_sums.proofs.Texts.{text_total, text_same}
-use Rattle.finite_sums.proofs.MapSums.{total_same, among-keys_where}
+use Rattle.finite_sums.proofs.MapSums.{total_same}
 use Rattle.book_rows.specs.declared.rows.Rows.{Rows}
 use Rattle.book_rows.specs.declared.rows.TxRow.{TxRow}
 use Rattle.book_rows.specs.Parts.{is_child_of, children_of}
 use Rattle.book_rows.proofs.Balances.{total_of-keys_where}
-use Rattle.split_transfer.specs.Pairs.{is_part, is_kept, parts_of, share, parts_sum}
+use Rattle.split_transfer.specs.Pairs.{share, parts_sum}
 
 -- the amount of a row that was not deleted, or else 0
 abbrev pub kept_amount : TxRow → ℤ

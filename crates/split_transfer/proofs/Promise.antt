@@ -1,31 +1,24 @@
 -- Edits leave pairs and splits right.
-use Rattle.std.proofs.Common.{◌≡◌, ℕ, ◌+◌, ◌≤◌, Bool, true, false, cond, List, [], ◌∷◌, ◌++◌, length, Option, Some, None, refl, ap, sym, ◌∙◌, subst, arith}
-use Rattle.std.specs.Prelude.{◌≢◌, ◌&&◌, ◌||◌, ◌==◌, not, unwrap_or, option_to_list}
-use lib.IntN.{ℤ, pos, neg_ℤ, ◌+ℤ◌, ◌-ℤ◌}
+use Rattle.std.proofs.Common.{◌≡◌, ℕ, ◌+◌, Bool, true, false, cond, List, [], ◌∷◌, ◌++◌, length, Option, Some, None, refl, ap, sym, ◌∙◌, subst, arith}
+use lib.IntN.{ℤ, pos, ◌-ℤ◌}
 use Rattle.std.proofs.lemmas.Int.{ints}
 use Rattle.std.specs.FinMap.{get}
-use Rattle.finite_sums.specs.Sums.{total, only_if}
-use Rattle.finite_sums.specs.Maps.{Text, text_cmp, some_and, is_among, value_or_zero, total_of}
-use Rattle.finite_sums.proofs.Texts.{text_total, text_same}
-use Rattle.field_values.specs.declared.value.Value.{Value}
+use Rattle.finite_sums.specs.Sums.{total}
+use Rattle.finite_sums.specs.Maps.{Text}
 use Rattle.field_values.specs.declared.value.Value.TheVariants.{Null, Number, Text as IsText}
 use Rattle.book_rows.specs.declared.rows.Rows.{Rows}
 use Rattle.book_rows.specs.declared.rows.TxRow.{TxRow}
 use Rattle.book_rows.specs.declared.write.Write.{Write}
-use Rattle.book_rows.specs.Parts.{is_text}
-use Rattle.book_rows.specs.Live.{is_live_tx, has_parent}
-use Rattle.book_edits.specs.Checks.{same_id}
+use Rattle.book_rows.specs.Live.{is_live_tx}
 use Rattle.split_transfer.specs.declared.edit.SplitPart.{SplitPart}
-use Rattle.split_transfer.specs.Pairs.{only_where, live_row, names_back, partner_of, is_part, is_kept, parts_of, share, parts_sum}
-use Rattle.split_transfer.specs.After.{Ids, row_of, value_in, with_write, with_writes, makes}
-use Rattle.split_transfer.specs.Right.{IsLiveRow, ArePair, AreOpposite, IsSplit, PairsStayRight, SplitsStayRight, StayRight, AreApart}
-use Rattle.split_transfer.proofs.Columns.{TxColumn, Acct, Date, Amount, Description, Category, Notes, Cleared, Schedule, TransferredId, IsParent, IsChild, ParentId, Tombstone, with_column, blank, Put, put, as_write, named, made, on_each, twice}
-use Rattle.split_transfer.proofs.Basics.{bool_cases, option_cases, both_true, and_both, either, or_left, or_right, or_more, not_true, true_false, none_some, some_is, same_bool, of_cond, same_refl, same_is, not_same, is_other, names_is, names_it, holds_some, where_some, among-append, among-option_to_list, or_false}
-use Rattle.split_transfer.proofs.After.{written, row_after, get-with_writes, with_writes-append, each_after, each_row, each_none}
-use Rattle.split_transfer.proofs.SameSums.{total_of-same_values, total_of-zero}
-use Rattle.std.proofs.Common.{Ok, Result, Err}
+use Rattle.split_transfer.specs.Pairs.{parts_of, parts_sum}
+use Rattle.split_transfer.specs.After.{Ids, with_writes, makes}
+use Rattle.split_transfer.specs.Right.{IsLiveRow, StayRight, AreApart}
+use Rattle.split_transfer.proofs.Columns.{Acct, Description, Category, Notes, Cleared, Schedule, IsParent, Tombstone, named, on_each}
+use Rattle.split_transfer.proofs.Basics.{or_right, not_true, where_some}
+use Rattle.split_transfer.proofs.After.{with_writes-append}
+use Rattle.std.proofs.Common.{Ok}
 use Rattle.std.specs.Prelude.{ok_or}
-use Rattle.std.specs.List.{list_any}
 use Rattle.std.specs.Ordering.{int_eq}
 use Rattle.std.proofs.lemmas.Bool.Decides.{Decides-int_eq}
 use Rattle.book_rows.specs.declared.fault.EditFault.{EditFault}
@@ -37,10 +30,9 @@ use Rattle.book_edits.proofs.Valid.{inside, passed, was_so}
 use Rattle.split_transfer.specs.declared.edit.TxChange.TheVariants as change
 use Rattle.split_transfer.specs.declared.edit.PairEdit.TheVariants.{TxSet, TxDelete, Split, Transfer}
 use Rattle.split_transfer.specs.Checks.{each, live_tx, live_schedule, no_child, no_pair, takes_category, no_rest, stays_even}
-use Rattle.split_transfer.specs.Changes.{set_date, set_amount, set_account, set_payee, set_category, set_notes, set_cleared, set_schedule, tx_set, tx_delete}
+use Rattle.split_transfer.specs.Changes.{set_date, set_amount, set_account, set_payee, set_category, set_notes, set_cleared, set_schedule, tx_delete}
 use Rattle.split_transfer.specs.Splits.{parts_writes, split_writes, split}
-use Rattle.split_transfer.specs.Transfers.{payee_for, half_writes, transfer_writes, transfer}
-use Rattle.split_transfer.specs.Edits.{pair_writes}
+use Rattle.split_transfer.specs.Transfers.{payee_for, transfer_writes, transfer}
 use Rattle.split_transfer.specs.Right.{PairsAndSplitsStayRight}
 use Rattle.split_transfer.proofs.Single.{ArePlain, row_is_there, some_are_there, date_stays_right, column_stays_right, deletion_stays_right}
 use Rattle.split_transfer.proofs.Amounts.{amount_stays_right}

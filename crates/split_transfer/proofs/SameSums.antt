@@ -1,10 +1,9 @@
 -- Maps whose values add the same make one sum.
-use Rattle.std.proofs.Common.{◌≡◌, Bool, true, false, cond, List, [], ◌∷◌, Option, Some, None, refl, ap, sym, ◌∙◌, arith}
+use Rattle.std.proofs.Common.{◌≡◌, Bool, true, false, cond, List, [], ◌∷◌, Some, None, refl, ap, sym, ◌∙◌, arith}
 use lib.IntN.{ℤ, pos}
 use Rattle.std.proofs.lemmas.Int.{ints}
 use Rattle.std.specs.FinMap.{find, is_sorted, get, remove, entries, entries_sorted, get-entries, get-remove}
 use Rattle.std.specs.FinMap.Entries.{below_all}
-use Rattle.std.specs.Cmp.{eq_by_cmp_equiv}
 use Rattle.std.specs.declared.cmp.Ordering.{Ordering}
 use Rattle.std.specs.declared.cmp.Ordering.TheVariants.{Less, Equal, Greater}
 use Rattle.std.specs.Ordering.{is_lt, is_eq}
@@ -13,7 +12,7 @@ use Rattle.finite_sums.specs.Maps.{Text, Texts, text_cmp, value_or_zero, total_o
 use Rattle.finite_sums.proofs.Texts.{text_total, text_same}
 use Rattle.finite_sums.proofs.MapSums.{total_same, total_of-remove, sorted_tail, so, both_true}
 use Rattle.book_edits.specs.Checks.{same_id}
-use Rattle.split_transfer.proofs.Basics.{bool_cases, same_refl, same_is}
+use Rattle.split_transfer.proofs.Basics.{same_refl, same_is}
 
 less_no_tie : (r : Ordering) → is_lt r ≡ true → is_eq r ≡ false
 less_no_tie Less h = refl

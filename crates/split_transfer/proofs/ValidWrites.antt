@@ -1,32 +1,25 @@
 -- The writes of each edit are valid.
-use Rattle.std.proofs.Common.{◌≡◌, ℕ, ◌+◌, ◌≤◌, Bool, true, false, cond, List, [], ◌∷◌, ◌++◌, length, Option, Some, None, refl, ap, sym, ◌∙◌, subst, arith}
-use Rattle.std.specs.Prelude.{◌≢◌, ◌&&◌, ◌||◌, ◌==◌, not, unwrap_or, option_to_list}
-use lib.IntN.{ℤ, pos, neg_ℤ, ◌+ℤ◌, ◌-ℤ◌}
+use Rattle.std.proofs.Common.{◌≡◌, ℕ, ◌+◌, ◌≤◌, true, List, [], ◌∷◌, ◌++◌, length, Option, Some, None, refl, subst, arith}
+use lib.IntN.{ℤ, pos, neg_ℤ, ◌-ℤ◌}
 use Rattle.std.proofs.lemmas.Int.{ints}
 use Rattle.std.specs.FinMap.{get}
-use Rattle.finite_sums.specs.Sums.{total, only_if}
-use Rattle.finite_sums.specs.Maps.{Text, text_cmp, some_and, is_among, value_or_zero, total_of}
-use Rattle.finite_sums.proofs.Texts.{text_total, text_same}
+use Rattle.finite_sums.specs.Sums.{total}
+use Rattle.finite_sums.specs.Maps.{Text, text_cmp, is_among}
 use Rattle.field_values.specs.declared.value.Value.{Value}
 use Rattle.field_values.specs.declared.value.Value.TheVariants.{Null, Number, Text as IsText}
 use Rattle.book_rows.specs.declared.rows.Rows.{Rows}
 use Rattle.book_rows.specs.declared.rows.TxRow.{TxRow}
 use Rattle.book_rows.specs.declared.write.Write.{Write}
-use Rattle.book_rows.specs.Parts.{is_text}
-use Rattle.book_rows.specs.Live.{is_live_tx, has_parent}
-use Rattle.book_edits.specs.Checks.{same_id}
 use Rattle.split_transfer.specs.declared.edit.SplitPart.{SplitPart}
-use Rattle.split_transfer.specs.Pairs.{only_where, live_row, names_back, partner_of, is_part, is_kept, parts_of, share, parts_sum}
-use Rattle.split_transfer.specs.After.{Ids, row_of, value_in, with_write, with_writes, makes}
-use Rattle.split_transfer.specs.Right.{IsLiveRow, ArePair, AreOpposite, IsSplit, PairsStayRight, SplitsStayRight, StayRight, AreApart}
-use Rattle.split_transfer.proofs.Basics.{bool_cases, option_cases, both_true, and_both, either, or_left, or_right, or_more, not_true, true_false, none_some, some_is, same_bool, of_cond, same_refl, same_is, not_same, is_other, names_is, names_it, holds_some, where_some, among-append, among-option_to_list, or_false}
-use Rattle.std.proofs.Common.{Ok, Err, Result, IfOk, codes, map as list_map, ◌<◌}
+use Rattle.split_transfer.specs.Pairs.{parts_of}
+use Rattle.split_transfer.specs.Right.{IsLiveRow}
+use Rattle.split_transfer.proofs.Basics.{option_cases}
+use Rattle.std.proofs.Common.{Ok, Err, Result, IfOk, codes, ◌<◌}
 use Rattle.std.specs.List.{AllByRecursion}
 use Rattle.field_values.specs.declared.name.NamePart.TheVariants.{Row}
 use Rattle.field_values.specs.Names.{IsName, name_fault}
 use Rattle.field_values.specs.Value.{IsValue, HoldsNumber}
 use Rattle.book_rows.specs.declared.write.RowName.TheVariants.{Given, Made}
-use Rattle.book_rows.specs.declared.write.WriteValue.TheVariants.{IdOf}
 use Rattle.book_rows.specs.Named.{HasNames}
 use Rattle.book_rows.specs.Writes.{IsWrite, AreWrites}
 use Rattle.book_edits.specs.Faults.{if_there}
@@ -40,9 +33,9 @@ use Rattle.split_transfer.specs.declared.edit.TxChange.TheVariants as change
 use Rattle.split_transfer.specs.declared.edit.PairEdit.TheVariants.{TxSet, TxDelete, Split, Transfer}
 use Rattle.split_transfer.specs.Checks.{each, live_tx, live_schedule, no_child, no_pair, takes_category, no_rest, stays_even}
 use Rattle.split_transfer.specs.Writing.{tx_write, on_each, day_or_null}
-use Rattle.split_transfer.specs.Changes.{set_date, set_amount, set_account, set_payee, set_category, set_notes, set_cleared, set_schedule, tx_set, tx_delete}
-use Rattle.split_transfer.specs.Splits.{part_writes, parts_writes, split_writes, split, HasDay}
-use Rattle.split_transfer.specs.Transfers.{payee_for, half_writes, transfer_writes, transfer}
+use Rattle.split_transfer.specs.Changes.{set_date, set_amount, set_account, tx_set, tx_delete}
+use Rattle.split_transfer.specs.Splits.{parts_writes, split, HasDay}
+use Rattle.split_transfer.specs.Transfers.{payee_for, half_writes, transfer}
 use Rattle.split_transfer.specs.Edits.{pair_writes, IsDated}
 use Rattle.split_transfer.proofs.Lists.{length-on_each, length-plus}
 use Rattle.split_transfer.proofs.Links.{AreThere}

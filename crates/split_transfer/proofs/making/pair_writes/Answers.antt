@@ -1,4 +1,3 @@
-use Rattle.std.proofs.Common.{◌≡◌, Ok, Err, Result, IfOk}
 use Rattle.split_transfer.proofs.ValidWrites.{both_values, writes_valid}
 use Rattle.split_transfer.proofs.making.pair_writes.Goals as goal
 

@@ -1,4 +1,4 @@
-use Rattle.std.proofs.Common.{◌≡◌, get_or, arith, ap}
+use Rattle.std.proofs.Common.{arith, ap}
 use Rattle.std.proofs.lemmas.Int.{ints}
 use Rattle.finite_sums.proofs.Totals.{total_more}
 use Rattle.split_transfer.proofs.Kept.{amount_at}
