@@ -13,3 +13,4 @@ pub mod Transferring
 pub mod Promise
 pub mod Telling
 pub mod ValidWrites
+pub mod Linked

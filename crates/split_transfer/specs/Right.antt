@@ -1,13 +1,13 @@
 -- Which pairs and splits are right, and that edits leave them so.
-use Rattle.std.specs.Prelude.{◌≡◌, ◌≢◌, ℕ, pos, ◌+ℤ◌, true, false, List, None, Some, Ok}
+use Rattle.std.specs.Prelude.{◌≡◌, ◌≢◌, ◌↔◌, ℕ, pos, ◌+ℤ◌, true, false, List, None, Some, Ok}
 use Rattle.std.specs.FinMap as map
-use Rattle.finite_sums.specs.Maps.{Text}
+use Rattle.finite_sums.specs.Maps.{Text, text_cmp, is_among}
 use Rattle.book_rows.specs.declared.rows.Rows.{Rows}
 use Rattle.book_rows.specs.declared.rows.TxRow.{TxRow}
 use Rattle.book_rows.specs.declared.write.Write.{Write}
 use Rattle.book_rows.specs.Live.{is_live_tx}
 use Rattle.split_transfer.specs.declared.edit.PairEdit.{PairEdit}
-use Rattle.split_transfer.specs.Pairs.{parts_sum}
+use Rattle.split_transfer.specs.Pairs.{partner_of, parts_of, parts_sum}
 use Rattle.split_transfer.specs.Edits.{pair_writes}
 use Rattle.split_transfer.specs.After.{Ids, with_writes, makes}
 
@@ -23,6 +23,14 @@ pub record ArePair (rows : Rows) (a : Text) (x : TxRow) (b : Text) (y : TxRow) :
   pub second : IsLiveRow rows b y
   pub forth : x.transferred_id ≡ Some b
   pub back : y.transferred_id ≡ Some a
+
+-- which transactions are told as hanging together
+pub record LinksAreTold (rows : Rows) : Type 0 where
+  -- the partner of a live transaction is the one with which it is a pair
+  pub partner : (a b : Text) (x : TxRow) → IsLiveRow rows a x → (partner_of rows a x ≡ Some b) ↔ ((y : TxRow) × ArePair rows a x b y)
+  -- the parts of a transaction that was not deleted are the live ones that say so
+  pub part : (id q : Text) (p : TxRow) → map.get rows.txs id ≡ Some p → p.tombstone ≡ false
+      → (is_among text_cmp (parts_of rows id) q ≡ true) ↔ ((y : TxRow) × IsLiveRow rows q y × (y.is_child ≡ true) × (y.parent_id ≡ Some id))
 
 -- a right pair: the amounts are opposite, and the days are the same
 pub record AreOpposite (x y : TxRow) : Type 0 where

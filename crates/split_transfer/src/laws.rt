@@ -1,6 +1,13 @@
 //! Facts about all edits of pairs and splits, which a proof can call for.
-ghost use Rattle.split_transfer.specs.Right.{PairsAndSplitsStayRight};
+ghost use Rattle.book_rows.specs.declared.rows.Rows.{Rows};
+ghost use Rattle.split_transfer.specs.Right.{LinksAreTold, PairsAndSplitsStayRight};
 ghost use Rattle.split_transfer.specs.Broken.{BrokenTellsAll};
+
+/// A law: the partner of a live transaction is told exactly where the two are a pair: both are live, and each names the other. The
+/// parts of a transaction that was not deleted are exactly the live ones that say so.
+pub fn links_are_told()
+    ensures { (rows : Rows) → LinksAreTold rows }
+{}
 
 /// A law: after an edit that is accepted each pair of opposite amounts and the same day, and each split whose parts add up to its
 /// amount, is right as before, if it is there still, and so is each that the edit makes. It is asked before that no part of a pair is
