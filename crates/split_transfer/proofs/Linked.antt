@@ -1,5 +1,5 @@
 -- Partners and parts are told.
-use Rattle.std.proofs.Common.{◌≡◌, Bool, true, false, cond, Some, ap, sym, ◌∙◌}
+use Rattle.std.proofs.Common.{◌≡◌, true, false, cond, Some, ap, sym, ◌∙◌}
 use Rattle.std.specs.Prelude.{not}
 use Rattle.std.specs.FinMap.{get}
 use Rattle.finite_sums.specs.Maps.{Text, text_cmp, some_and, is_among}
