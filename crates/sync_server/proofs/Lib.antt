@@ -1,1 +1,6 @@
 pub mod Answers
+mod Faults
+mod Fronts
+mod Lengths
+mod Tens
+mod Texts

@@ -29,30 +29,33 @@ values_under name fields = filter_map (value_under name) fields
 abbrev pub length_in : List ℕ → Option ℕ
 length_in text = if nat_lt 0 (length text) && nat_lt (length text) 19 && list_all is_ascii_digit text then Some (digits_value 10 text) else None
 
--- whether it writes this number
+-- whether it is this number
+abbrev pub is_number : ℕ → Option ℕ → Bool
+is_number n None = false
+is_number n (Some m) = m == n
+
+-- whether a text writes this number
 abbrev pub tells : ℕ → List ℕ → Bool
-tells n text = by (length_in text)
-  where
-    by : Option ℕ → Bool
-    by None = false
-    by (Some m) = m == n
+tells n text = is_number n (length_in text)
+
+-- the number that was told first, where all other values tell it too
+abbrev pub told_by_all : List (List ℕ) → Option ℕ → Result ℕ Refusal
+told_by_all texts None = Err BadRequest
+told_by_all texts (Some n) = if list_all (tells n) texts then Ok n else Err BadRequest
 
 -- the length of the body, which each of the values tells
 abbrev pub length_told : List (List ℕ) → Result ℕ Refusal
 length_told [] = Err LengthRequired
-length_told (text ∷ texts) = by (length_in text)
-  where
-    by : Option ℕ → Result ℕ Refusal
-    by None = Err BadRequest
-    by (Some n) = if list_all (tells n) texts then Ok n else Err BadRequest
+length_told (text ∷ texts) = told_by_all texts (length_in text)
+
+-- the length of a body is to be 67,108,864 at most
+abbrev pub not_too_long : Result ℕ Refusal → Result ℕ Refusal
+not_too_long (Err refusal) = Err refusal
+not_too_long (Ok n) = if nat_lt 67108864 n then Err TooLarge else Ok n
 
 -- the length of a body that is not too long
 abbrev pub body_length : List Pair → Result ℕ Refusal
-body_length fields = by (length_told (values_under (codes "content-length") fields))
-  where
-    by : Result ℕ Refusal → Result ℕ Refusal
-    by (Err refusal) = Err refusal
-    by (Ok n) = if nat_lt 67108864 n then Err TooLarge else Ok n
+body_length fields = not_too_long (length_told (values_under (codes "content-length") fields))
 
 -- whether the first of the values is the token, all of it
 abbrev pub is_token : List ℕ → List (List ℕ) → Bool

@@ -78,7 +78,7 @@ pub data Decides (token : Text) (Finds : SyncRequest → Found → Type 0) (came
       → DecidesRest Finds rest (judge_head token head) v → Decides token Finds came v
   too_large : HasNoRequest (take 65536 came) → 65536 ≤ length came → v ≡ Refuses TooLarge → Decides token Finds came v
   no_head : NeverHasHead (take 65536 came) → v ≡ Refuses BadRequest → Decides token Finds came v
-  ended : HasNoRequest came → length came < 65536 → v ≡ Ends → Decides token Finds came v
+  bytes_end : HasNoRequest came → length came < 65536 → v ≡ Ends → Decides token Finds came v
 
 -- the bytes are a whole request that nothing refuses before the keeper is asked
 pub record AsksKeeper (token : Text) (came : List ℕ) : Type 0 where

@@ -2,11 +2,16 @@
 #![tactic(auto)]
 
 mod answering;
+mod asking;
+mod head;
+mod judge;
+mod keeping;
 mod laws;
 mod refusal;
 mod served;
 mod serving;
 mod state;
+mod writing;
 
 pub use answering::{answer, join_request};
 pub use laws::answers_tell;

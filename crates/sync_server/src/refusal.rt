@@ -1,6 +1,7 @@
 //! Why the server refuses a request, and what it replies then.
 ghost use Rattle.std.specs.Prelude.{◌≡◌};
 ghost use Rattle.sync_server.specs.Replies.{refusal_bytes, status_of};
+ghost use Rattle.sync_server.specs.Texts.{text_of};
 
 use budget_ports::PortFault;
 use field_values::NoMemory;
@@ -64,6 +65,13 @@ impl Refusal {
     /// All bytes of the reply, which take no memory.
     pub fn reply(self) -> &'static str
         ensures { result.now ≡ refusal_bytes self }
+    {
+        self.text()
+    }
+
+    /// The reply, as it is written.
+    fn text(self) -> &'static str
+        ensures { result.now ≡ text_of self }
     {
         match self {
             Refusal::TooLarge => "HTTP/1.1 413 Payload Too Large\r\nContent-Type: text/plain\r\nContent-Length: 9\r\nConnection: close\r\n\r\ntoo-large",

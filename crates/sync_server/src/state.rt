@@ -10,6 +10,7 @@ ghost use Rattle.kept_messages.specs.Records.{record_of};
 ghost use Rattle.minute_trie.specs.Trie.{is_spent, IsTrieOf};
 ghost use Rattle.sync_server.specs.Answer.{answer_of};
 ghost use Rattle.sync_server.specs.State.{set_of, Agrees};
+ghost use Rattle.sync_server.specs.Keeping.{Puts};
 
 use crate::answering::join_request;
 use budget_ports::Record;
@@ -96,5 +97,37 @@ impl ServerState {
             token: token.copy()?,
             groups: BTreeMap::new(alloc),
         })
+    }
+
+    /// The token.
+    pub(crate) fn token(&self) -> &Txt
+        ensures { result.now ≡ self.now.token }
+    {
+        &self.token
+    }
+
+    /// Takes out what it keeps of a group.
+    pub(crate) fn take(&mut self, group: &Txt) -> Option<Kept>
+        ensures taken { result ≡ set_of self.old group.now }
+        ensures rest { Puts self.old self.new group.now None }
+    {
+        self.groups.remove(group)
+    }
+
+    /// Keeps this of a group.
+    pub(crate) fn put(&mut self, group: &Txt, kept: Kept) -> Result<(), NoMemory>
+        ensures ok { OnOk result (Puts self.old self.new group.now (Some kept)) }
+        ensures err { OnErr result (self.new ≡ self.old) }
+    {
+        let group = group.copy()?;
+        self.groups.insert(group, kept)?;
+        Ok(())
+    }
+
+    /// Forgets what it keeps of a group.
+    pub(crate) fn forget(&mut self, group: &Txt)
+        ensures { Puts self.old self.new group.now None }
+    {
+        self.groups.remove(group);
     }
 }
