@@ -14,9 +14,9 @@ use Rattle.sync_server.specs.declared.refusal.Refusal.TheVariants.{NoMemory}
 use Rattle.sync_server.specs.declared.head.HeadEnd.TheVariants as ends
 use Rattle.sync_server.specs.Heads.{HasHead, NeverHasHead, judge_head, IsUndecided, in_body}
 use Rattle.sync_server.specs.Taking.{Takes, IsHeadEnd}
-use Rattle.sync_server.specs.Asking.{IsAll, RefusesBody, out_of_memory, no_meaning, encrypted, without_since, IsPlain}
+use Rattle.sync_server.specs.Asking.{RefusesBody, out_of_memory, no_meaning, encrypted, without_since, IsPlain}
 use Rattle.sync_server.specs.Serving.{Verdict, Ends, Refuses, Decides, DecidesRest, DecidesBody, AsksKeeper, judge_request, found_in, by_head, too_large, no_head, bytes_end, refused, short, whole, no_request, request}
-use Rattle.sync_server.specs.Outside.{HasFound}
+use Rattle.sync_server.specs.Outside.{HasFound, IsAll}
 
 pub few_fields : (bytes : List ℕ) (headers : List HeaderSpan) (count : ℕ) (fields : List Field) → AreFieldsAt bytes headers count fields → length headers ≤ 64 → length fields ≤ 64
 few_fields bytes headers count fields same room =

@@ -4,3 +4,4 @@ mod Fronts
 mod Lengths
 mod Tens
 mod Texts
+mod Pieces

@@ -17,11 +17,6 @@ use Rattle.sync_server.specs.Heads.{IsUndecided}
 use Rattle.sync_server.specs.Serving.{Decides, Ends, Refuses, AsksKeeper}
 use Rattle.sync_server.specs.Outside.{HasFound}
 
--- these are all bytes that were left, as far as is known what was left
-abbrev pub IsAll : Option (List ℕ) → List ℕ → Type 0
-IsAll None came = ⊤
-IsAll (Some left) came = came ≡ left
-
 -- how reading up to so many bytes ended, with how many taken
 abbrev pub IsBodyEnd : ℕ → ℕ → Option (List ℕ) → BodyEnd → Type 0
 IsBodyEnd end taken left ends.Whole = end ≤ taken

@@ -1,5 +1,5 @@
 -- What a request does to what is kept.
-use Rattle.std.specs.Prelude.{◌≡◌, ◌≢◌, ◌⊎◌, ℕ, List, [], Bool, true, false, Option, None, Some, Result, Ok, Err, Vec}
+use Rattle.std.specs.Prelude.{◌≡◌, ◌≢◌, ◌⊎◌, ℕ, List, [], Bool, true, false, Option, None, Some, Result, Ok, Err}
 use Rattle.std.specs.Str.{bytes_eq}
 use Rattle.budget_ports.specs.Contents.{Contents, Text}
 use Rattle.budget_ports.specs.Keeper.{LeavesNoMore, IsKnown, IsAlone}
@@ -66,7 +66,7 @@ pub record Puts (old new : ServerState) (group : Text) (set : Option (List Messa
 
 -- the reply to a request over the message set of its group, and the records that it adds; the state keeps the set with the new messages
 pub record IsReply (q : SyncRequest) (old new : ServerState) (ms : List Message) (prepared : Prepared) : Type 0 where
-  pub reply : prepared.reply.items ≡ reply_of (Accepts ms q)
+  pub reply : prepared.reply ≡ reply_of (Accepts ms q)
   pub batch : prepared.batch.items ≡ batch_of ms q
   pub state : Puts old new q.group (Some (join ms q.messages))
 
@@ -76,9 +76,9 @@ IsPrepared q old new set (Ok prepared) = (ms : List Message) × (set ≡ Ok ms) 
 IsPrepared q old new set (Err refusal) = (((index : ℕ) × (set ≡ Err index) × (refusal ≡ BadRecord)) ⊎ IsFree refusal) × Shrinks old new
 
 -- what a request that was accepted has done
-pub record HasAccepted (q : SyncRequest) (found : Found) (ms : List Message) (old new : ServerState) (new_tells : Type 0) (contents new_contents : Contents) (new_left : Contents → Type 0) (reply : Vec ℕ) : Type 0 where
+pub record HasAccepted (q : SyncRequest) (found : Found) (ms : List Message) (old new : ServerState) (new_tells : Type 0) (contents new_contents : Contents) (new_left : Contents → Type 0) (reply : List ℕ) : Type 0 where
   pub judged : judge_found q found.group found.set ≡ Accepts ms q
-  pub reply_is : reply.items ≡ reply_of (Accepts ms q)
+  pub reply_is : reply ≡ reply_of (Accepts ms q)
   pub state : Puts old new q.group (Some (join ms q.messages))
   pub keeps : new_tells → new_contents ≡ kept_after (Accepts ms q) contents
   pub known : IsKnown new_tells new_left
@@ -90,12 +90,12 @@ pub record HasRefused (q : SyncRequest) (found : Found) (refusal : Refusal) (old
   pub token : new.token ≡ old.token
   pub same : new_tells → new_contents ≡ contents
 
-abbrev pub IsKeptAs : SyncRequest → Found → ServerState → ServerState → Type 0 → Contents → Contents → (Contents → Type 0) → Result (Vec ℕ) Refusal → Type 0
+abbrev pub IsKeptAs : SyncRequest → Found → ServerState → ServerState → Type 0 → Contents → Contents → (Contents → Type 0) → Result (List ℕ) Refusal → Type 0
 IsKeptAs q found old new new_tells contents new_contents new_left (Ok reply) = (ms : List Message) × HasAccepted q found ms old new new_tells contents new_contents new_left reply
 IsKeptAs q found old new new_tells contents new_contents new_left (Err refusal) = HasRefused q found refusal old new new_tells contents new_contents
 
 -- what a request that nothing refuses before has done
-pub record HasKept (q : SyncRequest) (found : Found) (old new : ServerState) (tells new_tells : Type 0) (contents new_contents : Contents) (left new_left : Contents → Type 0) (result : Result (Vec ℕ) Refusal) : Type 0 where
+pub record HasKept (q : SyncRequest) (found : Found) (old new : ServerState) (tells new_tells : Type 0) (contents new_contents : Contents) (left new_left : Contents → Type 0) (result : Result (List ℕ) Refusal) : Type 0 where
   pub told : new_tells → tells
   pub finds : new_tells → found ≡ found_in contents q
   pub by_result : IsKeptAs q found old new new_tells contents new_contents new_left result

@@ -5,7 +5,8 @@ ghost use Rattle.field_merge.specs.Messages.{AreMessages};
 ghost use Rattle.budget_ports.specs.Connections.{Stays};
 ghost use Rattle.budget_ports.specs.Faults.{count_after};
 ghost use Rattle.sync_wire.specs.Wire.{IsRequest, IsRequestFault};
-ghost use Rattle.sync_server.specs.Asking.{IsAll, IsBodyEnd, IsAsked, body_failed, asking_failed, IsReadAs, refusal_for};
+ghost use Rattle.sync_server.specs.Outside.{IsAll};
+ghost use Rattle.sync_server.specs.Asking.{IsBodyEnd, IsAsked, body_failed, asking_failed, IsReadAs, refusal_for};
 ghost use Rattle.sync_server.specs.declared.asking.BodyEnd.TheVariants.{NoMemory as OutOfMemory};
 
 use crate::head::{HeadEnd, take_head};

@@ -16,7 +16,7 @@ use crate::refusal::Refusal;
 use crate::state::{Kept, ServerState};
 use crate::writing::accepted;
 use budget_ports::{Keeper, Record};
-use field_values::{NoMemory, Txt};
+use field_values::{Items, NoMemory, Txt};
 use kept_messages::{StartFault, read_log};
 use std::alloc::Global;
 use sync_wire::SyncRequest;
@@ -83,7 +83,7 @@ fn read_group<K: Keeper>(alloc: Global, keeper: &mut K, group: &Txt) -> Result<K
 /// The reply to a request that is accepted, and the records of its new messages, which are to be kept before it is written.
 #[derive(Drop)]
 pub(crate) struct Prepared {
-    pub(crate) reply: Vec<u8>,
+    pub(crate) reply: Items<u8>,
     pub(crate) batch: Vec<Record>,
 }
 
@@ -151,7 +151,7 @@ pub(crate) fn keep<K: Keeper>(
     state: &mut ServerState,
     keeper: &mut K,
     request: &SyncRequest,
-) -> Result<Vec<u8>, Refusal>
+) -> Result<Items<u8>, Refusal>
     requires valid { AreMessages request.now.messages }
     requires agrees { K.tells keeper.old → Agrees state.old (K.contents keeper.old) }
     ensures agrees { K.tells keeper.new → Agrees state.new (K.contents keeper.new) }

@@ -9,7 +9,7 @@ ghost use Rattle.sync_server.specs.Replies.{accepted_bytes};
 ghost use Rattle.sync_server.specs.Written.{WritesTo, WritesFront};
 
 use budget_ports::{Door, Failed};
-use field_values::NoMemory;
+use field_values::{Items, NoMemory};
 use std::alloc::Global;
 use sync_wire::{SyncResponse, write_response};
 
@@ -28,10 +28,10 @@ pub(crate) fn write_all<D: Door>(door: &mut D, bytes: &[u8]) -> Result<(), Faile
 }
 
 /// All bytes of the reply to a request that is accepted.
-pub(crate) fn accepted(alloc: Global, response: &SyncResponse) -> Result<Vec<u8>, NoMemory>
+pub(crate) fn accepted(alloc: Global, response: &SyncResponse) -> Result<Items<u8>, NoMemory>
     requires plain { response.now.encrypted ≡ false }
     requires valid { AreMessages response.now.messages }
-    ensures { IfOk result (λ bytes. bytes.items ≡ accepted_bytes (response_bytes response.now)) }
+    ensures { IfOk result (λ bytes. bytes ≡ accepted_bytes (response_bytes response.now)) }
 {
     let body = write_response(alloc, response)?;
     let status: u16 = 200;
@@ -39,5 +39,5 @@ pub(crate) fn accepted(alloc: Global, response: &SyncResponse) -> Result<Vec<u8>
     let head = format!(in alloc; "HTTP/1.1 {status} OK\r\nContent-Type: application/actual-sync\r\nContent-Length: {count}\r\nConnection: close\r\n\r\n")?;
     let mut bytes = head.into_bytes();
     bytes.extend_from_slice(body.as_slice())?;
-    Ok(bytes)
+    Ok(Items::new(bytes))
 }
