@@ -58,6 +58,10 @@ JudgesSet set (Err refusal) = ((index : ℕ) × (set ≡ Err index) × (refusal 
 abbrev pub Shrinks : ServerState → ServerState → Type 0
 Shrinks old new = (new.token ≡ old.token) × ((group : Text) (ms : List Message) → set_of new group ≡ Some ms → set_of old group ≡ Some ms)
 
+-- what is kept is as it was
+abbrev pub Stands : ServerState → ServerState → Type 0
+Stands old new = (new.token ≡ old.token) × ((group : Text) → set_of new group ≡ set_of old group)
+
 -- this is kept of the group, and of each other what was kept
 pub record Puts (old new : ServerState) (group : Text) (set : Option (List Message)) : Type 0 where
   pub token : new.token ≡ old.token
@@ -86,7 +90,7 @@ pub record HasAccepted (q : SyncRequest) (found : Found) (ms : List Message) (ol
 
 -- and one that was not: it was refused by what was found, or the keeper failed, or memory ran out
 pub record HasRefused (q : SyncRequest) (found : Found) (refusal : Refusal) (old new : ServerState) (new_tells : Type 0) (contents new_contents : Contents) : Type 0 where
-  pub why : (judge_found q found.group found.set ≡ Refuses refusal) × (is_fault refusal ≡ false) ⊎ IsFree refusal
+  pub why : (judge_found q found.group found.set ≡ Refuses refusal) ⊎ IsFree refusal
   pub token : new.token ≡ old.token
   pub same : new_tells → new_contents ≡ contents
 

@@ -87,6 +87,53 @@ pub(crate) struct Prepared {
     pub(crate) batch: Vec<Record>,
 }
 
+/// Takes out what the state keeps of a group, or reads the group where it keeps none.
+fn open_group<K: Keeper>(
+    alloc: Global,
+    state: &mut ServerState,
+    keeper: &mut K,
+    group: &Txt,
+) -> Result<Kept, Refusal>
+    requires agrees { K.tells keeper.old → Agrees state.old (K.contents keeper.old) }
+    ensures found { (set : Result (List Message) ℕ) × (K.tells keeper.new → set ≡ kept_set (records_after (K.contents keeper.old) group.now [])) × JudgesSet set result }
+    ensures rest { Puts state.old state.new group.now None }
+    ensures reads { OnlyReads (K.tells keeper.old) (K.tells keeper.new) (K.contents keeper.old) (K.contents keeper.new) (K.left keeper.old) (K.left keeper.new) }
+    ensures known { OnOk result (IsKnown (K.tells keeper.old) (K.left keeper.old) → IsKnown (K.tells keeper.new) (K.left keeper.new)) }
+    ensures count { K.faults keeper.new ≡ count_after (keeper_failed result) (K.faults keeper.old) }
+{
+    match state.take(group) {
+        Some(kept) => Ok(kept),
+        None => read_group(alloc, keeper, group),
+    }
+}
+
+/// The messages of a group with those of a request, and what is replied.
+#[derive(Drop)]
+struct Joined {
+    kept: Kept,
+    prepared: Prepared,
+}
+
+/// Joins a request to the messages of its group, and makes the reply.
+fn reply_over(
+    alloc: Global,
+    kept: Kept,
+    request: &SyncRequest,
+) -> Result<Joined, NoMemory>
+    requires { AreMessages request.now.messages }
+    ensures joined { IfOk result (λ r. r.kept ≡ join kept request.now.messages) }
+    ensures reply { IfOk result (λ r. r.prepared.reply ≡ reply_of (Accepts kept request.now)) }
+    ensures batch { IfOk result (λ r. r.prepared.batch.items ≡ batch_of kept request.now) }
+{
+    let mut batch = Vec::new(alloc);
+    let (kept, response) = kept.join(alloc, request, &mut batch)?;
+    let reply = accepted(alloc, &response)?;
+    Ok(Joined {
+        kept,
+        prepared: Prepared { reply, batch },
+    })
+}
+
 /// Joins a request to what the state keeps of its group, which is read where it keeps none, and makes the reply.
 ///
 /// Where this is refused nothing is kept of the group: what was joined is not what the keeper has.
@@ -103,15 +150,10 @@ fn prepare<K: Keeper>(
     ensures known { OnOk result (IsKnown (K.tells keeper.old) (K.left keeper.old) → IsKnown (K.tells keeper.new) (K.left keeper.new)) }
     ensures count { K.faults keeper.new ≡ count_after (keeper_failed result) (K.faults keeper.old) }
 {
-    let kept = match state.take(&request.group) {
-        Some(kept) => kept,
-        None => read_group(alloc, keeper, &request.group)?,
-    };
-    let mut batch = Vec::new(alloc);
-    let (kept, response) = kept.join(alloc, request, &mut batch)?;
-    let reply = accepted(alloc, &response)?;
-    state.put(&request.group, kept)?;
-    Ok(Prepared { reply, batch })
+    let opened = open_group(alloc, state, keeper, &request.group)?;
+    let joined = reply_over(alloc, opened, request)?;
+    state.put(&request.group, joined.kept)?;
+    Ok(joined.prepared)
 }
 
 /// Keeps the records of new messages in one append, or forgets the group, which takes no memory.

@@ -10,7 +10,7 @@ ghost use Rattle.kept_messages.specs.Records.{record_of};
 ghost use Rattle.minute_trie.specs.Trie.{is_spent, IsTrieOf};
 ghost use Rattle.sync_server.specs.Answer.{answer_of};
 ghost use Rattle.sync_server.specs.State.{set_of, Agrees};
-ghost use Rattle.sync_server.specs.Keeping.{Puts};
+ghost use Rattle.sync_server.specs.Keeping.{Puts, Stands};
 
 use crate::answering::join_request;
 use budget_ports::Record;
@@ -117,7 +117,7 @@ impl ServerState {
     /// Keeps this of a group.
     pub(crate) fn put(&mut self, group: &Txt, kept: Kept) -> Result<(), NoMemory>
         ensures ok { OnOk result (Puts self.old self.new group.now (Some kept)) }
-        ensures err { OnErr result (self.new ≡ self.old) }
+        ensures err { OnErr result (Stands self.old self.new) }
     {
         let group = group.copy()?;
         self.groups.insert(group, kept)?;
