@@ -1,0 +1,127 @@
+-- What becomes of a connection.
+use Rattle.std.proofs.Common.{◌≡◌, ◌≢◌, ◌⊎◌, ◌∙◌, ◌<◌, ◌==◌, ℕ, suc, List, [], ◌∷◌, length, Bool, true, false, Option, None, Some, Result, Ok, Err, inl, inr, refl, sym, ap, subst, take, cond}
+use Rattle.budget_ports.specs.Contents.{Contents, Text}
+use Rattle.budget_ports.specs.Faults.{count_after}
+use Rattle.field_merge.specs.declared.message.Message.{Message}
+use Rattle.field_merge.specs.Log.{join}
+use Rattle.sync_wire.specs.declared.request.SyncRequest.{SyncRequest}
+use Rattle.sync_server.specs.declared.refusal.Refusal.{Refusal}
+use Rattle.sync_server.specs.declared.refusal.Refusal.TheVariants.{KeeperFault, NoMemory, FileHasReset}
+use Rattle.sync_server.specs.declared.state.ServerState.{ServerState}
+use Rattle.sync_server.specs.declared.served.Served.{Served}
+use Rattle.sync_server.specs.declared.served.Served.TheVariants as served
+use Rattle.sync_server.specs.Serving.{Found, found_in, Verdict, Accepts, Refuses, Ends, judge_found, judge_set, judge_request, Decides, DecidesRest, DecidesBody, by_head, too_large, no_head, bytes_end, refused, short, whole, no_request, request, AsksKeeper, Means, decided, keeper_fault, no_memory, reply_of, HasStatus, Visit, IsServed, answered, unwritten, kept_after}
+use Rattle.sync_server.specs.State.{set_of, Remembers}
+use Rattle.std.specs.Str.{bytes_eq}
+use Rattle.sync_server.specs.Heads.{judge_head}
+use Rattle.sync_server.specs.Keeping.{Puts, IsFree, is_fault}
+use Rattle.sync_server.specs.Outside.{HasFound, IsAll, IsSent, is_cut, ServesOpen, UsesKeeper}
+use Rattle.sync_server.specs.Written.{WritesTo}
+
+some_length : (xs : List ℕ) → 0 < length xs → (length xs == 0) ≡ false
+some_length [] less = absurd (omega less)
+some_length (x ∷ xs) less = refl
+
+-- a request that nothing refuses before is judged by what is found
+pub by_found : (token came : List ℕ) (asks : AsksKeeper token came) (found : Found) → judge_request asks.request found ≡ judge_found asks.request found.group found.set
+by_found token came asks found = rw (asks.plain, some_length asks.request.since asks.since) refl
+
+pub asks_decide : (token came : List ℕ) (Finds : SyncRequest → Found → Type 0) (asks : AsksKeeper token came) (found : Found) (v : Verdict) → Finds asks.request found
+    → judge_found asks.request found.group found.set ≡ v → Decides token Finds came v
+asks_decide token came Finds asks found v f j =
+    by_head asks.head asks.more asks.rest asks.in_front asks.has (whole asks.n asks.takes asks.whole (request asks.request found asks.means f (sym j ∙ sym (by_found token came asks found))))
+
+ms_of : Verdict → List Message
+ms_of Ends = []
+ms_of (Refuses r) = []
+ms_of (Accepts ms q) = ms
+
+q_of : SyncRequest → Verdict → SyncRequest
+q_of d Ends = d
+q_of d (Refuses r) = d
+q_of d (Accepts ms q) = q
+
+-- an accepted request is one
+pub accepted_is : (ms ns : List Message) (q p : SyncRequest) → Accepts ms q ≡ Accepts ns p → (ms ≡ ns) × (q ≡ p)
+unfolding ms_of q_of
+accepted_is ms ns q p e = (ap ms_of e, ap (q_of q) e)
+
+pub remembers : (s0 s1 : ServerState) (ms : List Message) (q : SyncRequest) → Puts s0 s1 q.group (Some (join ms q.messages)) → Remembers s0 s1 (Accepts ms q)
+remembers s0 s1 ms q p = record {
+  token = p.token;
+  group = λ ns r e. (let same = accepted_is ms ns q r e in subst (λ (x : SyncRequest). set_of s1 x.group ≡ Some (join ns x.messages)) same.1 (subst (λ (y : List Message). set_of s1 q.group ≡ Some (join y q.messages)) same.0 p.here));
+  others = λ ns r g e n. (let same = accepted_is ms ns q r e in p.others g (λ f. n (f ∙ ap (λ (x : SyncRequest). x.group) same.1)));
+}
+
+pub remembers_token : (s0 s1 : ServerState) (r : Refusal) → s1.token ≡ s0.token → Remembers s0 s1 (Refuses r)
+remembers_token s0 s1 r e = record { token = e; group = λ ns q f. absurd (no ns q f); others = λ ns q g f n. absurd (no ns q f) }
+  where
+    no : (ns : List Message) (q : SyncRequest) → Refuses r ≡ Accepts ns q → ⊥
+    no ns q f = cc
+
+module _ (token : Text) (tells new_tells : Type 0) (old new : Contents) (left new_left : Contents → Type 0) (faults new_faults : ℕ) (s0 s1 : ServerState) (came : List ℕ) where
+  abbrev visit : Verdict → Bool → List ℕ → Bool → Visit
+  visit v failed wrote cut = record { came = came; wrote = wrote; verdict = v; keeper_failed = failed; door_failed = cut; close_failed = false }
+
+  pub replied : (bytes : Option (List ℕ)) (outs new_outs : Option (List (List ℕ))) (df ndf : ℕ) (v : Verdict) (failed : Bool) (text : List ℕ) (status : ℕ) (result : Served) → IsAll bytes came
+      → Means token (λ q found. new_tells → HasFound old q found) came failed v → HasStatus v status → reply_of v ≡ text → IsSent text status outs new_outs result → ndf ≡ count_after (is_cut result) df → Remembers s0 s1 v
+      → ((wrote : List ℕ) (cut : Bool) → UsesKeeper token tells new_tells old new left new_left faults new_faults (visit v failed wrote cut))
+      → (x : Visit) × Remembers s0 s1 x.verdict × ServesOpen token x result bytes outs new_outs df ndf tells new_tells old new left new_left faults new_faults
+  replied bytes outs new_outs df ndf v failed text status (served.Answered st) all m h e s n r k =
+      (visit v failed text false, r, record { open_still = refl; came = all; wrote = s.1; count = n; served = answered st m (subst (HasStatus v) (sym s.0) h) (sym e) refl; keeper = k text false })
+  replied bytes outs new_outs df ndf v failed text status served.Cut all m h e s n r k =
+      (visit v failed s.front true, r, record { open_still = refl; came = all; wrote = s.wrote; count = n; served = unwritten m s.rest (e ∙ s.of) s.some refl; keeper = k s.front true })
+
+  -- a request that is refused before the keeper is asked, or for want of memory
+  pub untouched : (v : Verdict) → kept_after v old ≡ old → ((ms : List Message) (q : SyncRequest) → v ≡ Accepts ms q → ⊥) → (new_tells → tells) → (new_tells → new ≡ old)
+      → ((k : Contents) → new_left k → left k) → new_faults ≡ faults → (wrote : List ℕ) (cut : Bool) → UsesKeeper token tells new_tells old new left new_left faults new_faults (visit v false wrote cut)
+  untouched v none no told keeps stops count wrote cut = record {
+    told = told;
+    keeps = λ t. keeps t ∙ sym none;
+    stops = λ k h. inl (stops k h);
+    known = λ ms q e. absurd (no ms q e);
+    alone = λ ms q e. absurd (no ms q e);
+    count = count;
+  }
+
+-- what decides over one finding decides over a wider one
+module _ (token came : List ℕ) (F G : SyncRequest → Found → Type 0) (wider : (q : SyncRequest) (f : Found) → F q f → G q f) (v : Verdict) where
+  wider_body : (body : List ℕ) → DecidesBody F body v → DecidesBody G body v
+  wider_body body (no_request f b e) = no_request f b e
+  wider_body body (request q f b h e) = request q f b (wider q f h) e
+
+  wider_rest : (rest : List ℕ) (n : Result ℕ Refusal) → DecidesRest F rest n v → DecidesRest G rest n v
+  wider_rest rest n (refused r e f) = refused r e f
+  wider_rest rest n (short k e l f) = short k e l f
+  wider_rest rest n (whole k e l d) = whole k e l (wider_body (take k rest) d)
+
+  pub widened : Decides token F came v → Decides token G came v
+  widened (by_head h m r a b d) = by_head h m r a b (wider_rest r (judge_head token h) d)
+  widened (too_large a b e) = too_large a b e
+  widened (no_head a e) = no_head a e
+  widened (bytes_end a b e) = bytes_end a b e
+
+fault_in : Verdict → Bool
+fault_in Ends = false
+fault_in (Refuses r) = is_fault r
+fault_in (Accepts ms q) = false
+
+-- what is found is no fault of the keeper
+pub found_sound : (q : SyncRequest) (group : Option Text) (set : Result (List Message) ℕ) (r : Refusal) → judge_found q group set ≡ Refuses r → is_fault r ≡ false
+unfolding fault_in
+found_sound q group set r e = sym (ap fault_in e) ∙ by group
+  where
+    by_set : (set : Result (List Message) ℕ) → fault_in (judge_set q set) ≡ false
+    by_set (Ok ms) = refl
+    by_set (Err i) = refl
+
+    by : (group : Option Text) → fault_in (judge_found q group set) ≡ false
+    by None = refl
+    by (Some g) = elim (bytes_eq g q.group) as (λ b. fault_in (cond b (judge_set q set) (Refuses FileHasReset)) ≡ false) [ true ↦ by_set set | false ↦ refl ]
+
+-- what the server means where a request is refused once the keeper was asked
+pub means_refused : (token came : List ℕ) (Finds : SyncRequest → Found → Type 0) (asks : AsksKeeper token came) (found : Found) (r : Refusal) → Finds asks.request found
+    → (judge_found asks.request found.group found.set ≡ Refuses r) ⊎ IsFree r → Means token Finds came (is_fault r) (Refuses r)
+means_refused token came Finds asks found r f (inl j) = decided (found_sound asks.request found.group found.set r j) (asks_decide token came Finds asks found (Refuses r) f j)
+means_refused token came Finds asks found r f (inr (inl e)) = keeper_fault (ap is_fault e) asks (ap Refuses e)
+means_refused token came Finds asks found r f (inr (inr e)) = no_memory (ap is_fault e) (ap Refuses e)
