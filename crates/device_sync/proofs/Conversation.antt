@@ -61,14 +61,14 @@ are ms valid = are_pairs ms of_stamp valid
 -- ---- the place where the walk ends
 
 -- the moment that is told is that of the minute of the walk
-told_minute : (f g : Held) (moment : ℕ) → difference f g ≡ Some moment → moment ≡ minute_of (end_of_walk f g) * 60_000
+pub told_minute : (f g : Held) (moment : ℕ) → difference f g ≡ Some moment → moment ≡ minute_of (end_of_walk f g) * 60_000
 told_minute f g moment h = by (same_hash (f []) (g [])) h
   where
     by : (b : Bool) → cond b None (Some (minute_of (end_of_walk f g) * 60_000)) ≡ Some moment → moment ≡ minute_of (end_of_walk f g) * 60_000
     by true h = absurd (cc)
     by false h = cc
 
-told_small : (f g : Held) → minute_of (end_of_walk f g) < window
+pub told_small : (f g : Held) → minute_of (end_of_walk f g) < window
 told_small f g = padded_lt 16 (end_of_walk f g)
 
 prefix_shorter : (p s : List Digit) → IsProperPrefix p s → length p < length s
