@@ -1,18 +1,23 @@
 -- The conversation goes on by one turn.
 use Rattle.std.proofs.Common.{◌≡◌, ◌⊎◌, inl, inr, ℕ, zero, suc, ◌+◌, ◌-◌, ◌≤◌, List, [], ◌∷◌, ◌++◌, Option, None, Some, Result, Ok, Err, ℤ, length, map, refl, sym, ap, ap₂, ◌∙◌, subst, append-nil, append_assoc, length-append, arith}
 use Rattle.std.proofs.lemmas.List.{map-append}
-use Rattle.budget_ports.specs.Contents.{Contents}
+use Rattle.std.specs.FinMap.{get}
+use Rattle.budget_ports.specs.Contents.{Contents, with_text}
 use Rattle.budget_ports.specs.Exchanges.{Exchange, Adds}
+use Rattle.field_merge.specs.declared.message.Message.{Message}
+use Rattle.kept_messages.specs.Holding.{Holds}
 use Rattle.hybrid_clock.specs.Moments.{moment_text}
 use Rattle.device_core.specs.declared.edit.LineRefusal.TheVariants.{Clock as OfClock}
 use Rattle.device_core.specs.Device.{State}
 use Rattle.device_sync.specs.declared.fault.SyncFault.{SyncFault}
 use Rattle.device_sync.specs.declared.fault.SyncFault.TheVariants.{Link, BadReply, Refused, OutOfSync, Clock, Keeper, NoMemory}
+use Rattle.device_sync.specs.declared.fault.Synced.{Synced}
 use Rattle.device_sync.specs.declared.round.Compared.{Compared}
 use Rattle.device_sync.specs.declared.round.Compared.TheVariants.{Agreed, Differ}
 use Rattle.device_sync.specs.declared.target.Target.{Target}
+use Rattle.device_sync.specs.Requests.{first_since}
 use Rattle.device_sync.specs.Talk.{Outcome, going_on, agreed, out_of_sync, not_taken, refused, bad_reply, Next, ends, asks, next, Turn, Ends, Follows, Talk}
-use Rattle.device_sync.specs.Sync.{text_of, exchange_of, IsUnanswered, IsUnjudged, TakesTurn, further, IsLeft, IsRound, Carries, kept_of, IsCutOff, IsAnswered, Told, HasConversed}
+use Rattle.device_sync.specs.Sync.{text_of, exchange_of, IsUnanswered, IsUnjudged, TakesTurn, further, IsLeft, IsRound, Carries, kept_of, IsCutOff, IsAnswered, Told, IsNumber, IsCounted, HasConversed, HasTalked, synced_name}
 use Rattle.device_sync.proofs.Turns.{carries_same, carries_both}
 
 -- The turns so far, after which the conversation goes on from a text with so many requests more than one
@@ -78,7 +83,7 @@ module _ (target : Target) (group : List ℕ) (reading : ℕ) (first : List ℕ)
       → (t : TakesTurn target reading since here mid.exchanges new.exchanges after) → after left ≡ ends end how
       → ((g : ℕ) → g + suc left ≡ 100 → IsAnswered target end how [] now (λ number. number ≡ g + 1) r)
       → (tells → told) → (tells → Carries group here.messages end.messages mid.contents new.contents)
-      → HasConversed target group reading first s tells old new now r
+      → HasConversed target group reading first s tells old new now IsNumber r
   ends_at left how after end r g t is answered back kept = record {
     turns = g.done ++ t.turn ∷ [];
     late = [];
@@ -96,7 +101,7 @@ module _ (target : Target) (group : List ℕ) (reading : ℕ) (first : List ℕ)
       → IsLeft (text_of target since here) mid.exchanges new.exchanges IsLate
       → ((late : List Exchange) (number : ℕ) → IsLate (text_of target since here) late → IsAnswered target here (going_on since) late now (λ n. n ≡ number) r)
       → (tells → told) → (tells → Carries group here.messages here.messages mid.contents new.contents)
-      → HasConversed target group reading first s tells old new now r
+      → HasConversed target group reading first s tells old new now IsNumber r
   left_open left r IsLate g h answered back kept = record {
     turns = g.done;
     late = h.late;
@@ -110,16 +115,19 @@ module _ (target : Target) (group : List ℕ) (reading : ℕ) (first : List ℕ)
   }
 
   pub ends_agreed : (left : ℕ) → Goes target group reading first s told old mid since left here → IsRound target reading since here mid.exchanges new.exchanges now (Ok Agreed)
-      → (tells → told) → (tells → Carries group here.messages now.messages mid.contents new.contents) → HasConversed target group reading first s tells old new now (Ok (100 - left))
+      → (tells → told) → (tells → Carries group here.messages now.messages mid.contents new.contents) → HasConversed target group reading first s tells old new now IsNumber (Ok (100 - left))
   ends_agreed left g t back kept = ends_at left agreed (λ left. ends now agreed) now (Ok (100 - left)) g t refl (λ n is. (refl, (refl, (refl, omega arith)))) back kept
 
-  pub ends_out : (left moment : ℕ) (mine theirs : ℤ) → Goes target group reading first s told old mid since left here → IsRound target reading since here mid.exchanges new.exchanges now (Ok (Differ moment mine theirs)) → left ≡ 0
-      → (tells → told) → (tells → Carries group here.messages now.messages mid.contents new.contents) → HasConversed target group reading first s tells old new now (Err (OutOfSync mine theirs))
-  ends_out left moment mine theirs g t none back kept =
-      ends_at left (out_of_sync mine theirs) (further now moment mine theirs) now (Err (OutOfSync mine theirs)) g t (ap (further now moment mine theirs) none) (λ n is. (refl, (refl, refl))) back kept
+  pub ends_out : (left moment : ℕ) (mine theirs my_root their_root : ℤ) → Goes target group reading first s told old mid since left here → IsRound target reading since here mid.exchanges new.exchanges now (Ok (Differ moment mine theirs)) → left ≡ 0
+      → my_root ≡ mine → their_root ≡ theirs
+      → (tells → told) → (tells → Carries group here.messages now.messages mid.contents new.contents) → HasConversed target group reading first s tells old new now IsNumber (Err (OutOfSync my_root their_root))
+  ends_out left moment mine theirs my_root their_root g t none one other back kept =
+      subst (λ (z : ℤ). HasConversed target group reading first s tells old new now IsNumber (Err (OutOfSync my_root z))) (sym other)
+      (subst (λ (z : ℤ). HasConversed target group reading first s tells old new now IsNumber (Err (OutOfSync z theirs))) (sym one)
+      (ends_at left (out_of_sync mine theirs) (further now moment mine theirs) now (Err (OutOfSync mine theirs)) g t (ap (further now moment mine theirs) none) (λ n is. (refl, (refl, refl))) back kept))
 
   pub ends_fault : (left : ℕ) (fault : SyncFault) → Goes target group reading first s told old mid since left here → IsRound target reading since here mid.exchanges new.exchanges now (Err fault)
-      → (tells → told) → (tells → Carries group here.messages here.messages mid.contents new.contents) → HasConversed target group reading first s tells old new now (Err fault)
+      → (tells → told) → (tells → Carries group here.messages here.messages mid.contents new.contents) → HasConversed target group reading first s tells old new now IsNumber (Err fault)
   ends_fault left Link g h back kept = left_open left (Err Link) IsUnanswered g h.0 (λ late n is. (since, (refl, (is, h.1)))) back kept
   ends_fault left (BadReply at) g h back kept = ends_at left (bad_reply at) (λ left. ends here (bad_reply at)) here (Err (BadReply at)) g h.0 refl (λ n is. (refl, (refl, h.1))) back kept
   ends_fault left (Refused status) g h back kept = ends_at left (refused status) (λ left. ends here (refused status)) here (Err (Refused status)) g h.0 refl (λ n is. (refl, (refl, h.1))) back kept
@@ -127,3 +135,121 @@ module _ (target : Target) (group : List ℕ) (reading : ℕ) (first : List ℕ)
   ends_fault left (Clock fault) g h back kept = ends_at left (not_taken (OfClock fault)) (λ left. ends here (not_taken (OfClock fault))) here (Err (Clock fault)) g h.0 refl (λ n is. (refl, (refl, h.1))) back kept
   ends_fault left Keeper g h back kept = left_open left (Err Keeper) IsUnjudged g h (λ late n is. inl (since, (refl, is))) back kept
   ends_fault left NoMemory g h back kept = left_open left (Err NoMemory) IsUnjudged g h (λ late n is. inl (since, (refl, is))) back kept
+
+-- ---- the end of a sync
+
+carries_text : (group : List ℕ) (ms : List Message) (before now : Contents) (name text : List ℕ) → now ≡ with_text before name text → Carries group ms ms before now
+carries_text group ms before now name text is = λ entry h.
+    subst (λ (k : Contents). Holds group (record entry { texts = k.texts }) k ms) (sym is) (record {
+      messages = h.messages;
+      kept = h.kept;
+      written = h.written;
+      others = record { records = h.others.records; texts = refl };
+    })
+
+module _ (target : Target) (group : List ℕ) (reading : ℕ) (first : List ℕ) (s : State) (told tells : Type 0) (old mid new : Told) (now : State) where
+  -- after the conversation the keeper alone was called
+  more_kept : {T U : Type 0} (P : List Turn → State → T → Type 0) (Q : List Turn → State → U → Type 0) (r : Result T SyncFault) (q : Result U SyncFault)
+      → (h : HasConversed target group reading first s told old mid now P r) → new.exchanges ≡ mid.exchanges
+      → IsAnswered target h.end h.outcome h.late now (Q h.turns h.end) q
+      → (tells → told) → (tells → Carries group h.end.messages h.end.messages mid.contents new.contents) → HasConversed target group reading first s tells old new now Q q
+  more_kept P Q r q h links answered back kept = record {
+    turns = h.turns;
+    late = h.late;
+    end = h.end;
+    outcome = h.outcome;
+    adds = subst (λ (x : Option (List Exchange)). Adds old.exchanges x (map exchange_of h.turns ++ h.late)) (sym links) h.adds;
+    talk = h.talk;
+    answered = answered;
+    kept = λ t. carries_both group s.messages h.end.messages h.end.messages old.contents mid.contents new.contents (h.kept (back t)) (kept t);
+  }
+
+  pub synced_ends : (number : ℕ) (synced : Synced) (name text : List ℕ) → HasConversed target group reading first s told old mid now IsNumber (Ok number) → new.exchanges ≡ mid.exchanges
+      → synced.requests ≡ number → synced.received ≡ length now.messages - length s.messages → (tells → told) → (tells → new.contents ≡ with_text mid.contents name text)
+      → HasConversed target group reading first s tells old new now (IsCounted s) (Ok synced)
+  synced_ends number synced name text h links one other back put =
+      let a = h.answered in
+      more_kept IsNumber (IsCounted s) (Ok number) (Ok synced) h links
+      (a.0, (a.1.0, (a.1.1.0, (one ∙ a.1.1.1, other ∙ ap (λ (z : State). length z.messages - length s.messages) a.1.1.0))))
+      back (λ t. carries_text group h.end.messages mid.contents new.contents name text (put t))
+
+  pub unput_keeper : (number : ℕ) → HasConversed target group reading first s told old mid now IsNumber (Ok number) → new.exchanges ≡ mid.exchanges → (tells → told) → (tells → new.contents ≡ mid.contents)
+      → HasConversed target group reading first s tells old new now (IsCounted s) (Err Keeper)
+  unput_keeper number h links back same = let a = h.answered in
+      more_kept IsNumber (IsCounted s) (Ok number) (Err Keeper) h links (inr (a.0, a.1.0)) back (λ t. carries_same group h.end.messages mid.contents new.contents (same t))
+
+  pub unput_memory : (number : ℕ) → HasConversed target group reading first s told old mid now IsNumber (Ok number) → new.exchanges ≡ mid.exchanges → (tells → told) → (tells → new.contents ≡ mid.contents)
+      → HasConversed target group reading first s tells old new now (IsCounted s) (Err NoMemory)
+  unput_memory number h links back same = let a = h.answered in
+      more_kept IsNumber (IsCounted s) (Ok number) (Err NoMemory) h links (inr (a.0, a.1.0)) back (λ t. carries_same group h.end.messages mid.contents new.contents (same t))
+
+-- the conversation ended with a fault
+pub same_fault : (target : Target) (group : List ℕ) (reading : ℕ) (first : List ℕ) (s : State) (tells : Type 0) (old new : Told) (now : State) (fault : SyncFault)
+    → HasConversed target group reading first s tells old new now IsNumber (Err fault) → HasConversed target group reading first s tells old new now (IsCounted s) (Err fault)
+same_fault target group reading first s tells old new now fault h = record {
+  turns = h.turns; late = h.late; end = h.end; outcome = h.outcome; adds = h.adds; talk = h.talk; answered = by fault h.answered; kept = h.kept;
+}
+  where
+    by : (fault : SyncFault) → IsAnswered target h.end h.outcome h.late now (IsNumber h.turns h.end) (Err fault) → IsAnswered target h.end h.outcome h.late now (IsCounted s h.turns h.end) (Err fault)
+    by Link a = a
+    by (BadReply at) a = a
+    by (Refused status) a = a
+    by (OutOfSync mine theirs) a = a
+    by (Clock fault) a = a
+    by Keeper a = a
+    by NoMemory a = a
+
+-- before the first request
+pub nothing_said : (target : Target) (group : List ℕ) (reading : ℕ) (first : List ℕ) (s now : State) (tells : Type 0) (old new : Told) (fault : SyncFault) → new.exchanges ≡ old.exchanges
+    → IsCutOff target s (going_on first) [] → (IsCutOff target s (going_on first) [] → IsAnswered target s (going_on first) [] now (IsCounted s [] s) (Err fault)) → (tells → new.contents ≡ old.contents)
+    → HasConversed target group reading first s tells old new now (IsCounted s) (Err fault)
+nothing_said target group reading first s now tells old new fault links cut answered same = record {
+  turns = [];
+  late = [];
+  end = s;
+  outcome = going_on first;
+  adds = subst (λ (x : Option (List Exchange)). Adds old.exchanges x []) (sym links) (adds_none old.exchanges);
+  talk = record { last = refl; stays = refl; outcome = refl };
+  answered = answered cut;
+  kept = λ t. carries_same group s.messages old.contents new.contents (same t);
+}
+
+-- nothing was asked
+pub cut_first : (target : Target) (s : State) (first : List ℕ) → IsCutOff target s (going_on first) []
+cut_first target s first = inl (first, (refl, inl (inl refl)))
+
+-- a sync that ended before its first request, since the keeper failed or memory ran out
+pub none_by_keeper : (target : Target) (group : List ℕ) (reading : ℕ) (s now : State) (tells : Type 0) (old new : Told) → new.exchanges ≡ old.exchanges → (tells → new.contents ≡ old.contents)
+    → HasTalked target group reading s tells old new now (Err Keeper)
+none_by_keeper target group reading s now tells old new links same = record {
+  since = get old.contents.texts (synced_name target);
+  found = λ t. refl;
+  conversed = nothing_said target group reading _ s now tells old new Keeper links (cut_first target s _) (λ h. h) same;
+}
+
+pub none_by_memory : (target : Target) (group : List ℕ) (reading : ℕ) (s now : State) (tells : Type 0) (old new : Told) → new.exchanges ≡ old.exchanges → (tells → new.contents ≡ old.contents)
+    → HasTalked target group reading s tells old new now (Err NoMemory)
+none_by_memory target group reading s now tells old new links same = record {
+  since = get old.contents.texts (synced_name target);
+  found = λ t. refl;
+  conversed = nothing_said target group reading _ s now tells old new NoMemory links (cut_first target s _) (λ h. h) same;
+}
+
+-- a sync that talked: before it the keeper was asked for the text of the last one
+pub talked_from : (target : Target) (group : List ℕ) (reading : ℕ) (s now : State) (told tells : Type 0) (old mid new : Told) (since : Option (List ℕ)) (first : List ℕ) (r : Result Synced SyncFault)
+    → mid.exchanges ≡ old.exchanges → (told → mid.contents ≡ old.contents) → (told → since ≡ get old.contents.texts (synced_name target)) → first ≡ first_since since reading → (tells → told)
+    → HasConversed target group reading first s tells mid new now (IsCounted s) r → HasTalked target group reading s tells old new now r
+talked_from target group reading s now told tells old mid new since first r links same found begins back h = record {
+  since = since;
+  found = λ t. found (back t);
+  conversed = record {
+    turns = h.turns;
+    late = h.late;
+    end = h.end;
+    outcome = h.outcome;
+    adds = subst (λ (x : Option (List Exchange)). Adds x new.exchanges (map exchange_of h.turns ++ h.late)) links h.adds;
+    talk = subst (λ (z : List ℕ). Talk target reading 100 z s h.turns h.end h.outcome) begins h.talk;
+    answered = h.answered;
+    kept = λ t. subst (λ (k : Contents). Carries group s.messages h.end.messages k new.contents) (same (back t)) (h.kept t);
+  };
+}

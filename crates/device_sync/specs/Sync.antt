@@ -176,32 +176,28 @@ pub record Told : Type 0 where
   pub exchanges : Option (List Exchange)
   pub contents : Contents
 
+-- the number of the turns
+abbrev pub IsNumber : List Turn → State → ℕ → Type 0
+IsNumber turns end number = number ≡ length turns
+
+-- the number of the turns, and by how many messages the device has more than it had
+abbrev pub IsCounted : State → List Turn → State → Synced → Type 0
+IsCounted s turns end synced = (synced.requests ≡ length turns) × (synced.received ≡ length end.messages - length s.messages)
+
 -- A device has talked from a text on, and answers so. What stands behind the turns is the rest of an exchange that was not judged. The keeper's
 -- group keeps the messages that the turns left, whatever is answered.
-pub record HasConversed (target : Target) (group : List ℕ) (reading : ℕ) (first : List ℕ) (s : State) (tells : Type 0) (old new : Told) (now : State) (result : Result ℕ SyncFault) : Type 0 where
+pub record HasConversed {T : Type 0} (target : Target) (group : List ℕ) (reading : ℕ) (first : List ℕ) (s : State) (tells : Type 0) (old new : Told) (now : State) (P : List Turn → State → T → Type 0) (result : Result T SyncFault) : Type 0 where
   pub turns : List Turn
   pub late : List Exchange
   pub end : State
   pub outcome : Outcome
   pub adds : Adds old.exchanges new.exchanges (map exchange_of turns ++ late)
   pub talk : Talk target reading most_requests first s turns end outcome
-  pub answered : IsAnswered target end outcome late now (λ number. number ≡ length turns) result
+  pub answered : IsAnswered target end outcome late now (P turns end) result
   pub kept : tells → Carries group s.messages end.messages old.contents new.contents
 
--- the number of the turns, and by how many messages the device has more
-pub record IsCounted (s end : State) (turns : List Turn) (synced : Synced) : Type 0 where
-  pub requests : synced.requests ≡ length turns
-  pub received : synced.received ≡ length end.messages - length s.messages
-
--- the same of a whole sync, which begins at the text of the last sync that it found
+-- the same of a whole sync, which begins at the text of the last sync, where there is one
 pub record HasTalked (target : Target) (group : List ℕ) (reading : ℕ) (s : State) (tells : Type 0) (old new : Told) (now : State) (result : Result Synced SyncFault) : Type 0 where
   pub since : Option (List ℕ)
-  pub turns : List Turn
-  pub late : List Exchange
-  pub end : State
-  pub outcome : Outcome
-  pub found : tells → (since ≡ get old.contents.texts (synced_name target)) ⊎ (turns ≡ [])
-  pub adds : Adds old.exchanges new.exchanges (map exchange_of turns ++ late)
-  pub talk : Talk target reading most_requests (first_since since reading) s turns end outcome
-  pub answered : IsAnswered target end outcome late now (IsCounted s end turns) result
-  pub kept : tells → Carries group s.messages end.messages old.contents new.contents
+  pub found : tells → since ≡ get old.contents.texts (synced_name target)
+  pub conversed : HasConversed target group reading (first_since since reading) s tells old new now (IsCounted s) result

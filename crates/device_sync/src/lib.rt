@@ -15,4 +15,5 @@ pub use fault::{SyncFault, Synced};
 pub use laws::{replies_have_one_meaning, talks_are_told, talks_converge};
 pub use reply::{Judged, judge};
 pub use request::request_text;
+pub use syncing::sync;
 pub use target::Target;

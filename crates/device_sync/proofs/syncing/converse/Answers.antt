@@ -1,4 +1,5 @@
-use Rattle.std.proofs.Common.{◌-◌, refl, sym, ap, ◌∙◌, arith}
+use Rattle.std.proofs.Common.{◌-◌, FitsSigned, rules, w32, refl, sym, ap, ◌∙◌, arith}
+use Rattle.std.proofs.lemmas.Int.{to_z-of_z}
 use Rattle.budget_ports.specs.Faults.{count_after}
 use Rattle.device_sync.specs.declared.fault.SyncFault.TheVariants.{NoMemory}
 use Rattle.device_sync.specs.Sync.{is_link, is_keeper}
@@ -59,7 +60,10 @@ returns-in-Ok-Agreed-clause-link_count g c = c.in-Ok-Agreed.ensures.link_count �
 
 pub returns-then-left-eq0-clause-talked : goal.returns-then-left-eq0-clause-talked
 returns-then-left-eq0-clause-talked g c =
-    ends_out _ _ _ _ _ _ _ _ _ _ _ _ _ c.rounds.left c.in-Ok-Differ.next _ _ c.rounds.invariant.goes (rw c.in-Ok-Differ.field-0-is at c.in-Ok-Differ.ensures.round) c.if-left-eq0.true c.in-Ok-Differ.ensures.told c.in-Ok-Differ.ensures.carries
+    let mine : FitsSigned w32 c.in-Ok-Differ.mine = search rules in
+    let theirs : FitsSigned w32 c.in-Ok-Differ.theirs = search rules in
+    ends_out _ _ _ _ _ _ _ _ _ _ _ _ _ c.rounds.left c.in-Ok-Differ.next _ _ _ _ c.rounds.invariant.goes (rw c.in-Ok-Differ.field-0-is at c.in-Ok-Differ.ensures.round) c.if-left-eq0.true
+    (to_z-of_z w32 c.in-Ok-Differ.mine mine) (to_z-of_z w32 c.in-Ok-Differ.theirs theirs) c.in-Ok-Differ.ensures.told c.in-Ok-Differ.ensures.carries
 
 pub returns-then-left-eq0-clause-texts : goal.returns-then-left-eq0-clause-texts
 returns-then-left-eq0-clause-texts g c = λ t. c.in-Ok-Differ.ensures.texts t ∙ c.rounds.invariant.texts (c.in-Ok-Differ.ensures.told t)
@@ -95,7 +99,7 @@ returns-in-Err-moment-clause-link_count g c = c.in-Ok-Differ.ensures.link_count 
 pub rounds-preserved : goal.rounds-preserved
 rounds-preserved g c = record {
   goes = goes_on _ _ _ _ _ _ _ _ _ _ _ _ _ c.rounds.left (c.rounds.left - 1) c.in-Ok-Differ.next _ _ _ c.rounds.invariant.goes (rw c.in-Ok-Differ.field-0-is at c.in-Ok-Differ.ensures.round)
-      (omega arith) c.in-Ok-moment.ensures c.in-Ok-Differ.ensures.told c.in-Ok-Differ.ensures.carries;
+      (omega arith) c.in-Ok.ensures c.in-Ok-Differ.ensures.told c.in-Ok-Differ.ensures.carries;
   live = c.in-Ok-Differ.ensures.usable.0;
   idle = c.in-Ok-Differ.ensures.usable.1;
   most = omega (arith, c.rounds.invariant.most);
