@@ -80,9 +80,14 @@ closer : (minute moment : ℕ) (m r n t : List Message) → minute < window → 
 closer minute moment m r n t small up down valid other stop one two told =
     by (by_round (pairs_of m, pairs_of r) (pairs_of n, pairs_of t) (are m valid) (are r other)
     (are n (subst AreMessages (sym one) (join_valid m (messages_after since r) valid (later_valid since r other))))
-    (are t (subst AreMessages (sym two) (join_valid r (messages_after since m) other (later_valid since m valid))))
-    (minute, stop, got, given, carried (λ a b. IsRound minute (pairs_of m) got (pairs_of a) (pairs_of r) given (pairs_of b)) n t (mine_after since m r) (theirs_after since m r) one two
-    (answered minute small m r up down valid other)))
+    (are t (subst AreMessages (sym two) (join_valid r (messages_after since m) other (later_valid since m valid)))) (
+      minute,
+      stop,
+      got,
+      given,
+      carried (λ a b. IsRound minute (pairs_of m) got (pairs_of a) (pairs_of r) given (pairs_of b)) n t (mine_after since m r) (theirs_after since m r) one two
+          (answered minute small m r up down valid other),
+    ))
   where
     since : List ℕ
     since = moment_text (minute * 60_000)

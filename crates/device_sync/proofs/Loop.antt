@@ -187,7 +187,14 @@ module _ (target : Target) (group : List ℕ) (reading : ℕ) (first : List ℕ)
 pub same_fault : (target : Target) (group : List ℕ) (reading : ℕ) (first : List ℕ) (s : State) (tells : Type 0) (old new : Told) (now : State) (fault : SyncFault)
     → HasConversed target group reading first s tells old new now IsNumber (Err fault) → HasConversed target group reading first s tells old new now (IsCounted s) (Err fault)
 same_fault target group reading first s tells old new now fault h = record {
-  turns = h.turns; late = h.late; end = h.end; outcome = h.outcome; adds = h.adds; talk = h.talk; answered = by fault h.answered; kept = h.kept;
+  turns = h.turns;
+  late = h.late;
+  end = h.end;
+  outcome = h.outcome;
+  adds = h.adds;
+  talk = h.talk;
+  answered = by fault h.answered;
+  kept = h.kept;
 }
   where
     by : (fault : SyncFault) → IsAnswered target h.end h.outcome h.late now (IsNumber h.turns h.end) (Err fault) → IsAnswered target h.end h.outcome h.late now (IsCounted s h.turns h.end) (Err fault)

@@ -30,11 +30,7 @@ pub(crate) enum Compared {
     /// Both have one hash at the root.
     Agreed,
     /// They have two, and differ from a moment on, in milliseconds since 1970.
-    Differ {
-        moment: u64,
-        mine: i32,
-        theirs: i32,
-    },
+    Differ { moment: u64, mine: i32, theirs: i32 },
 }
 
 /// Compares the device's trie with a server's.
@@ -55,12 +51,7 @@ fn compare(device: &Device, trie: &Trie) -> Compared
 }
 
 /// The text of the request that asks from a text on.
-fn ask(
-    alloc: Global,
-    device: &Device,
-    target: &Target,
-    since: &Txt,
-) -> Result<Vec<u8>, NoMemory>
+fn ask(alloc: Global, device: &Device, target: &Target, since: &Txt) -> Result<Vec<u8>, NoMemory>
     requires { device.now.spent ≡ false }
     ensures { IfOk result (λ text. text.items ≡ text_of target.now since.now device.now.state) }
 {

@@ -52,11 +52,13 @@ fn converse<K: Keeper, L: Link, G: Ledger>(
         ) {
             Err(fault) => return Err(fault),
             Ok(Compared::Agreed) => return Ok(100 - left),
-            Ok(Compared::Differ {
-                moment: next,
-                mine,
-                theirs,
-            }) => {
+            Ok(
+                Compared::Differ {
+                    moment: next,
+                    mine,
+                    theirs,
+                },
+            ) => {
                 if left == 0 {
                     return Err(SyncFault::OutOfSync { mine, theirs });
                 }
