@@ -19,8 +19,7 @@ use Rattle.sync_server.specs.Outside.{HasFound, IsAll, IsSent, is_cut, ServesOpe
 use Rattle.sync_server.specs.Replies.{refusal_bytes, status_of}
 
 some_length : (xs : List ℕ) → 0 < length xs → (length xs == 0) ≡ false
-some_length [] less = absurd (omega (arith, less))
-some_length (x ∷ xs) less = refl
+some_length xs less = elim (length xs == 0) as (λ b. (length xs == 0) ≡ b → b ≡ false) [ true ↦ λ e. absurd (omega (arith, e, less)) | false ↦ λ e. refl ] refl
 
 -- a request that nothing refuses before is judged by what is found
 pub by_found : (token came : List ℕ) (asks : AsksKeeper token came) (found : Found) → judge_request asks.request found ≡ judge_found asks.request found.group found.set
