@@ -5,6 +5,9 @@ use Rattle.std.proofs.lemmas.Grind.{common_steps}
 use Rattle.std.proofs.lemmas.List.{same_from_push, append-nil}
 use Rattle.budget_ports.specs.Connections.{Stays, Writes}
 use Rattle.sync_server.specs.Written.{WritesTo}
+use Rattle.sync_server.specs.Outside.{IsSent}
+use Rattle.sync_server.specs.declared.served.Served.{Served}
+use Rattle.sync_server.specs.declared.served.Served.TheVariants as served
 
 pub stays_to : (a b : Option (List (List ℕ))) → Stays a b → WritesTo a b []
 stays_to None b s e l p = cc
@@ -47,3 +50,11 @@ not_over at xs less e =
     let n : length (drop at xs) ≡ 0 = ap length e in
     let long : length (drop at xs) ≡ length xs - at = length-drop at xs in
     absurd (omega (arith, n, long, less))
+
+-- what is known stays, and then bytes are written
+pub stays_then : (a b c : Option (List (List ℕ))) (n : List ℕ) → Stays a b → WritesTo b c n → WritesTo a c n
+stays_then a b c n s w = then_to a b c [] n (stays_to a b s) w
+
+pub sent_on : (text : List ℕ) (status : ℕ) (a b c : Option (List (List ℕ))) (result : Served) → Stays a b → IsSent text status b c result → IsSent text status a c result
+sent_on text status a b c (served.Answered st) s h = (h.0, stays_then a b c text s h.1)
+sent_on text status a b c served.Cut s h = record { front = h.front; rest = h.rest; of = h.of; some = h.some; wrote = stays_then a b c h.front s h.wrote }

@@ -1,5 +1,5 @@
 -- What becomes of a connection.
-use Rattle.std.proofs.Common.{◌≡◌, ◌≢◌, ◌⊎◌, ◌∙◌, ◌<◌, ◌==◌, ℕ, suc, List, [], ◌∷◌, length, Bool, true, false, Option, None, Some, Result, Ok, Err, inl, inr, refl, sym, ap, subst, take, cond}
+use Rattle.std.proofs.Common.{◌≡◌, ◌≢◌, ◌⊎◌, ◌∙◌, ◌<◌, ◌==◌, ℕ, suc, List, [], ◌∷◌, length, Bool, true, false, Option, None, Some, Result, Ok, Err, inl, inr, refl, sym, ap, ap₂, subst, take, cond, arith}
 use Rattle.budget_ports.specs.Contents.{Contents, Text}
 use Rattle.budget_ports.specs.Faults.{count_after}
 use Rattle.field_merge.specs.declared.message.Message.{Message}
@@ -10,17 +10,16 @@ use Rattle.sync_server.specs.declared.refusal.Refusal.TheVariants.{KeeperFault, 
 use Rattle.sync_server.specs.declared.state.ServerState.{ServerState}
 use Rattle.sync_server.specs.declared.served.Served.{Served}
 use Rattle.sync_server.specs.declared.served.Served.TheVariants as served
-use Rattle.sync_server.specs.Serving.{Found, found_in, Verdict, Accepts, Refuses, Ends, judge_found, judge_set, judge_request, Decides, DecidesRest, DecidesBody, by_head, too_large, no_head, bytes_end, refused, short, whole, no_request, request, AsksKeeper, Means, decided, keeper_fault, no_memory, reply_of, HasStatus, Visit, IsServed, answered, unwritten, kept_after}
+use Rattle.sync_server.specs.Serving.{Found, found_in, Verdict, Accepts, Refuses, Ends, judge_found, judge_set, judge_request, Decides, DecidesRest, DecidesBody, by_head, too_large, no_head, bytes_end, refused, short, whole, no_request, request, AsksKeeper, Means, decided, keeper_fault, no_memory, reply_of, HasStatus, Visit, IsServed, answered, unwritten, kept_after, batch_of}
 use Rattle.sync_server.specs.State.{set_of, Remembers}
 use Rattle.std.specs.Str.{bytes_eq}
 use Rattle.sync_server.specs.Heads.{judge_head}
-use Rattle.sync_server.specs.Keeping.{Puts, IsFree, is_fault}
+use Rattle.sync_server.specs.Keeping.{Puts, IsFree, is_fault, HasKept}
 use Rattle.sync_server.specs.Outside.{HasFound, IsAll, IsSent, is_cut, ServesOpen, UsesKeeper}
-use Rattle.sync_server.specs.Written.{WritesTo}
+use Rattle.sync_server.specs.Replies.{refusal_bytes, status_of}
 
 some_length : (xs : List ℕ) → 0 < length xs → (length xs == 0) ≡ false
-some_length [] less = absurd (omega less)
-some_length (x ∷ xs) less = refl
+some_length xs less = elim (length xs == 0) as (λ b. (length xs == 0) ≡ b → b ≡ false) [ true ↦ λ e. absurd (omega (arith, e, less)) | false ↦ λ e. refl ] refl
 
 -- a request that nothing refuses before is judged by what is found
 pub by_found : (token came : List ℕ) (asks : AsksKeeper token came) (found : Found) → judge_request asks.request found ≡ judge_found asks.request found.group found.set
@@ -75,12 +74,12 @@ module _ (token : Text) (tells new_tells : Type 0) (old new : Contents) (left ne
   -- a request that is refused before the keeper is asked, or for want of memory
   pub untouched : (v : Verdict) → kept_after v old ≡ old → ((ms : List Message) (q : SyncRequest) → v ≡ Accepts ms q → ⊥) → (new_tells → tells) → (new_tells → new ≡ old)
       → ((k : Contents) → new_left k → left k) → new_faults ≡ faults → (wrote : List ℕ) (cut : Bool) → UsesKeeper token tells new_tells old new left new_left faults new_faults (visit v false wrote cut)
-  untouched v none no told keeps stops count wrote cut = record {
+  untouched v none other told keeps stops count wrote cut = record {
     told = told;
     keeps = λ t. keeps t ∙ sym none;
     stops = λ k h. inl (stops k h);
-    known = λ ms q e. absurd (no ms q e);
-    alone = λ ms q e. absurd (no ms q e);
+    known = λ ms q e. absurd (other ms q e);
+    alone = λ ms q e. absurd (other ms q e);
     count = count;
   }
 
@@ -125,3 +124,52 @@ pub means_refused : (token came : List ℕ) (Finds : SyncRequest → Found → T
 means_refused token came Finds asks found r f (inl j) = decided (found_sound asks.request found.group found.set r j) (asks_decide token came Finds asks found (Refuses r) f j)
 means_refused token came Finds asks found r f (inr (inl e)) = keeper_fault (ap is_fault e) asks (ap Refuses e)
 means_refused token came Finds asks found r f (inr (inr e)) = no_memory (ap is_fault e) (ap Refuses e)
+
+module _ (token : Text) (tells new_tells : Type 0) (old new : Contents) (left new_left : Contents → Type 0) (faults new_faults : ℕ) (s0 s1 : ServerState) (came : List ℕ)
+    (bytes : Option (List ℕ)) (outs new_outs : Option (List (List ℕ))) (df ndf : ℕ) (result : Served) (all : IsAll bytes came) (count : ndf ≡ count_after (is_cut result) df) where
+  abbrev Final : Type 0
+  Final = (x : Visit) × Remembers s0 s1 x.verdict × ServesOpen token x result bytes outs new_outs df ndf tells new_tells old new left new_left faults new_faults
+
+  abbrev Left : List ℕ → SyncRequest → Type 0
+  Left c q = (k : Contents) → new_left k → left k ⊎ (tells × (ms : List Message) × (judge_found q (found_in old q).group (found_in old q).set ≡ Accepts ms q) × (k ≡ kept_after (Accepts ms q) old))
+
+  left_by : (asks : AsksKeeper token came) → Left came asks.request → (k : Contents) → new_left k → left k ⊎ (tells × (v : Verdict) × Decides token (HasFound old) came v × (k ≡ kept_after v old))
+  left_by asks l k h = by (l k h)
+    where
+      by : left k ⊎ (tells × (ms : List Message) × (judge_found asks.request (found_in old asks.request).group (found_in old asks.request).set ≡ Accepts ms asks.request) × (k ≡ kept_after (Accepts ms asks.request) old))
+          → left k ⊎ (tells × (v : Verdict) × Decides token (HasFound old) came v × (k ≡ kept_after v old))
+      by (inl x) = inl x
+      by (inr x) = inr (x.0, Accepts x.1 asks.request, asks_decide token came (HasFound old) asks (found_in old asks.request) (Accepts x.1 asks.request) refl x.2, x.3)
+
+  pub accepted_visit : (asks : AsksKeeper token came) (found : Found) (reply : List ℕ) → HasKept asks.request found s0 s1 tells new_tells old new left new_left (Ok reply) → new_faults ≡ faults → IsSent reply 200 outs new_outs result → Final
+  accepted_visit asks found reply k still sent =
+      let ms = k.by_result.0 in
+      let h = k.by_result.1 in
+      replied token tells new_tells old new left new_left faults new_faults s0 s1 came bytes outs new_outs df ndf (Accepts ms asks.request) false reply 200 result all
+          (decided refl (asks_decide token came (λ q found. new_tells → HasFound old q found) asks found (Accepts ms asks.request) k.finds h.judged)) refl (sym h.reply_is) sent count
+          (remembers s0 s1 ms asks.request h.state) (λ wrote cut. record {
+            told = k.told;
+            keeps = h.keeps;
+            stops = left_by asks k.stops;
+            known = λ ns r e. h.known;
+            alone = λ ns r e some. (let same = accepted_is ms ns asks.request r e in h.alone (λ none. some (sym (ap₂ batch_of same.0 same.1) ∙ none)));
+            count = still;
+          })
+
+  pub refused_visit : (asks : AsksKeeper token came) (found : Found) (r : Refusal) → HasKept asks.request found s0 s1 tells new_tells old new left new_left (Err r) → new_faults ≡ count_after (is_fault r) faults
+      → IsSent (refusal_bytes r) (status_of r) outs new_outs result → Final
+  refused_visit asks found r k rose sent =
+      let h = k.by_result in
+      replied token tells new_tells old new left new_left faults new_faults s0 s1 came bytes outs new_outs df ndf (Refuses r) (is_fault r) (refusal_bytes r) (status_of r) result all
+          (means_refused token came (λ q found. new_tells → HasFound old q found) asks found r k.finds h.why) refl refl sent count
+          (remembers_token s0 s1 r h.token) (λ wrote cut. record {
+            told = k.told;
+            keeps = h.same;
+            stops = left_by asks k.stops;
+            known = λ ns q e. absurd (no ns q e);
+            alone = λ ns q e. absurd (no ns q e);
+            count = rose;
+          })
+    where
+      no : (ns : List Message) (q : SyncRequest) → Refuses r ≡ Accepts ns q → ⊥
+      no ns q f = cc

@@ -11,7 +11,7 @@ returns-in_err-at-clause-front g c =
       front = take c.loop-at.at c.args.bytes.now;
       rest = drop c.loop-at.at c.args.bytes.now;
       of = sym (take-append-drop c.loop-at.at c.args.bytes.now);
-      some = not_over c.loop-at.at c.args.bytes.now ?;
+      some = not_over c.loop-at.at c.args.bytes.now c.loop-at-test.true;
       wrote = kept_to _ _ _ _ c.loop-at.invariant.wrote c.in_err-at.ensures.err;
     })
 
