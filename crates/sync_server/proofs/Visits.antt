@@ -1,5 +1,5 @@
 -- What becomes of a connection.
-use Rattle.std.proofs.Common.{◌≡◌, ◌≢◌, ◌⊎◌, ◌∙◌, ◌<◌, ◌==◌, ℕ, suc, List, [], ◌∷◌, length, Bool, true, false, Option, None, Some, Result, Ok, Err, inl, inr, refl, sym, ap, ap₂, subst, take, cond, arith}
+use Rattle.std.proofs.Common.{◌≡◌, ◌≢◌, ◌⊎◌, ◌∙◌, ◌<◌, ◌==◌, ℕ, suc, List, [], ◌∷◌, length, Bool, true, false, Option, None, Some, Result, Ok, Err, inl, inr, refl, sym, ap, ap₂, subst, take, cond, arith, eqb-true}
 use Rattle.budget_ports.specs.Contents.{Contents, Text}
 use Rattle.budget_ports.specs.Faults.{count_after}
 use Rattle.field_merge.specs.declared.message.Message.{Message}
@@ -19,7 +19,7 @@ use Rattle.sync_server.specs.Outside.{HasFound, IsAll, IsSent, is_cut, ServesOpe
 use Rattle.sync_server.specs.Replies.{refusal_bytes, status_of}
 
 some_length : (xs : List ℕ) → 0 < length xs → (length xs == 0) ≡ false
-some_length xs less = elim (length xs == 0) as (λ b. (length xs == 0) ≡ b → b ≡ false) [ true ↦ λ e. absurd (omega (arith, e, less)) | false ↦ λ e. refl ] refl
+some_length xs less = elim (length xs == 0) as (λ b. (length xs == 0) ≡ b → b ≡ false) [ true ↦ λ e. absurd (let z : length xs ≡ 0 = eqb-true (length xs) 0 e in omega (arith, z, less)) | false ↦ λ e. refl ] refl
 
 -- a request that nothing refuses before is judged by what is found
 pub by_found : (token came : List ℕ) (asks : AsksKeeper token came) (found : Found) → judge_request asks.request found ≡ judge_found asks.request found.group found.set
