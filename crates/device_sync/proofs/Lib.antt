@@ -1,0 +1,5 @@
+pub mod Sets
+pub mod Rounds
+pub mod Meeting
+pub mod Judging
+pub mod Conversation

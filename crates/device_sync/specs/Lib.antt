@@ -1,0 +1,5 @@
+pub mod Replies
+pub mod Requests
+pub mod Talk
+pub mod Honest
+pub mod Laws
