@@ -3,3 +3,4 @@ pub mod Rounds
 pub mod Meeting
 pub mod Judging
 pub mod Conversation
+pub mod Tens

@@ -1,4 +1,5 @@
 pub mod Replies
+pub mod Judged
 pub mod Requests
 pub mod Talk
 pub mod Honest

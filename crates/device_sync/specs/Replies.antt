@@ -1,9 +1,8 @@
 -- What the bytes are judged as that come back from a server.
-use Rattle.std.specs.Prelude.{◌≡◌, ◌≢◌, ℕ, ◌+◌, ◌-◌, ◌<◌, ◌≤◌, List, length, map, Bool, true, not, ◌&&◌, ◌||◌, ◌==◌, nat_le, Option, None, Some, codes, if◌then◌else◌}
+use Rattle.std.specs.Prelude.{◌≡◌, ◌≢◌, ℕ, ◌+◌, ◌-◌, ◌*◌, ◌<◌, ◌≤◌, List, [], ◌∷◌, length, map, Bool, true, not, ◌&&◌, ◌||◌, ◌==◌, nat_lt, Option, None, Some, codes, if◌then◌else◌}
 use Rattle.std.specs.List.{list_all}
 use Rattle.std.specs.Char.{is_ascii_digit}
 use Rattle.std.specs.Str.{str_eq_ignore_ascii_case}
-use Rattle.std.specs.Str.Parse.{digits_value}
 use Rattle.httparse.specs.Grammar.{ResponseHead, ReadsResponse, status_code}
 use Rattle.httparse.specs.Spans.{name_and_value}
 use Rattle.field_merge.specs.declared.message.Message.{Message}
@@ -19,9 +18,14 @@ use Rattle.sync_wire.specs.Wire.{IsResponse, IsResponseFault}
 abbrev pub most_bytes : ℕ
 most_bytes = 268_435_456
 
+-- the number that digits write behind those of another number
+abbrev pub number_behind : ℕ → List ℕ → ℕ
+number_behind n [] = n
+number_behind n (b ∷ bs) = number_behind (10 * n + (b - 48)) bs
+
 -- one to eighteen digits that write this number
 abbrev pub writes_length : List ℕ → ℕ → Bool
-writes_length value n = nat_le 1 (length value) && (nat_le (length value) 18 && (list_all is_ascii_digit value && (digits_value 10 value == n)))
+writes_length value n = nat_lt 0 (length value) && (nat_lt (length value) 19 && (list_all is_ascii_digit value && (number_behind 0 value == n)))
 
 -- a field by its name and its value: where it is a Content-Length, in letters of any case, its value writes this number
 abbrev pub fits_length : ℕ → List ℕ × List ℕ → Bool
@@ -41,15 +45,15 @@ pub data Got : Type 0 where
   refusal : ℕ → Got
   bad : ℕ → Got
 
--- the place of a fault in a body
-abbrev pub place_of : WireFault → ℕ
-place_of (Truncated at) = at
-place_of (BadTag at) = at
-place_of (LongVarint at) = at
-place_of (NotUtf8 at) = at
-place_of (BadStamp at) = at
-place_of (BadMessage at) = at
-place_of NoMemory = 0
+-- the place of a fault in a body; a want of memory has none
+abbrev pub place_of : WireFault → Option ℕ
+place_of (Truncated at) = Some at
+place_of (BadTag at) = Some at
+place_of (LongVarint at) = Some at
+place_of (NotUtf8 at) = Some at
+place_of (BadStamp at) = Some at
+place_of (BadMessage at) = Some at
+place_of NoMemory = None
 
 -- an answer whose trie has this fault or none, at the end of so many bytes
 abbrev pub with_trie : ℕ → SyncResponse → Option TrieFault → Got
@@ -67,5 +71,5 @@ pub data IsJudged (bytes : List ℕ) (got : Got) : Type 0 where
   no_reply : length bytes ≤ most_bytes → ((status : ℕ) (body : List ℕ) → IsReply bytes status body → ⊥) → got ≡ bad 0 → IsJudged bytes got
   refuses : length bytes ≤ most_bytes → (status : ℕ) (body : List ℕ) → IsReply bytes status body → status ≢ 200 → got ≡ refusal status → IsJudged bytes got
   faulty : length bytes ≤ most_bytes → (body : List ℕ) → IsReply bytes 200 body → (fault : WireFault) → IsResponseFault body fault
-      → got ≡ bad (length bytes - length body + place_of fault) → IsJudged bytes got
+      → (place : ℕ) → place_of fault ≡ Some place → got ≡ bad (length bytes - length body + place) → IsJudged bytes got
   says : length bytes ≤ most_bytes → (body : List ℕ) → IsReply bytes 200 body → (a : SyncResponse) → IsResponse body a → got ≡ meant (length bytes) a → IsJudged bytes got

@@ -1,8 +1,13 @@
 //! The sync of a device with a server: the conversation, and what it leaves.
 #![tactic(auto)]
 
+mod head;
 mod laws;
+mod reply;
+mod request;
 mod target;
 
 pub use laws::{replies_have_one_meaning, talks_are_told, talks_converge};
+pub use reply::{Judged, judge};
+pub use request::request_text;
 pub use target::Target;
