@@ -22,14 +22,14 @@ use Rattle.kept_messages.specs.News.{new_in}
 use Rattle.kept_messages.specs.Pairs.{pairs_of}
 use Rattle.kept_messages.proofs.Tracking.{are_pairs}
 use Rattle.device_core.specs.declared.edit.LineRefusal.{LineRefusal}
-use Rattle.device_core.specs.Device.{Accepted, received}
+use Rattle.device_core.specs.Device.{State, Accepted, received}
 use Rattle.device_core.proofs.Received.{received_joined}
 use Rattle.sync_wire.specs.declared.request.SyncRequest.{SyncRequest}
 use Rattle.sync_server.specs.Answer.{answer_of}
 use Rattle.device_sync.specs.declared.target.Target.{Target}
 use Rattle.device_sync.specs.Replies.{IsReply, Got, answer, refusal, with_trie, meant, most_bytes, IsJudged, refuses, says}
 use Rattle.device_sync.specs.Requests.{request_of, request_text}
-use Rattle.device_sync.specs.Talk.{Outcome, going_on, agreed, not_taken, refused, Progress, Next, ends, asks, compared, with_accepted, taken, next, Turn, Ends, Follows, Talk, followed, talked}
+use Rattle.device_sync.specs.Talk.{Outcome, going_on, agreed, not_taken, refused, Next, ends, asks, compared, taken, next, Turn, Ends, Follows, Talk, followed, talked}
 use Rattle.device_sync.specs.Honest.{front_of, Answers, IsFairStatus, Served, answers, declines, Honest, AreWithin}
 use Rattle.device_sync.specs.Laws.{TalksAreTold, IsFair, HaveOneEach, HaveSameStamps, Converges, TalksConverge}
 use Rattle.device_sync.proofs.Sets.{those_valid, join_valid}
@@ -101,33 +101,33 @@ closer minute moment m r n t small up down valid other stop one two told =
 -- ---- one exchange with an honest server
 
 -- what it comes to, where the server has t then
-data Round (target : Target) (reading left : ℕ) (since : List ℕ) (m r : List Message) (xs : List Turn) (now : Progress) (o : Outcome) (t : List Message) : Type 0 where
-  ended : (here : Progress) (how : Outcome) → Ends here how xs now o → IsFair how → (how ≡ agreed → of_set here.state.messages [] ≡ of_set t [])
-      → Grown m r here.state.messages t → Round target reading left since m r xs now o t
-  failed : left ≡ 0 → (q : Progress) (moment : ℕ) → q.state.messages ≡ mine_after since m r → t ≡ theirs_after since m r
-      → difference (of_set q.state.messages) (of_set t) ≡ Some moment → Round target reading left since m r xs now o t
-  goes : (q : Progress) (moment : ℕ) → q.state.messages ≡ mine_after since m r → t ≡ theirs_after since m r
-      → difference (of_set q.state.messages) (of_set t) ≡ Some moment → Talk target reading left (moment_text moment) q xs now o → Round target reading left since m r xs now o t
+data Round (target : Target) (reading left : ℕ) (since : List ℕ) (m r : List Message) (xs : List Turn) (now : State) (o : Outcome) (t : List Message) : Type 0 where
+  ended : (here : State) (how : Outcome) → Ends here how xs now o → IsFair how → (how ≡ agreed → of_set here.messages [] ≡ of_set t [])
+      → Grown m r here.messages t → Round target reading left since m r xs now o t
+  failed : left ≡ 0 → (q : State) (moment : ℕ) → q.messages ≡ mine_after since m r → t ≡ theirs_after since m r
+      → difference (of_set q.messages) (of_set t) ≡ Some moment → Round target reading left since m r xs now o t
+  goes : (q : State) (moment : ℕ) → q.messages ≡ mine_after since m r → t ≡ theirs_after since m r
+      → difference (of_set q.messages) (of_set t) ≡ Some moment → Talk target reading left (moment_text moment) q xs now o → Round target reading left since m r xs now o t
 
-module _ (target : Target) (reading : ℕ) (since : List ℕ) (m r : List Message) (xs : List Turn) (now : Progress) (o : Outcome) (t : List Message) (up : IsRising m) (down : IsRising r) where
-  by_compared : (left : ℕ) (q : Progress) (d : Option ℕ) → q.state.messages ≡ mine_after since m r → t ≡ theirs_after since m r
-      → difference (of_set q.state.messages) (of_set (theirs_after since m r)) ≡ d
+module _ (target : Target) (reading : ℕ) (since : List ℕ) (m r : List Message) (xs : List Turn) (now : State) (o : Outcome) (t : List Message) (up : IsRising m) (down : IsRising r) where
+  by_compared : (left : ℕ) (q : State) (d : Option ℕ) → q.messages ≡ mine_after since m r → t ≡ theirs_after since m r
+      → difference (of_set q.messages) (of_set (theirs_after since m r)) ≡ d
       → Follows (compared left q (of_set (theirs_after since m r)) d) xs now o (λ q moment. Talk target reading left (moment_text moment) q xs now o)
       → Round target reading left since m r xs now o t
   by_compared left q None one two is h =
-      ended q agreed h tt (λ _. (none_told (of_set q.state.messages) (of_set (theirs_after since m r))).0 is ∙ ap (λ (z : List Message). of_set z []) (sym two))
-      (carried (Grown m r) q.state.messages t (mine_after since m r) (theirs_after since m r) one two (grown_round m r since up down))
-  by_compared zero q (Some moment) one two is h = failed refl q moment one two (ap (λ (z : List Message). difference (of_set q.state.messages) (of_set z)) two ∙ is)
-  by_compared (suc left) q (Some moment) one two is h = goes q moment one two (ap (λ (z : List Message). difference (of_set q.state.messages) (of_set z)) two ∙ is) h
+      ended q agreed h tt (λ _. (none_told (of_set q.messages) (of_set (theirs_after since m r))).0 is ∙ ap (λ (z : List Message). of_set z []) (sym two))
+      (carried (Grown m r) q.messages t (mine_after since m r) (theirs_after since m r) one two (grown_round m r since up down))
+  by_compared zero q (Some moment) one two is h = failed refl q moment one two (ap (λ (z : List Message). difference (of_set q.messages) (of_set z)) two ∙ is)
+  by_compared (suc left) q (Some moment) one two is h = goes q moment one two (ap (λ (z : List Message). difference (of_set q.messages) (of_set z)) two ∙ is) h
 
-  by_taken : (left : ℕ) (p : Progress) (d : Result Accepted LineRefusal) → p.state.messages ≡ m → t ≡ theirs_after since m r → received p.state (messages_after since r) reading ≡ d
+  by_taken : (left : ℕ) (p : State) (d : Result Accepted LineRefusal) → p.messages ≡ m → t ≡ theirs_after since m r → received p (messages_after since r) reading ≡ d
       → Follows (taken left p (of_set (theirs_after since m r)) d) xs now o (λ q moment. Talk target reading left (moment_text moment) q xs now o)
       → Round target reading left since m r xs now o t
   by_taken left p (Err fault) own two is h =
-      ended p (not_taken fault) h tt (λ e. absurd (cc)) (carried (Grown m r) p.state.messages t m (theirs_after since m r) own two (grown_server m r since up down))
+      ended p (not_taken fault) h tt (λ e. absurd (cc)) (carried (Grown m r) p.messages t m (theirs_after since m r) own two (grown_server m r since up down))
   by_taken left p (Ok accepted) own two is h =
-      by_compared left (with_accepted p accepted) (difference (of_set accepted.state.messages) (of_set (theirs_after since m r)))
-      ((received_joined p.state (messages_after since r) reading accepted is).joined ∙ ap (λ (z : List Message). join z (messages_after since r)) own) two refl h
+      by_compared left accepted.state (difference (of_set accepted.state.messages) (of_set (theirs_after since m r)))
+      ((received_joined p (messages_after since r) reading accepted is).joined ∙ ap (λ (z : List Message). join z (messages_after since r)) own) two refl h
 
 -- ---- what an honest reply is judged as
 
@@ -152,23 +152,23 @@ answer_is r q x text t valid sent is few judged a =
     one_judgment text x.got (meant (length text) (answer_of r q)) (subst (λ (z : List ℕ). IsJudged z x.got) all judged) also
     ∙ meant_is (length text) (messages_after q.since r) (of_set (join r q.messages)) (of_pairs (pairs_of (join r q.messages)) (are (join r q.messages) (join_valid r q.messages valid sent)))
 
-round : (target : Target) (reading left : ℕ) (since : List ℕ) (p : Progress) (r : List Message) (x : Turn) (xs : List Turn) (now : Progress) (o : Outcome) (t : List Message)
-    → IsRising p.state.messages → IsRising r → AreMessages p.state.messages → AreMessages r → length x.came ≤ most_bytes
-    → x.sent ≡ request_text target.token (request_of target since p.state.messages) → IsJudged x.came x.got
+round : (target : Target) (reading left : ℕ) (since : List ℕ) (p : State) (r : List Message) (x : Turn) (xs : List Turn) (now : State) (o : Outcome) (t : List Message)
+    → IsRising p.messages → IsRising r → AreMessages p.messages → AreMessages r → length x.came ≤ most_bytes
+    → x.sent ≡ request_text target.token (request_of target since p.messages) → IsJudged x.came x.got
     → Follows (next reading left p x.got) xs now o (λ q moment. Talk target reading left (moment_text moment) q xs now o) → Served target.token r x t
-    → Round target reading left since p.state.messages r xs now o t
+    → Round target reading left since p.messages r xs now o t
 round target reading left since p r x xs now o t up down valid other few sent judged h (declines text is status body reply fair stays) =
     let all : x.came ≡ text = whole x.came text is few in
     let size : length text ≤ most_bytes = subst (λ (z : List ℕ). length z ≤ most_bytes) all few in
     let got : x.got ≡ refusal status = one_judgment text x.got (refusal status) (subst (λ (z : List ℕ). IsJudged z x.got) all judged) (refuses size status body reply (not_200 status fair) refl) in
     ended p (refused status) (subst (λ (g : Got). Follows (next reading left p g) xs now o (λ q moment. Talk target reading left (moment_text moment) q xs now o)) got h) fair (λ e. absurd (cc))
-    (subst (λ (z : List Message). Grown p.state.messages r p.state.messages z) (sym stays) (grown_none p.state.messages r up down))
+    (subst (λ (z : List Message). Grown p.messages r p.messages z) (sym stays) (grown_none p.messages r up down))
 round target reading left since p r x xs now o t up down valid other few sent judged h (answers text is served) =
-    let q : SyncRequest = request_of target since p.state.messages in
-    let own : AreMessages q.messages = later_valid since p.state.messages valid in
+    let q : SyncRequest = request_of target since p.messages in
+    let own : AreMessages q.messages = later_valid since p.messages valid in
     let a : Answers r q text t = served q own sent in
-    let got : x.got ≡ answer (messages_after since r) (of_set (theirs_after since p.state.messages r)) = answer_is r q x text t other own is few judged a in
-    by_taken target reading since p.state.messages r xs now o t up down left p (received p.state (messages_after since r) reading) refl a.joined refl
+    let got : x.got ≡ answer (messages_after since r) (of_set (theirs_after since p.messages r)) = answer_is r q x text t other own is few judged a in
+    by_taken target reading since p.messages r xs now o t up down left p (received p (messages_after since r) reading) refl a.joined refl
     (subst (λ (g : Got). Follows (next reading left p g) xs now o (λ q moment. Talk target reading left (moment_text moment) q xs now o)) got h)
 
 -- ---- all of them
@@ -180,13 +180,13 @@ record Meets (most : ℕ) (m r : List Message) (xs : List Turn) (n s : List Mess
   grown : Grown m r n s
 
 -- none
-meets_none : (most : ℕ) (p : Progress) (r : List Message) (now : Progress) (o : Outcome) (s : List Message) → IsRising p.state.messages → IsRising r → Ends p going_on [] now o → s ≡ r
-    → Meets most p.state.messages r [] now.state.messages s o
-meets_none most p r now o s up down e stays = record {
+meets_none : (most : ℕ) (since : List ℕ) (p : State) (r : List Message) (now : State) (o : Outcome) (s : List Message) → IsRising p.messages → IsRising r → Ends p (going_on since) [] now o → s ≡ r
+    → Meets most p.messages r [] now.messages s o
+meets_none most since p r now o s up down e stays = record {
   few = omega arith;
   fair = subst IsFair (sym e.outcome) tt;
-  roots = λ k. let no : going_on ≡ agreed = sym e.outcome ∙ k in absurd (cc);
-  grown = carried (Grown p.state.messages r) now.state.messages s p.state.messages r (ap (λ (q : Progress). q.state.messages) e.stays) stays (grown_none p.state.messages r up down);
+  roots = λ k. let no : going_on since ≡ agreed = sym e.outcome ∙ k in absurd (cc);
+  grown = carried (Grown p.messages r) now.messages s p.messages r (ap (λ (q : State). q.messages) e.stays) stays (grown_none p.messages r up down);
 }
 
 last_set : (token : List ℕ) (t s : List Message) (xs : List Turn) → xs ≡ [] → Honest token t xs s → s ≡ t
@@ -194,15 +194,15 @@ last_set token t s [] e h = h
 last_set token t s (x ∷ xs) e h = absurd (cc)
 
 -- the last
-meets_ended : (most : ℕ) (token : List ℕ) (m r : List Message) (x : Turn) (xs : List Turn) (now : Progress) (t s : List Message) (o how : Outcome) (here : Progress) → 1 ≤ most → Ends here how xs now o → IsFair how
-    → (how ≡ agreed → of_set here.state.messages [] ≡ of_set t []) → Grown m r here.state.messages t → Honest token t xs s → Meets most m r (x ∷ xs) now.state.messages s o
+meets_ended : (most : ℕ) (token : List ℕ) (m r : List Message) (x : Turn) (xs : List Turn) (now : State) (t s : List Message) (o how : Outcome) (here : State) → 1 ≤ most → Ends here how xs now o → IsFair how
+    → (how ≡ agreed → of_set here.messages [] ≡ of_set t []) → Grown m r here.messages t → Honest token t xs s → Meets most m r (x ∷ xs) now.messages s o
 meets_ended most token m r x xs now t s o how here some e fair roots grown honest =
     let last : s ≡ t = last_set token t s xs e.last honest in
-    let stays : now.state.messages ≡ here.state.messages = ap (λ (q : Progress). q.state.messages) e.stays in record {
+    let stays : now.messages ≡ here.messages = ap (λ (q : State). q.messages) e.stays in record {
       few = (let none = ap length e.last in omega arith);
       fair = subst IsFair (sym e.outcome) fair;
       roots = λ is. ap (λ (z : List Message). of_set z []) stays ∙ roots (sym e.outcome ∙ is) ∙ ap (λ (z : List Message). of_set z []) (sym last);
-      grown = carried (Grown m r) now.state.messages s here.state.messages t stays last grown;
+      grown = carried (Grown m r) now.messages s here.messages t stays last grown;
     }
 
 -- one more
@@ -231,59 +231,59 @@ sound_after since m r q t up down valid other one two = carried Sound q t (mine_
 })
 
 -- the rounds that follow, from the moment on that is told of both tries
-later_rounds : (xs : List Turn) (target : Target) (reading left : ℕ) (moment : ℕ) (p : Progress) (r : List Message) (now : Progress) (s : List Message) (o : Outcome) → Sound p.state.messages r
-    → difference (of_set p.state.messages) (of_set r) ≡ Some moment → length (end_of_walk (of_set p.state.messages) (of_set r)) < left
+later_rounds : (xs : List Turn) (target : Target) (reading left : ℕ) (moment : ℕ) (p : State) (r : List Message) (now : State) (s : List Message) (o : Outcome) → Sound p.messages r
+    → difference (of_set p.messages) (of_set r) ≡ Some moment → length (end_of_walk (of_set p.messages) (of_set r)) < left
     → Talk target reading left (moment_text moment) p xs now o → Honest target.token r xs s → AreWithin xs
-    → Meets (length (end_of_walk (of_set p.state.messages) (of_set r)) + 1) p.state.messages r xs now.state.messages s o
-later_rounds [] target reading left moment p r now s o sound stop some talk honest short = meets_none _ p r now o s sound.up sound.down talk honest
+    → Meets (length (end_of_walk (of_set p.messages) (of_set r)) + 1) p.messages r xs now.messages s o
+later_rounds [] target reading left moment p r now s o sound stop some talk honest short = meets_none _ (moment_text moment) p r now o s sound.up sound.down talk honest
 later_rounds (x ∷ xs) target reading zero moment p r now s o sound stop some talk honest short = absurd talk
 later_rounds (x ∷ xs) target reading (suc left) moment p r now s o sound stop some talk honest short =
     step (round target reading left (moment_text moment) p r x xs now o honest.0 sound.up sound.down sound.valid sound.other short.0 talk.0 talk.1 talk.2 honest.1)
     (λ q far after stop_q some_q talk_q. later_rounds xs target reading left far q honest.0 now s o after stop_q some_q talk_q honest.2 short.1)
   where
     m : List Message
-    m = p.state.messages
+    m = p.messages
 
     minute : ℕ
-    minute = minute_of (end_of_walk (of_set p.state.messages) (of_set r))
+    minute = minute_of (end_of_walk (of_set p.messages) (of_set r))
 
-    is_minute : moment ≡ minute_of (end_of_walk (of_set p.state.messages) (of_set r)) * 60_000
-    is_minute = told_minute (of_set p.state.messages) (of_set r) moment stop
+    is_minute : moment ≡ minute_of (end_of_walk (of_set p.messages) (of_set r)) * 60_000
+    is_minute = told_minute (of_set p.messages) (of_set r) moment stop
 
-    near : (q t : List Message) (far : ℕ) → q ≡ mine_after (moment_text moment) p.state.messages r → t ≡ theirs_after (moment_text moment) p.state.messages r → difference (of_set q) (of_set t) ≡ Some far
-        → length (end_of_walk (of_set q) (of_set t)) < length (end_of_walk (of_set p.state.messages) (of_set r))
+    near : (q t : List Message) (far : ℕ) → q ≡ mine_after (moment_text moment) p.messages r → t ≡ theirs_after (moment_text moment) p.messages r → difference (of_set q) (of_set t) ≡ Some far
+        → length (end_of_walk (of_set q) (of_set t)) < length (end_of_walk (of_set p.messages) (of_set r))
     near q t far one two told =
-        closer (minute_of (end_of_walk (of_set p.state.messages) (of_set r))) far p.state.messages r q t (told_small (of_set p.state.messages) (of_set r)) sound.up sound.down sound.valid sound.other
+        closer (minute_of (end_of_walk (of_set p.messages) (of_set r))) far p.messages r q t (told_small (of_set p.messages) (of_set r)) sound.up sound.down sound.valid sound.other
         (stop ∙ ap (λ (z : ℕ). Some z) is_minute)
-        (one ∙ ap (λ (z : ℕ). mine_after (moment_text z) p.state.messages r) is_minute)
-        (two ∙ ap (λ (z : ℕ). theirs_after (moment_text z) p.state.messages r) is_minute) told
+        (one ∙ ap (λ (z : ℕ). mine_after (moment_text z) p.messages r) is_minute)
+        (two ∙ ap (λ (z : ℕ). theirs_after (moment_text z) p.messages r) is_minute) told
 
-    step : Round target reading left (moment_text moment) p.state.messages r xs now o honest.0
-        → ((q : Progress) (far : ℕ) → Sound q.state.messages honest.0 → difference (of_set q.state.messages) (of_set honest.0) ≡ Some far → length (end_of_walk (of_set q.state.messages) (of_set honest.0)) < left
-        → Talk target reading left (moment_text far) q xs now o → Meets (length (end_of_walk (of_set q.state.messages) (of_set honest.0)) + 1) q.state.messages honest.0 xs now.state.messages s o)
-        → Meets (length (end_of_walk (of_set p.state.messages) (of_set r)) + 1) p.state.messages r (x ∷ xs) now.state.messages s o
-    step (ended here how e fair roots grown) go = meets_ended _ target.token p.state.messages r x xs now honest.0 s o how here (omega arith) e fair roots grown honest.2
-    step (failed none q far one two told) go = let k = near q.state.messages honest.0 far one two told in absurd (omega arith)
+    step : Round target reading left (moment_text moment) p.messages r xs now o honest.0
+        → ((q : State) (far : ℕ) → Sound q.messages honest.0 → difference (of_set q.messages) (of_set honest.0) ≡ Some far → length (end_of_walk (of_set q.messages) (of_set honest.0)) < left
+        → Talk target reading left (moment_text far) q xs now o → Meets (length (end_of_walk (of_set q.messages) (of_set honest.0)) + 1) q.messages honest.0 xs now.messages s o)
+        → Meets (length (end_of_walk (of_set p.messages) (of_set r)) + 1) p.messages r (x ∷ xs) now.messages s o
+    step (ended here how e fair roots grown) go = meets_ended _ target.token p.messages r x xs now honest.0 s o how here (omega arith) e fair roots grown honest.2
+    step (failed none q far one two told) go = let k = near q.messages honest.0 far one two told in absurd (omega arith)
     step (goes q far one two told talk_q) go =
-        let k = near q.state.messages honest.0 far one two told in
-        meets_more _ (length (end_of_walk (of_set q.state.messages) (of_set honest.0)) + 1) p.state.messages r q.state.messages honest.0 x xs now.state.messages s o (moment_text moment) sound.up sound.down (omega arith) one two
-        (go q far (sound_after (moment_text moment) p.state.messages r q.state.messages honest.0 sound.up sound.down sound.valid sound.other one two) told (omega arith) talk_q)
+        let k = near q.messages honest.0 far one two told in
+        meets_more _ (length (end_of_walk (of_set q.messages) (of_set honest.0)) + 1) p.messages r q.messages honest.0 x xs now.messages s o (moment_text moment) sound.up sound.down (omega arith) one two
+        (go q far (sound_after (moment_text moment) p.messages r q.messages honest.0 sound.up sound.down sound.valid sound.other one two) told (omega arith) talk_q)
 
 -- a whole conversation
-rounds : (xs : List Turn) (target : Target) (reading left : ℕ) (since : List ℕ) (p : Progress) (r : List Message) (now : Progress) (s : List Message) (o : Outcome) → 17 < left → Sound p.state.messages r
-    → Talk target reading left since p xs now o → Honest target.token r xs s → AreWithin xs → Meets 18 p.state.messages r xs now.state.messages s o
-rounds [] target reading left since p r now s o many sound talk honest short = meets_none 18 p r now o s sound.up sound.down talk honest
+rounds : (xs : List Turn) (target : Target) (reading left : ℕ) (since : List ℕ) (p : State) (r : List Message) (now : State) (s : List Message) (o : Outcome) → 17 < left → Sound p.messages r
+    → Talk target reading left since p xs now o → Honest target.token r xs s → AreWithin xs → Meets 18 p.messages r xs now.messages s o
+rounds [] target reading left since p r now s o many sound talk honest short = meets_none 18 since p r now o s sound.up sound.down talk honest
 rounds (x ∷ xs) target reading zero since p r now s o many sound talk honest short = absurd talk
 rounds (x ∷ xs) target reading (suc left) since p r now s o many sound talk honest short =
     step (round target reading left since p r x xs now o honest.0 sound.up sound.down sound.valid sound.other short.0 talk.0 talk.1 talk.2 honest.1)
   where
-    step : Round target reading left since p.state.messages r xs now o honest.0 → Meets 18 p.state.messages r (x ∷ xs) now.state.messages s o
-    step (ended here how e fair roots grown) = meets_ended 18 target.token p.state.messages r x xs now honest.0 s o how here (omega arith) e fair roots grown honest.2
+    step : Round target reading left since p.messages r xs now o honest.0 → Meets 18 p.messages r (x ∷ xs) now.messages s o
+    step (ended here how e fair roots grown) = meets_ended 18 target.token p.messages r x xs now honest.0 s o how here (omega arith) e fair roots grown honest.2
     step (failed none q far one two told) = absurd (omega arith)
     step (goes q far one two told talk_q) =
-        let most = within (of_set q.state.messages) (of_set honest.0) in
-        meets_more 18 (length (end_of_walk (of_set q.state.messages) (of_set honest.0)) + 1) p.state.messages r q.state.messages honest.0 x xs now.state.messages s o since sound.up sound.down (omega arith) one two
-        (later_rounds xs target reading left far q honest.0 now s o (sound_after since p.state.messages r q.state.messages honest.0 sound.up sound.down sound.valid sound.other one two) told (omega arith) talk_q honest.2 short.1)
+        let most = within (of_set q.messages) (of_set honest.0) in
+        meets_more 18 (length (end_of_walk (of_set q.messages) (of_set honest.0)) + 1) p.messages r q.messages honest.0 x xs now.messages s o since sound.up sound.down (omega arith) one two
+        (later_rounds xs target reading left far q honest.0 now s o (sound_after since p.messages r q.messages honest.0 sound.up sound.down sound.valid sound.other one two) told (omega arith) talk_q honest.2 short.1)
 
 pub converges : TalksConverge
 converges target reading since p now turns o r s up valid down other talk honest short =
@@ -291,19 +291,19 @@ converges target reading since p now turns o r s up valid down other talk honest
       few = c.few;
       fair = c.fair;
       roots = c.roots;
-      sets = λ is tells one. same_sets p.state.messages r now.state.messages s up one c.grown (same_known now.state.messages s (tells (c.roots is)));
+      sets = λ is tells one. same_sets p.messages r now.messages s up one c.grown (same_known now.messages s (tells (c.roots is)));
     }
 
 -- ---- what a conversation leaves
 
 pub are_told : TalksAreTold
-are_told target reading left since p now [] o h = ap₂ (λ (q : Progress) (how : Outcome). (q, how)) (sym h.stays) (sym h.outcome)
+are_told target reading left since p now [] o h = ap₂ (λ (q : State) (how : Outcome). (q, how)) (sym h.stays) (sym h.outcome)
 are_told target reading zero since p now (x ∷ xs) o h = absurd h
 are_told target reading (suc left) since p now (x ∷ xs) o h =
     by (next reading left p x.got) h.2 (λ q moment k. are_told target reading left (moment_text moment) q now xs o k)
   where
     by : (n : Next) → Follows n xs now o (λ q moment. Talk target reading left (moment_text moment) q xs now o)
-        → ((q : Progress) (moment : ℕ) → Talk target reading left (moment_text moment) q xs now o → talked reading left q (map (λ x. x.got) xs) ≡ (now, o))
-        → followed n (λ q. talked reading left q (map (λ x. x.got) xs)) ≡ (now, o)
-    by (ends q how) e go = ap₂ (λ (q : Progress) (how : Outcome). (q, how)) (sym e.stays) (sym e.outcome)
+        → ((q : State) (moment : ℕ) → Talk target reading left (moment_text moment) q xs now o → talked reading left (moment_text moment) q (map (λ x. x.got) xs) ≡ (now, o))
+        → followed n (λ q moment. talked reading left (moment_text moment) q (map (λ x. x.got) xs)) ≡ (now, o)
+    by (ends q how) e go = ap₂ (λ (q : State) (how : Outcome). (q, how)) (sym e.stays) (sym e.outcome)
     by (asks q moment) e go = go q moment e

@@ -6,9 +6,10 @@ use Rattle.field_merge.specs.Messages.{AreMessages}
 use Rattle.field_merge.specs.Log.{IsRising, at_stamp, join}
 use Rattle.minute_trie.specs.Trie.{trie_of}
 use Rattle.kept_messages.specs.Pairs.{pairs_of}
+use Rattle.device_core.specs.Device.{State}
 use Rattle.device_sync.specs.declared.target.Target.{Target}
 use Rattle.device_sync.specs.Replies.{Got, IsJudged}
-use Rattle.device_sync.specs.Talk.{Outcome, going_on, agreed, out_of_sync, not_taken, refused, bad_reply, Progress, trie_in, Turn, Talk, talked, most_requests}
+use Rattle.device_sync.specs.Talk.{Outcome, going_on, agreed, out_of_sync, not_taken, refused, bad_reply, Turn, Talk, talked, most_requests}
 use Rattle.device_sync.specs.Honest.{IsFairStatus, Honest, AreWithin}
 
 -- a reply is judged as one thing
@@ -17,12 +18,12 @@ RepliesHaveOneMeaning = (bytes : List ℕ) (one other : Got) → IsJudged bytes 
 
 -- a conversation leaves what `talked` says of its replies
 abbrev pub TalksAreTold : Type 0
-TalksAreTold = (target : Target) (reading left : ℕ) (since : List ℕ) (p now : Progress) (turns : List Turn) (o : Outcome)
-    → Talk target reading left since p turns now o → talked reading left p (map (λ x. x.got) turns) ≡ (now, o)
+TalksAreTold = (target : Target) (reading left : ℕ) (since : List ℕ) (p now : State) (turns : List Turn) (o : Outcome)
+    → Talk target reading left since p turns now o → talked reading left since p (map (λ x. x.got) turns) ≡ (now, o)
 
 -- an outcome to which an honest server may lead
 abbrev pub IsFair : Outcome → Type 0
-IsFair going_on = Unit {0}
+IsFair (going_on since) = Unit {0}
 IsFair agreed = Unit {0}
 IsFair (out_of_sync mine theirs) = ⊥
 IsFair (not_taken fault) = Unit {0}
@@ -50,7 +51,7 @@ pub record Converges (m r : List Message) (turns : List Turn) (n s : List Messag
 
 -- so it is with each honest server whose replies are not too long
 abbrev pub TalksConverge : Type 0
-TalksConverge = (target : Target) (reading : ℕ) (since : List ℕ) (p now : Progress) (turns : List Turn) (o : Outcome) (r s : List Message)
-    → IsRising p.state.messages → AreMessages p.state.messages → IsRising r → AreMessages r
+TalksConverge = (target : Target) (reading : ℕ) (since : List ℕ) (p now : State) (turns : List Turn) (o : Outcome) (r s : List Message)
+    → IsRising p.messages → AreMessages p.messages → IsRising r → AreMessages r
     → Talk target reading most_requests since p turns now o → Honest target.token r turns s → AreWithin turns
-    → Converges p.state.messages r turns now.state.messages s o
+    → Converges p.messages r turns now.messages s o

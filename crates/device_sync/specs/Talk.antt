@@ -1,5 +1,5 @@
 -- The conversation of a device with a server.
-use Rattle.std.specs.Prelude.{◌≡◌, ℕ, zero, suc, ◌+◌, ℤ, List, [], ◌∷◌, map, Option, None, Some, Result, Ok, Err}
+use Rattle.std.specs.Prelude.{◌≡◌, ℕ, zero, suc, ℤ, List, [], ◌∷◌, map, Option, None, Some, Result, Ok, Err}
 use Rattle.std.specs.Int.{w32, cast_signed}
 use Rattle.hybrid_clock.specs.Moments.{moment_text}
 use Rattle.minute_trie.specs.Held.{Held, or_zero}
@@ -12,20 +12,15 @@ use Rattle.device_sync.specs.declared.target.Target.{Target}
 use Rattle.device_sync.specs.Replies.{Got, answer, refusal, bad, IsJudged}
 use Rattle.device_sync.specs.Requests.{request_of, request_text}
 
--- how a conversation ended, or that it has not: both tries have one hash at the root; or they have two, which are told, and no more
+-- how a conversation ended, or that it goes on, and from where it asks then: both tries have one hash at the root; or they have two, which are told, and no more
 -- may be asked; or the clock refused the messages that came; or the server refused; or its reply was bad
 pub data Outcome : Type 0 where
-  going_on : Outcome
+  going_on : List ℕ → Outcome
   agreed : Outcome
   out_of_sync : ℤ → ℤ → Outcome
   not_taken : LineRefusal → Outcome
   refused : ℕ → Outcome
   bad_reply : ℕ → Outcome
-
--- where a conversation stands: the state of the device, and how many of the messages that came were new
-pub record Progress : Type 0 where
-  pub state : State
-  pub news : ℕ
 
 -- the trie of a device's messages
 abbrev pub trie_in : State → Held
@@ -37,27 +32,23 @@ root_of f = cast_signed w32 (or_zero (f []))
 
 -- what comes after a reply: the end, or a further request from a moment on
 pub data Next : Type 0 where
-  ends : Progress → Outcome → Next
-  asks : Progress → ℕ → Next
+  ends : State → Outcome → Next
+  asks : State → ℕ → Next
 
 -- by the difference of the tries, where so many requests may follow
-abbrev pub compared : ℕ → Progress → Held → Option ℕ → Next
+abbrev pub compared : ℕ → State → Held → Option ℕ → Next
 compared left p f None = ends p agreed
-compared zero p f (Some moment) = ends p (out_of_sync (root_of (trie_in p.state)) (root_of f))
+compared zero p f (Some moment) = ends p (out_of_sync (root_of (trie_in p)) (root_of f))
 compared (suc left) p f (Some moment) = asks p moment
 
--- a device that has received messages
-abbrev pub with_accepted : Progress → Accepted → Progress
-with_accepted p accepted = record { state = accepted.state; news = p.news + accepted.count }
-
 -- by what the device makes of the messages of an answer with a trie
-abbrev pub taken : ℕ → Progress → Held → Result Accepted LineRefusal → Next
+abbrev pub taken : ℕ → State → Held → Result Accepted LineRefusal → Next
 taken left p f (Err fault) = ends p (not_taken fault)
-taken left p f (Ok accepted) = compared left (with_accepted p accepted) f (difference (trie_in accepted.state) f)
+taken left p f (Ok accepted) = compared left accepted.state f (difference (trie_in accepted.state) f)
 
 -- by what the reply is judged as, at a reading of the wall clock
-abbrev pub next : ℕ → ℕ → Progress → Got → Next
-next reading left p (answer ms f) = taken left p f (received p.state ms reading)
+abbrev pub next : ℕ → ℕ → State → Got → Next
+next reading left p (answer ms f) = taken left p f (received p ms reading)
 next reading left p (refusal status) = ends p (refused status)
 next reading left p (bad at) = ends p (bad_reply at)
 
@@ -68,24 +59,24 @@ pub record Turn : Type 0 where
   pub got : Got
 
 -- the end of a conversation, and what it leaves
-pub record Ends (here : Progress) (how : Outcome) (rest : List Turn) (now : Progress) (o : Outcome) : Type 0 where
+pub record Ends (here : State) (how : Outcome) (rest : List Turn) (now : State) (o : Outcome) : Type 0 where
   pub last : rest ≡ []
   pub stays : now ≡ here
   pub outcome : o ≡ how
 
 -- what follows
-abbrev pub Follows : Next → List Turn → Progress → Outcome → (Progress → ℕ → Type 0) → Type 0
+abbrev pub Follows : Next → List Turn → State → Outcome → (State → ℕ → Type 0) → Type 0
 Follows (ends p how) rest now o on = Ends p how rest now o
 Follows (asks p moment) rest now o on = on p moment
 
 -- So a device talks that may send so many requests, from the first `since` on: each is the text of its request at that time, the reply
 -- is judged, and by that the conversation ends, or the next request asks from a moment on. No turn follows the end. It leaves the
 -- device so, with this outcome.
-abbrev pub Talk : Target → ℕ → ℕ → List ℕ → Progress → List Turn → Progress → Outcome → Type 0
-Talk target reading left since p [] now o = Ends p going_on [] now o
+abbrev pub Talk : Target → ℕ → ℕ → List ℕ → State → List Turn → State → Outcome → Type 0
+Talk target reading left since p [] now o = Ends p (going_on since) [] now o
 Talk target reading zero since p (x ∷ xs) now o = ⊥
 Talk target reading (suc left) since p (x ∷ xs) now o =
-    (x.sent ≡ request_text target.token (request_of target since p.state.messages)) × IsJudged x.came x.got
+    (x.sent ≡ request_text target.token (request_of target since p.messages)) × IsJudged x.came x.got
     × Follows (next reading left p x.got) xs now o (λ q moment. Talk target reading left (moment_text moment) q xs now o)
 
 -- a conversation may have so many requests
@@ -93,12 +84,12 @@ abbrev pub most_requests : ℕ
 most_requests = 100
 
 -- what follows, where only what the replies are judged as is known
-abbrev pub followed : Next → (Progress → Progress × Outcome) → Progress × Outcome
+abbrev pub followed : Next → (State → ℕ → State × Outcome) → State × Outcome
 followed (ends p how) on = (p, how)
-followed (asks p moment) on = on p
+followed (asks p moment) on = on p moment
 
 -- what a conversation leaves, by what the replies are judged as
-abbrev pub talked : ℕ → ℕ → Progress → List Got → Progress × Outcome
-talked reading left p [] = (p, going_on)
-talked reading zero p (g ∷ gs) = (p, going_on)
-talked reading (suc left) p (g ∷ gs) = followed (next reading left p g) (λ q. talked reading left q gs)
+abbrev pub talked : ℕ → ℕ → List ℕ → State → List Got → State × Outcome
+talked reading left since p [] = (p, going_on since)
+talked reading zero since p (g ∷ gs) = (p, going_on since)
+talked reading (suc left) since p (g ∷ gs) = followed (next reading left p g) (λ q moment. talked reading left (moment_text moment) q gs)
