@@ -61,14 +61,14 @@ are ms valid = are_pairs ms of_stamp valid
 -- ---- the place where the walk ends
 
 -- the moment that is told is that of the minute of the walk
-told_minute : (f g : Held) (moment : ℕ) → difference f g ≡ Some moment → moment ≡ minute_of (end_of_walk f g) * 60_000
+pub told_minute : (f g : Held) (moment : ℕ) → difference f g ≡ Some moment → moment ≡ minute_of (end_of_walk f g) * 60_000
 told_minute f g moment h = by (same_hash (f []) (g [])) h
   where
     by : (b : Bool) → cond b None (Some (minute_of (end_of_walk f g) * 60_000)) ≡ Some moment → moment ≡ minute_of (end_of_walk f g) * 60_000
     by true h = absurd (cc)
     by false h = cc
 
-told_small : (f g : Held) → minute_of (end_of_walk f g) < window
+pub told_small : (f g : Held) → minute_of (end_of_walk f g) < window
 told_small f g = padded_lt 16 (end_of_walk f g)
 
 prefix_shorter : (p s : List Digit) → IsProperPrefix p s → length p < length s
@@ -80,9 +80,14 @@ closer : (minute moment : ℕ) (m r n t : List Message) → minute < window → 
 closer minute moment m r n t small up down valid other stop one two told =
     by (by_round (pairs_of m, pairs_of r) (pairs_of n, pairs_of t) (are m valid) (are r other)
     (are n (subst AreMessages (sym one) (join_valid m (messages_after since r) valid (later_valid since r other))))
-    (are t (subst AreMessages (sym two) (join_valid r (messages_after since m) other (later_valid since m valid))))
-    (minute, stop, got, given, carried (λ a b. IsRound minute (pairs_of m) got (pairs_of a) (pairs_of r) given (pairs_of b)) n t (mine_after since m r) (theirs_after since m r) one two
-    (answered minute small m r up down valid other)))
+    (are t (subst AreMessages (sym two) (join_valid r (messages_after since m) other (later_valid since m valid)))) (
+      minute,
+      stop,
+      got,
+      given,
+      carried (λ a b. IsRound minute (pairs_of m) got (pairs_of a) (pairs_of r) given (pairs_of b)) n t (mine_after since m r) (theirs_after since m r) one two
+          (answered minute small m r up down valid other),
+    ))
   where
     since : List ℕ
     since = moment_text (minute * 60_000)

@@ -4,3 +4,5 @@ pub mod Meeting
 pub mod Judging
 pub mod Conversation
 pub mod Tens
+pub mod Turns
+pub mod Loop

@@ -58,8 +58,8 @@ joined_pairs ms (n ∷ ns) =
         → IsPermutation (pairs_of ms ++ stamp_pair n.stamp ∷ pairs_of (new_in (placed by_stamp ms n) ns)) (pairs_of (join (placed by_stamp ms n) ns))
     one_more new rest =
         let one : IsPermutation (pairs_of ms ++ stamp_pair n.stamp ∷ []) (pairs_of (placed by_stamp ms n)) =
-                subst (λ b. IsPermutation (pairs_of ms ++ stamp_pair n.stamp ∷ []) (pairs_of (cond b ms (placed by_stamp ms n)))) new
-                (pair_joined ms n true (sym (ap is_none (none_from_any (has_stamp n.stamp) ms new))) refl) in
+        subst (λ b. IsPermutation (pairs_of ms ++ stamp_pair n.stamp ∷ []) (pairs_of (cond b ms (placed by_stamp ms n)))) new
+        (pair_joined ms n true (sym (ap is_none (none_from_any (has_stamp n.stamp) ms new))) refl) in
         let more : List Pair = pairs_of (new_in (placed by_stamp ms n) ns) in
         IsPermutation-trans (pairs_of ms ++ stamp_pair n.stamp ∷ more) (pairs_of (placed by_stamp ms n) ++ more) (pairs_of (join (placed by_stamp ms n) ns))
         (subst (λ (ps : List Pair). IsPermutation ps (pairs_of (placed by_stamp ms n) ++ more)) (append_assoc (pairs_of ms) (stamp_pair n.stamp ∷ []) more)

@@ -13,4 +13,3 @@ pub digit_more : (n i d : ℕ) → n < 10 ^ i → d < 10 → 10 * n + d < 10 ^ (
 digit_more n i d p q =
     let e : i + 1 ≡ suc i = omega arith in
     rw (e, pow-succ' 10 i) (omega arith)
-

@@ -54,7 +54,10 @@ fn fits_length(bytes: &[u8], header: &HeaderSpan, size: usize) -> bool
     requires { IsHeaderWithin (length bytes.now) header.now }
     ensures { result ≡ fits_length size (header_bytes bytes.now header.now) }
 {
-    !header.name.of(bytes).eq_ignore_ascii_case(b"Content-Length")
+    !header
+        .name
+        .of(bytes)
+        .eq_ignore_ascii_case(b"Content-Length")
         || writes_length(header.value.of(bytes), size)
 }
 

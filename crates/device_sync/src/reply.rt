@@ -18,12 +18,19 @@ const MOST_BYTES: usize = 268_435_456;
 #[derive(Drop)]
 pub enum Judged {
     /// An answer: its messages, and the trie of all that the server has.
-    Answer { messages: Items<Message>, trie: Trie },
+    Answer {
+        messages: Items<Message>,
+        trie: Trie,
+    },
     /// A status other than 200.
-    Refusal { status: u16 },
+    Refusal {
+        status: u16,
+    },
     /// No reply that can be taken. `at` is the first place that is wrong: 268,435,456 where there are more bytes, 0 where they do not begin with
     /// a head that has their length, the place of a fault in the body, or the end where an envelope is encrypted or the trie can't be read.
-    Bad { at: usize },
+    Bad {
+        at: usize,
+    },
 }
 
 /// The place of a fault in a body.

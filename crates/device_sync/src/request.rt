@@ -16,7 +16,9 @@ fn head_text(alloc: Global, token: &Txt, size: usize) -> Result<String, NoMemory
     ensures { IfOk result (λ text. string_bytes text ≡ head_text token.now size) }
 {
     let token = token.as_str();
-    Ok(format!(in alloc; "POST /sync/sync HTTP/1.1\r\nHost: localhost\r\nContent-Type: application/actual-sync\r\nX-ACTUAL-TOKEN: {token}\r\nContent-Length: {size}\r\nConnection: close\r\n\r\n")?)
+    Ok(format!(in alloc;
+        "POST /sync/sync HTTP/1.1\r\nHost: localhost\r\nContent-Type: application/actual-sync\r\nX-ACTUAL-TOKEN: {token}\r\nContent-Length: {size}\r\nConnection: close\r\n\r\n"
+    )?)
 }
 
 /// The text of a request: head and body.

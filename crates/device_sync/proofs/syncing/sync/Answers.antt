@@ -1,0 +1,17 @@
+use Rattle.std.proofs.Common.{refl}
+use Rattle.device_sync.proofs.Loop.{none_by_keeper, none_by_memory, talked_from}
+use Rattle.device_sync.proofs.syncing.sync.Goals as goal
+
+pub returns-in-Err-Failed-clause-talked : goal.returns-in-Err-Failed-clause-talked
+returns-in-Err-Failed-clause-talked g c = λ _. none_by_keeper _ _ _ _ _ _ _ _ refl c.in-Err-Failed.ensures.same
+
+pub returns-in-Err-NoMemory-clause-talked : goal.returns-in-Err-NoMemory-clause-talked
+returns-in-Err-NoMemory-clause-talked g c = λ _. none_by_memory _ _ _ _ _ _ _ _ refl c.in-Err-NoMemory.ensures.same
+
+pub returns-in-Err-clause-talked : goal.returns-in-Err-clause-talked
+returns-in-Err-clause-talked g c = λ _. none_by_memory _ _ _ _ _ _ _ _ refl c.in-Ok.ensures.same
+
+pub returns-clause-talked : goal.returns-clause-talked
+returns-clause-talked g c = λ _.
+    talked_from _ _ _ _ _ _ _ _ (record { exchanges = g.L.Link.exchanges c.args.link.now; contents = g.K.Keeper.contents c.last_synced.new.keeper }) _ c.in-Ok.found c.in-Ok-first_since.first c.sync_from.result refl
+    c.in-Ok.ensures.same c.in-Ok.ensures.text c.in-Ok-first_since.ensures c.sync_from.ensures.told c.sync_from.ensures.talked
