@@ -29,7 +29,7 @@ use Rattle.sync_server.specs.Answer.{answer_of}
 use Rattle.device_sync.specs.declared.target.Target.{Target}
 use Rattle.device_sync.specs.Replies.{IsReply, Got, answer, refusal, with_trie, meant, most_bytes, IsJudged, refuses, says}
 use Rattle.device_sync.specs.Requests.{request_of, request_text}
-use Rattle.device_sync.specs.Talk.{Outcome, going_on, agreed, not_taken, refused, Next, ends, asks, compared, taken, next, Turn, Ends, Follows, Talk, followed, talked}
+use Rattle.device_sync.specs.Talk.{Outcome, going_on, agreed, not_taken, refused, Next, ends, asks, compared, taken, next, Turn, exchange_of, Ends, Follows, Talk, followed, talked}
 use Rattle.device_sync.specs.Honest.{front_of, Answers, IsFairStatus, Served, answers, declines, Honest, AreWithin}
 use Rattle.device_sync.specs.Laws.{TalksAreTold, IsFair, HaveOneEach, HaveSameStamps, Converges, TalksConverge}
 use Rattle.device_sync.proofs.Sets.{those_valid, join_valid}
@@ -139,6 +139,9 @@ module _ (target : Target) (reading : ℕ) (since : List ℕ) (m r : List Messag
 whole : (came text : List ℕ) → came ≡ front_of text → length came ≤ most_bytes → came ≡ text
 whole came text is few = is ∙ take_all 268_435_457 text (let n = ap length is ∙ length-take 268_435_457 text in grind arith)
 
+same_bytes : {a b : List ℕ} → Some a ≡ Some b → a ≡ b
+same_bytes e = cc
+
 not_200 : (status : ℕ) → IsFairStatus status → status ≢ 200
 not_200 status (inl e) k = omega arith
 not_200 status (inr (inl e)) k = omega arith
@@ -160,10 +163,10 @@ answer_is r q x text t valid sent is few judged a =
 round : (target : Target) (reading left : ℕ) (since : List ℕ) (p : State) (r : List Message) (x : Turn) (xs : List Turn) (now : State) (o : Outcome) (t : List Message)
     → IsRising p.messages → IsRising r → AreMessages p.messages → AreMessages r → length x.came ≤ most_bytes
     → x.sent ≡ request_text target.token (request_of target since p.messages) → IsJudged x.came x.got
-    → Follows (next reading left p x.got) xs now o (λ q moment. Talk target reading left (moment_text moment) q xs now o) → Served target.token r x t
+    → Follows (next reading left p x.got) xs now o (λ q moment. Talk target reading left (moment_text moment) q xs now o) → Served target.token r (exchange_of x) t
     → Round target reading left since p.messages r xs now o t
 round target reading left since p r x xs now o t up down valid other few sent judged h (declines text is status body reply fair stays) =
-    let all : x.came ≡ text = whole x.came text is few in
+    let all : x.came ≡ text = whole x.came text (same_bytes is) few in
     let size : length text ≤ most_bytes = subst (λ (z : List ℕ). length z ≤ most_bytes) all few in
     let got : x.got ≡ refusal status = one_judgment text x.got (refusal status) (subst (λ (z : List ℕ). IsJudged z x.got) all judged) (refuses size status body reply (not_200 status fair) refl) in
     ended p (refused status) (subst (λ (g : Got). Follows (next reading left p g) xs now o (λ q moment. Talk target reading left (moment_text moment) q xs now o)) got h) fair (λ e. absurd (cc))
@@ -172,7 +175,7 @@ round target reading left since p r x xs now o t up down valid other few sent ju
     let q : SyncRequest = request_of target since p.messages in
     let own : AreMessages q.messages = later_valid since p.messages valid in
     let a : Answers r q text t = served q own sent in
-    let got : x.got ≡ answer (messages_after since r) (of_set (theirs_after since p.messages r)) = answer_is r q x text t other own is few judged a in
+    let got : x.got ≡ answer (messages_after since r) (of_set (theirs_after since p.messages r)) = answer_is r q x text t other own (same_bytes is) few judged a in
     by_taken target reading since p.messages r xs now o t up down left p (received p (messages_after since r) reading) refl a.joined refl
     (subst (λ (g : Got). Follows (next reading left p g) xs now o (λ q moment. Talk target reading left (moment_text moment) q xs now o)) got h)
 
@@ -194,13 +197,13 @@ meets_none most since p r now o s up down e stays = record {
   grown = carried (Grown p.messages r) now.messages s p.messages r (ap (λ (q : State). q.messages) e.stays) stays (grown_none p.messages r up down);
 }
 
-last_set : (token : List ℕ) (t s : List Message) (xs : List Turn) → xs ≡ [] → Honest token t xs s → s ≡ t
+last_set : (token : List ℕ) (t s : List Message) (xs : List Turn) → xs ≡ [] → Honest token t (map exchange_of xs) s → s ≡ t
 last_set token t s [] e h = h
 last_set token t s (x ∷ xs) e h = absurd (cc)
 
 -- the last
 meets_ended : (most : ℕ) (token : List ℕ) (m r : List Message) (x : Turn) (xs : List Turn) (now : State) (t s : List Message) (o how : Outcome) (here : State) → 1 ≤ most → Ends here how xs now o → IsFair how
-    → (how ≡ agreed → of_set here.messages [] ≡ of_set t []) → Grown m r here.messages t → Honest token t xs s → Meets most m r (x ∷ xs) now.messages s o
+    → (how ≡ agreed → of_set here.messages [] ≡ of_set t []) → Grown m r here.messages t → Honest token t (map exchange_of xs) s → Meets most m r (x ∷ xs) now.messages s o
 meets_ended most token m r x xs now t s o how here some e fair roots grown honest =
     let last : s ≡ t = last_set token t s xs e.last honest in
     let stays : now.messages ≡ here.messages = ap (λ (q : State). q.messages) e.stays in record {
@@ -238,12 +241,12 @@ sound_after since m r q t up down valid other one two = carried Sound q t (mine_
 -- the rounds that follow, from the moment on that is told of both tries
 later_rounds : (xs : List Turn) (target : Target) (reading left : ℕ) (moment : ℕ) (p : State) (r : List Message) (now : State) (s : List Message) (o : Outcome) → Sound p.messages r
     → difference (of_set p.messages) (of_set r) ≡ Some moment → length (end_of_walk (of_set p.messages) (of_set r)) < left
-    → Talk target reading left (moment_text moment) p xs now o → Honest target.token r xs s → AreWithin xs
+    → Talk target reading left (moment_text moment) p xs now o → Honest target.token r (map exchange_of xs) s → AreWithin (map exchange_of xs)
     → Meets (length (end_of_walk (of_set p.messages) (of_set r)) + 1) p.messages r xs now.messages s o
 later_rounds [] target reading left moment p r now s o sound stop some talk honest short = meets_none _ (moment_text moment) p r now o s sound.up sound.down talk honest
 later_rounds (x ∷ xs) target reading zero moment p r now s o sound stop some talk honest short = absurd talk
 later_rounds (x ∷ xs) target reading (suc left) moment p r now s o sound stop some talk honest short =
-    step (round target reading left (moment_text moment) p r x xs now o honest.0 sound.up sound.down sound.valid sound.other short.0 talk.0 talk.1 talk.2 honest.1)
+    step (round target reading left (moment_text moment) p r x xs now o honest.0 sound.up sound.down sound.valid sound.other (short.0 x.came refl) talk.0 talk.1 talk.2 honest.1)
     (λ q far after stop_q some_q talk_q. later_rounds xs target reading left far q honest.0 now s o after stop_q some_q talk_q honest.2 short.1)
   where
     m : List Message
@@ -276,11 +279,11 @@ later_rounds (x ∷ xs) target reading (suc left) moment p r now s o sound stop 
 
 -- a whole conversation
 rounds : (xs : List Turn) (target : Target) (reading left : ℕ) (since : List ℕ) (p : State) (r : List Message) (now : State) (s : List Message) (o : Outcome) → 17 < left → Sound p.messages r
-    → Talk target reading left since p xs now o → Honest target.token r xs s → AreWithin xs → Meets 18 p.messages r xs now.messages s o
+    → Talk target reading left since p xs now o → Honest target.token r (map exchange_of xs) s → AreWithin (map exchange_of xs) → Meets 18 p.messages r xs now.messages s o
 rounds [] target reading left since p r now s o many sound talk honest short = meets_none 18 since p r now o s sound.up sound.down talk honest
 rounds (x ∷ xs) target reading zero since p r now s o many sound talk honest short = absurd talk
 rounds (x ∷ xs) target reading (suc left) since p r now s o many sound talk honest short =
-    step (round target reading left since p r x xs now o honest.0 sound.up sound.down sound.valid sound.other short.0 talk.0 talk.1 talk.2 honest.1)
+    step (round target reading left since p r x xs now o honest.0 sound.up sound.down sound.valid sound.other (short.0 x.came refl) talk.0 talk.1 talk.2 honest.1)
   where
     step : Round target reading left since p.messages r xs now o honest.0 → Meets 18 p.messages r (x ∷ xs) now.messages s o
     step (ended here how e fair roots grown) = meets_ended 18 target.token p.messages r x xs now honest.0 s o how here (omega arith) e fair roots grown honest.2
@@ -290,10 +293,14 @@ rounds (x ∷ xs) target reading (suc left) since p r now s o many sound talk ho
         meets_more 18 (length (end_of_walk (of_set q.messages) (of_set honest.0)) + 1) p.messages r q.messages honest.0 x xs now.messages s o since sound.up sound.down (omega arith) one two
         (later_rounds xs target reading left far q honest.0 now s o (sound_after since p.messages r q.messages honest.0 sound.up sound.down sound.valid sound.other one two) told (omega arith) talk_q honest.2 short.1)
 
+as_many : (xs : List Turn) → length (map exchange_of xs) ≡ length xs
+as_many [] = refl
+as_many (x ∷ xs) = ap suc (as_many xs)
+
 pub converges : TalksConverge
 converges target reading since p now turns o r s up valid down other talk honest short =
     let c = rounds turns target reading 100 since p r now s o (omega arith) (record { up = up; down = down; valid = valid; other = other }) talk honest short in record {
-      few = c.few;
+      few = (let few = c.few in omega (arith, as_many turns));
       fair = c.fair;
       roots = c.roots;
       sets = λ is tells one. same_sets p.messages r now.messages s up one c.grown (same_known now.messages s (tells (c.roots is)));

@@ -6,3 +6,4 @@ pub mod Conversation
 pub mod Tens
 pub mod Turns
 pub mod Loop
+pub mod Promise

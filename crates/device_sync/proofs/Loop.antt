@@ -16,8 +16,8 @@ use Rattle.device_sync.specs.declared.round.Compared.{Compared}
 use Rattle.device_sync.specs.declared.round.Compared.TheVariants.{Agreed, Differ}
 use Rattle.device_sync.specs.declared.target.Target.{Target}
 use Rattle.device_sync.specs.Requests.{first_since}
-use Rattle.device_sync.specs.Talk.{Outcome, going_on, agreed, out_of_sync, not_taken, refused, bad_reply, Next, ends, asks, next, Turn, Ends, Follows, Talk}
-use Rattle.device_sync.specs.Sync.{text_of, exchange_of, IsUnanswered, IsUnjudged, TakesTurn, further, IsLeft, IsRound, Carries, kept_of, IsCutOff, IsAnswered, Told, IsNumber, IsCounted, HasConversed, HasTalked, synced_name}
+use Rattle.device_sync.specs.Talk.{Outcome, going_on, agreed, out_of_sync, not_taken, refused, bad_reply, Next, ends, asks, next, Turn, exchange_of, Ends, Follows, Talk}
+use Rattle.device_sync.specs.Sync.{text_of, IsUnanswered, IsUnjudged, TakesTurn, further, IsLeft, IsRound, Carries, kept_of, IsCutOff, IsAnswered, Told, IsNumber, IsCounted, HasConversed, HasTalked, synced_name}
 use Rattle.device_sync.proofs.Turns.{carries_same, carries_both}
 
 -- The turns so far, after which the conversation goes on from a text with so many requests more than one

@@ -1,6 +1,7 @@
 -- An honest server.
-use Rattle.std.specs.Prelude.{◌≡◌, ◌⊎◌, ℕ, ◌≤◌, List, [], ◌∷◌, length, take}
+use Rattle.std.specs.Prelude.{◌≡◌, ◌⊎◌, ℕ, ◌≤◌, List, [], ◌∷◌, length, take, Some}
 use Rattle.std.specs.List.{AllByRecursion}
+use Rattle.budget_ports.specs.Exchanges.{Exchange}
 use Rattle.field_merge.specs.declared.message.Message.{Message}
 use Rattle.field_merge.specs.Messages.{AreMessages}
 use Rattle.field_merge.specs.Log.{join}
@@ -10,7 +11,6 @@ use Rattle.sync_server.specs.Answer.{answer_of}
 use Rattle.device_sync.specs.declared.target.Target.{Target}
 use Rattle.device_sync.specs.Replies.{IsReply, most_bytes}
 use Rattle.device_sync.specs.Requests.{request_text}
-use Rattle.device_sync.specs.Talk.{Turn}
 
 -- the first bytes of a text: one more than a reply may have are read, and no more
 abbrev pub front_of : List ℕ → List ℕ
@@ -29,16 +29,16 @@ IsFairStatus status = (status ≡ 413) ⊎ ((status ≡ 503) ⊎ (status ≡ 507
 
 -- what was sent under the token was served by a server whose group has the messages r, and s then: whatever request it is the text of
 -- was answered, or it was refused and nothing was joined
-pub data Served (token : List ℕ) (r : List Message) (x : Turn) (s : List Message) : Type 0 where
-  answers : (text : List ℕ) → x.came ≡ front_of text
+pub data Served (token : List ℕ) (r : List Message) (x : Exchange) (s : List Message) : Type 0 where
+  answers : (text : List ℕ) → x.got ≡ Some (front_of text)
       → ((q : SyncRequest) → AreMessages q.messages → x.sent ≡ request_text token q → Answers r q text s) → Served token r x s
-  declines : (text : List ℕ) → x.came ≡ front_of text → (status : ℕ) (body : List ℕ) → IsReply text status body → IsFairStatus status → s ≡ r → Served token r x s
+  declines : (text : List ℕ) → x.got ≡ Some (front_of text) → (status : ℕ) (body : List ℕ) → IsReply text status body → IsFairStatus status → s ≡ r → Served token r x s
 
 -- so it was with each, one after the other
-abbrev pub Honest : List ℕ → List Message → List Turn → List Message → Type 0
+abbrev pub Honest : List ℕ → List Message → List Exchange → List Message → Type 0
 Honest token r [] s = s ≡ r
 Honest token r (x ∷ xs) s = (t : List Message) × Served token r x t × Honest token t xs s
 
 -- each reply has at most the bytes that it may have
-abbrev pub AreWithin : List Turn → Type 0
-AreWithin = AllByRecursion (λ x. length x.came ≤ most_bytes)
+abbrev pub AreWithin : List Exchange → Type 0
+AreWithin = AllByRecursion (λ x. (came : List ℕ) → x.got ≡ Some came → length came ≤ most_bytes)

@@ -1,6 +1,7 @@
 -- What the laws say.
 use Rattle.std.specs.Prelude.{◌≡◌, ℕ, ◌≤◌, List, [], map, length, Some}
 use Rattle.hybrid_clock.specs.declared.stamp.Stamp.{Stamp}
+use Rattle.budget_ports.specs.Exchanges.{Exchange}
 use Rattle.field_merge.specs.declared.message.Message.{Message}
 use Rattle.field_merge.specs.Messages.{AreMessages}
 use Rattle.field_merge.specs.Log.{IsRising, at_stamp, join}
@@ -9,7 +10,7 @@ use Rattle.kept_messages.specs.Pairs.{pairs_of}
 use Rattle.device_core.specs.Device.{State}
 use Rattle.device_sync.specs.declared.target.Target.{Target}
 use Rattle.device_sync.specs.Replies.{Got, IsJudged}
-use Rattle.device_sync.specs.Talk.{Outcome, going_on, agreed, out_of_sync, not_taken, refused, bad_reply, Turn, Talk, talked, most_requests}
+use Rattle.device_sync.specs.Talk.{Outcome, going_on, agreed, out_of_sync, not_taken, refused, bad_reply, Turn, exchange_of, Talk, talked, most_requests}
 use Rattle.device_sync.specs.Honest.{IsFairStatus, Honest, AreWithin}
 
 -- a reply is judged as one thing
@@ -39,7 +40,7 @@ abbrev pub HaveSameStamps : List Message → List Message → Type 0
 HaveSameStamps ms ns = map (λ m. m.stamp) ms ≡ map (λ n. n.stamp) ns
 
 -- a device with the messages m and a server with the messages r have talked, and have the messages n and s then
-pub record Converges (m r : List Message) (turns : List Turn) (n s : List Message) (o : Outcome) : Type 0 where
+pub record Converges (m r : List Message) (turns : List Exchange) (n s : List Message) (o : Outcome) : Type 0 where
   -- with at most eighteen requests
   pub few : length turns ≤ 18
   pub fair : IsFair o
@@ -53,5 +54,5 @@ pub record Converges (m r : List Message) (turns : List Turn) (n s : List Messag
 abbrev pub TalksConverge : Type 0
 TalksConverge = (target : Target) (reading : ℕ) (since : List ℕ) (p now : State) (turns : List Turn) (o : Outcome) (r s : List Message)
     → IsRising p.messages → AreMessages p.messages → IsRising r → AreMessages r
-    → Talk target reading most_requests since p turns now o → Honest target.token r turns s → AreWithin turns
-    → Converges p.messages r turns now.messages s o
+    → Talk target reading most_requests since p turns now o → Honest target.token r (map exchange_of turns) s → AreWithin (map exchange_of turns)
+    → Converges p.messages r (map exchange_of turns) now.messages s o

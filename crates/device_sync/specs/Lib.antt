@@ -3,5 +3,5 @@ pub mod Judged
 pub mod Requests
 pub mod Talk
 pub mod Honest
-pub mod Sync
 pub mod Laws
+pub mod Sync

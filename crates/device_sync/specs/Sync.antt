@@ -17,8 +17,12 @@ use Rattle.device_sync.specs.declared.round.Compared.{Compared}
 use Rattle.device_sync.specs.declared.round.Compared.TheVariants.{Agreed, Differ}
 use Rattle.device_sync.specs.declared.target.Target.{Target}
 use Rattle.device_sync.specs.Replies.{Got, IsJudged}
+use Rattle.field_merge.specs.Messages.{AreMessages}
+use Rattle.field_merge.specs.Log.{IsRising}
+use Rattle.device_sync.specs.Honest.{IsFairStatus, Honest, AreWithin}
+use Rattle.device_sync.specs.Laws.{Converges}
 use Rattle.device_sync.specs.Requests.{request_of, request_text, first_since}
-use Rattle.device_sync.specs.Talk.{Outcome, going_on, agreed, out_of_sync, not_taken, refused, bad_reply, root_of, Next, ends, asks, next, Turn, Talk, most_requests}
+use Rattle.device_sync.specs.Talk.{Outcome, going_on, agreed, out_of_sync, not_taken, refused, bad_reply, root_of, Next, ends, asks, next, Turn, exchange_of, Talk, most_requests}
 
 -- the name of the text that tells of the last sync
 abbrev pub synced_name : Target → List ℕ
@@ -27,10 +31,6 @@ synced_name target = codes "synced/" ++ (target.file ++ (codes "/" ++ target.gro
 -- the text that a device sends
 abbrev pub text_of : Target → List ℕ → State → List ℕ
 text_of target since s = request_text target.token (request_of target since s.messages)
-
--- the exchange of a turn
-abbrev pub exchange_of : Turn → Exchange
-exchange_of x = ended x.sent x.came
 
 -- a text was sent and nothing came for it, or it was not sent
 abbrev pub IsUnanswered : List ℕ → List Exchange → Type 0
@@ -201,3 +201,22 @@ pub record HasTalked (target : Target) (group : List ℕ) (reading : ℕ) (s : S
   pub since : Option (List ℕ)
   pub found : tells → since ≡ get old.contents.texts (synced_name target)
   pub conversed : HasConversed target group reading (first_since since reading) s tells old new now (IsCounted s) result
+
+-- these exchanges were added to those that are known
+abbrev pub AreAdded : List Exchange → Option (List Exchange) → Option (List Exchange) → Type 0
+AreAdded added old new = (all : List Exchange) × ((old ≡ Some all) × (new ≡ Some (all ++ added)))
+
+-- what a sync comes to with an honest server whose group had the messages r and has the messages t now, where the device had the messages m and has n now
+abbrev pub IsMet : List Message → List Message → List Exchange → List Message → List Message → Result Synced SyncFault → Type 0
+IsMet m r added n t (Ok synced) = Converges m r added n t agreed
+IsMet m r added n t (Err Link) = Unit {0}
+IsMet m r added n t (Err (BadReply at)) = ⊥
+IsMet m r added n t (Err (Refused status)) = IsFairStatus status
+IsMet m r added n t (Err (OutOfSync mine theirs)) = ⊥
+IsMet m r added n t (Err (Clock fault)) = Unit {0}
+IsMet m r added n t (Err Keeper) = Unit {0}
+IsMet m r added n t (Err NoMemory) = Unit {0}
+
+-- so it is with each server that is honest in the exchanges that were added, and whose replies are not too long
+abbrev pub MeetsHonest : List ℕ → List Message → Option (List Exchange) → Option (List Exchange) → List Message → Result Synced SyncFault → Type 0
+MeetsHonest token m old new n result = (added : List Exchange) (r t : List Message) → AreAdded added old new → IsRising r → AreMessages r → Honest token r added t → AreWithin added → IsMet m r added n t result

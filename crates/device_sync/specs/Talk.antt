@@ -1,6 +1,7 @@
 -- The conversation of a device with a server.
 use Rattle.std.specs.Prelude.{◌≡◌, ℕ, zero, suc, ℤ, List, [], ◌∷◌, map, Option, None, Some, Result, Ok, Err}
 use Rattle.std.specs.Int.{w32, cast_signed}
+use Rattle.budget_ports.specs.Exchanges.{Exchange, ended}
 use Rattle.hybrid_clock.specs.Moments.{moment_text}
 use Rattle.minute_trie.specs.Held.{Held, or_zero}
 use Rattle.minute_trie.specs.Trie.{trie_of}
@@ -57,6 +58,10 @@ pub record Turn : Type 0 where
   pub sent : List ℕ
   pub came : List ℕ
   pub got : Got
+
+-- its exchange
+abbrev pub exchange_of : Turn → Exchange
+exchange_of x = ended x.sent x.came
 
 -- the end of a conversation, and what it leaves
 pub record Ends (here : State) (how : Outcome) (rest : List Turn) (now : State) (o : Outcome) : Type 0 where

@@ -3,7 +3,7 @@ ghost use Rattle.std.specs.Prelude.{◌≡◌, ◌≤◌, ◌<◌, ◌/◌, [], 
 ghost use Rattle.std.specs.FinMap.{insert};
 ghost use Rattle.budget_ports.specs.Faults.{count_after};
 ghost use Rattle.hybrid_clock.specs.Stamp.{stamp_text, window};
-ghost use Rattle.device_sync.specs.Sync.{HasConversed, HasTalked, IsNumber, IsCounted, synced_name, fails_link, fails_keeper, IfUsable};
+ghost use Rattle.device_sync.specs.Sync.{HasConversed, HasTalked, MeetsHonest, IsNumber, IsCounted, synced_name, fails_link, fails_keeper, IfUsable};
 
 use crate::fault::{SyncFault, Synced};
 use crate::request::{first_since, moment};
@@ -139,6 +139,7 @@ pub fn sync<K: Keeper, L: Link, G: Ledger>(
     requires idle { device.old.batch ≡ [] }
     ensures beyond { window ≤ reading / 60_000 → (result ≡ Err (SyncFault.Clock (ClockFault.Beyond reading))) × ((device.new ≡ device.old) × ((keeper.new ≡ keeper.old) × (link.new ≡ link.old))) }
     ensures talked { reading / 60_000 < window → HasTalked target.now group.now reading device.old.state (K.tells keeper.new) (record { exchanges = L.exchanges link.old; contents = K.contents keeper.old }) (record { exchanges = L.exchanges link.new; contents = K.contents keeper.new }) device.new.state result }
+    ensures met { reading / 60_000 < window → MeetsHonest target.now.token device.old.state.messages (L.exchanges link.old) (L.exchanges link.new) device.new.state.messages result }
     ensures usable { IfUsable result ((device.new.spent ≡ false) × (device.new.batch ≡ [])) }
     ensures synced { K.tells keeper.new → OnOk result ((K.contents keeper.new).texts ≡ insert (K.contents keeper.old).texts (synced_name target.now) (stamp_text device.new.state.clock)) }
     ensures unsynced { K.tells keeper.new → OnErr result ((K.contents keeper.new).texts ≡ (K.contents keeper.old).texts) }
@@ -149,6 +150,8 @@ pub fn sync<K: Keeper, L: Link, G: Ledger>(
     if reading / 60_000 >= WINDOW {
         return Err(SyncFault::Clock(ClockFault::Beyond { reading }));
     }
+    // That the messages of a log rise is said of their number.
+    let _count = device.log().len();
     let found = match last_synced(alloc, keeper, target) {
         Ok(found) => found,
         Err(PortFault::Failed) => return Err(SyncFault::Keeper),
