@@ -17,7 +17,7 @@ use Rattle.device_sync.specs.declared.round.Compared.TheVariants.{Agreed, Differ
 use Rattle.device_sync.specs.declared.target.Target.{Target}
 use Rattle.device_sync.specs.Requests.{first_since}
 use Rattle.device_sync.specs.Talk.{Outcome, going_on, agreed, out_of_sync, not_taken, refused, bad_reply, Next, ends, asks, next, Turn, exchange_of, Ends, Follows, Talk}
-use Rattle.device_sync.specs.Sync.{text_of, IsUnanswered, IsUnjudged, TakesTurn, further, IsLeft, IsRound, Carries, kept_of, IsCutOff, IsAnswered, Told, IsNumber, IsCounted, HasConversed, HasTalked, synced_name}
+use Rattle.device_sync.specs.Sync.{text_of, IsUnanswered, IsUnjudged, TakesTurn, further, IsLeft, IsRound, Carries, kept_of, IsCutOff, IsAnswered, Told, IsNumber, IsCounted, HasConversed, HasTalked, synced_name, UnlessSpoilt, IfUsable}
 use Rattle.device_sync.proofs.Turns.{carries_same, carries_both}
 
 -- The turns so far, after which the conversation goes on from a text with so many requests more than one
@@ -260,3 +260,21 @@ talked_from target group reading s now told tells old mid new since first r link
     kept = λ t. subst (λ (k : Contents). Carries group s.messages h.end.messages k new.contents) (same (back t)) (h.kept t);
   };
 }
+
+-- ---- what a stop may leave
+
+pub left_before : {left mid new : Contents → Type 0} {told mid_told : Type 0} → ((k : Contents) → new k → mid k ⊎ mid_told) → ((k : Contents) → mid k → left k ⊎ told) → (mid_told → told) → (k : Contents) → new k → left k ⊎ told
+left_before one other back k h = elim (one k h) [ inl there ↦ other k there | inr tells ↦ inr (back tells) ]
+
+pub usable_after : (A B C : Type 0) (fault : SyncFault) → UnlessSpoilt fault (B → C) → (A → B) → UnlessSpoilt fault (A → C)
+usable_after A B C Link h f = λ a. h (f a)
+usable_after A B C (BadReply at) h f = λ a. h (f a)
+usable_after A B C (Refused status) h f = λ a. h (f a)
+usable_after A B C (OutOfSync mine theirs) h f = λ a. h (f a)
+usable_after A B C (Clock fault) h f = λ a. h (f a)
+usable_after A B C Keeper h f = tt
+usable_after A B C NoMemory h f = tt
+
+pub usable_result : {T : Type 0} (A B C : Type 0) (r : Result T SyncFault) → IfUsable r (B → C) → (A → B) → IfUsable r (A → C)
+usable_result A B C (Ok value) h f = λ a. h (f a)
+usable_result A B C (Err fault) h f = usable_after A B C fault h f

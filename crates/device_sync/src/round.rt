@@ -1,8 +1,9 @@
 //! One round of a sync.
-ghost use Rattle.std.specs.Prelude.{◌≡◌, ◌∷◌, [], IfOk, OnErr, false};
+ghost use Rattle.std.specs.Prelude.{◌≡◌, ◌⊎◌, ◌∷◌, [], IfOk, OnErr, false};
 ghost use Rattle.budget_ports.specs.Exchanges.{Adds, ended};
+ghost use Rattle.budget_ports.specs.Contents.{Contents};
 ghost use Rattle.budget_ports.specs.Faults.{count_after};
-ghost use Rattle.budget_ports.specs.Keeper.{has_failed};
+ghost use Rattle.budget_ports.specs.Keeper.{has_failed, IsAlone};
 ghost use Rattle.field_merge.specs.Messages.{AreMessages};
 ghost use Rattle.minute_trie.specs.Trie.{held};
 ghost use Rattle.device_sync.specs.Replies.{answer};
@@ -95,6 +96,8 @@ fn join_answer<K: Keeper, G: Ledger>(
     ensures usable { IfUsable result ((device.new.spent ≡ false) × (device.new.batch ≡ [])) }
     ensures carries { K.tells keeper.new → Carries group.now device.old.state.messages (kept_of device.old.state.messages device.new.state.messages result) (K.contents keeper.old) (K.contents keeper.new) }
     ensures texts { K.tells keeper.new → (K.contents keeper.new).texts ≡ (K.contents keeper.old).texts }
+    ensures alone { IfUsable result (IsAlone (K.tells keeper.old) (K.contents keeper.old) (K.left keeper.old) → IsAlone (K.tells keeper.new) (K.contents keeper.new) (K.left keeper.new)) }
+    ensures before { (k : Contents) → K.left keeper.new k → K.left keeper.old k ⊎ K.tells keeper.old }
     ensures told { K.tells keeper.new → K.tells keeper.old }
     ensures count { K.faults keeper.new ≡ count_after (fails_keeper result) (K.faults keeper.old) }
 {
@@ -121,6 +124,8 @@ fn settle<K: Keeper, G: Ledger>(
     ensures usable { IfUsable result ((device.new.spent ≡ false) × (device.new.batch ≡ [])) }
     ensures carries { K.tells keeper.new → Carries group.now device.old.state.messages (kept_of device.old.state.messages device.new.state.messages result) (K.contents keeper.old) (K.contents keeper.new) }
     ensures texts { K.tells keeper.new → (K.contents keeper.new).texts ≡ (K.contents keeper.old).texts }
+    ensures alone { IfUsable result (IsAlone (K.tells keeper.old) (K.contents keeper.old) (K.left keeper.old) → IsAlone (K.tells keeper.new) (K.contents keeper.new) (K.left keeper.new)) }
+    ensures before { (k : Contents) → K.left keeper.new k → K.left keeper.old k ⊎ K.tells keeper.old }
     ensures told { K.tells keeper.new → K.tells keeper.old }
     ensures count { K.faults keeper.new ≡ count_after (fails_keeper result) (K.faults keeper.old) }
 {
@@ -158,6 +163,8 @@ pub(crate) fn round<K: Keeper, L: Link, G: Ledger>(
     ensures usable { IfUsable result ((device.new.spent ≡ false) × (device.new.batch ≡ [])) }
     ensures carries { K.tells keeper.new → Carries group.now device.old.state.messages (kept_of device.old.state.messages device.new.state.messages result) (K.contents keeper.old) (K.contents keeper.new) }
     ensures texts { K.tells keeper.new → (K.contents keeper.new).texts ≡ (K.contents keeper.old).texts }
+    ensures alone { IfUsable result (IsAlone (K.tells keeper.old) (K.contents keeper.old) (K.left keeper.old) → IsAlone (K.tells keeper.new) (K.contents keeper.new) (K.left keeper.new)) }
+    ensures before { (k : Contents) → K.left keeper.new k → K.left keeper.old k ⊎ K.tells keeper.old }
     ensures told { K.tells keeper.new → K.tells keeper.old }
     ensures count { K.faults keeper.new ≡ count_after (fails_keeper result) (K.faults keeper.old) }
     ensures link_count { L.faults link.new ≡ count_after (fails_link result) (L.faults link.old) }

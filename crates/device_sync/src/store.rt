@@ -26,6 +26,7 @@ fn keep<K: Keeper>(device: &mut Device, keeper: &mut K, group: &Txt) -> Result<(
     ensures kept { K.tells keeper.new → OnOk result (K.contents keeper.new ≡ appended (K.contents keeper.old) group.now device.old.batch) }
     ensures same { K.tells keeper.new → OnErr result (K.contents keeper.new ≡ K.contents keeper.old) }
     ensures alone { OnOk result (IsAlone (K.tells keeper.old) (K.contents keeper.old) (K.left keeper.old) → IsAlone (K.tells keeper.new) (K.contents keeper.new) (K.left keeper.new)) }
+    ensures before { (k : Contents) → K.left keeper.new k → K.left keeper.old k ⊎ K.tells keeper.old }
     ensures told { K.tells keeper.new → K.tells keeper.old }
     ensures count { K.faults keeper.new ≡ count_after (has_failed result) (K.faults keeper.old) }
 {
@@ -52,6 +53,8 @@ pub(crate) fn take<K: Keeper, G: Ledger>(
     ensures usable { IfUsable result ((device.new.spent ≡ false) × (device.new.batch ≡ [])) }
     ensures carries { K.tells keeper.new → Carries group.now device.old.state.messages (kept_of device.old.state.messages device.new.state.messages result) (K.contents keeper.old) (K.contents keeper.new) }
     ensures texts { K.tells keeper.new → (K.contents keeper.new).texts ≡ (K.contents keeper.old).texts }
+    ensures alone { IfUsable result (IsAlone (K.tells keeper.old) (K.contents keeper.old) (K.left keeper.old) → IsAlone (K.tells keeper.new) (K.contents keeper.new) (K.left keeper.new)) }
+    ensures before { (k : Contents) → K.left keeper.new k → K.left keeper.old k ⊎ K.tells keeper.old }
     ensures told { K.tells keeper.new → K.tells keeper.old }
     ensures count { K.faults keeper.new ≡ count_after (fails_keeper result) (K.faults keeper.old) }
 {
@@ -99,6 +102,8 @@ pub(crate) fn last_synced<K: Keeper>(
 ) -> Result<Option<Txt>, PortFault>
     ensures text { K.tells keeper.new → IfOk result (λ text. text ≡ get (K.contents keeper.old).texts (synced_name target.now)) }
     ensures same { K.tells keeper.new → K.contents keeper.new ≡ K.contents keeper.old }
+    ensures alone { OnOk result (IsAlone (K.tells keeper.old) (K.contents keeper.old) (K.left keeper.old) → IsAlone (K.tells keeper.new) (K.contents keeper.new) (K.left keeper.new)) }
+    ensures before { (k : Contents) → K.left keeper.new k → K.left keeper.old k ⊎ K.tells keeper.old }
     ensures told { K.tells keeper.new → K.tells keeper.old }
     ensures count { K.faults keeper.new ≡ count_after (has_failed result) (K.faults keeper.old) }
 {
@@ -116,6 +121,8 @@ pub(crate) fn put_synced<K: Keeper>(
     requires { device.now.spent ≡ false }
     ensures put { K.tells keeper.new → OnOk result (K.contents keeper.new ≡ with_text (K.contents keeper.old) (synced_name target.now) (stamp_text device.now.state.clock)) }
     ensures same { K.tells keeper.new → OnErr result (K.contents keeper.new ≡ K.contents keeper.old) }
+    ensures alone { OnOk result (IsAlone (K.tells keeper.old) (K.contents keeper.old) (K.left keeper.old) → IsAlone (K.tells keeper.new) (K.contents keeper.new) (K.left keeper.new)) }
+    ensures before { (k : Contents) → K.left keeper.new k → K.left keeper.old k ⊎ K.tells keeper.old }
     ensures told { K.tells keeper.new → K.tells keeper.old }
     ensures count { K.faults keeper.new ≡ count_after (has_failed result) (K.faults keeper.old) }
 {

@@ -1,6 +1,8 @@
 //! A whole sync.
-ghost use Rattle.std.specs.Prelude.{◌≡◌, ◌≤◌, ◌<◌, ◌/◌, [], IfOk, OnOk, OnErr, Err, false};
+ghost use Rattle.std.specs.Prelude.{◌≡◌, ◌⊎◌, ◌≤◌, ◌<◌, ◌/◌, [], IfOk, OnOk, OnErr, Err, false};
 ghost use Rattle.std.specs.FinMap.{insert};
+ghost use Rattle.budget_ports.specs.Contents.{Contents};
+ghost use Rattle.budget_ports.specs.Keeper.{IsAlone};
 ghost use Rattle.budget_ports.specs.Faults.{count_after};
 ghost use Rattle.hybrid_clock.specs.Stamp.{stamp_text, window};
 ghost use Rattle.device_sync.specs.Sync.{HasConversed, HasTalked, MeetsHonest, IsNumber, IsCounted, synced_name, fails_link, fails_keeper, IfUsable};
@@ -40,6 +42,8 @@ fn converse<K: Keeper, L: Link, G: Ledger>(
     ensures talked { HasConversed target.now group.now reading first device.old.state (K.tells keeper.new) (record { exchanges = L.exchanges link.old; contents = K.contents keeper.old }) (record { exchanges = L.exchanges link.new; contents = K.contents keeper.new }) device.new.state IsNumber result }
     ensures usable { IfUsable result ((device.new.spent ≡ false) × (device.new.batch ≡ [])) }
     ensures texts { K.tells keeper.new → (K.contents keeper.new).texts ≡ (K.contents keeper.old).texts }
+    ensures alone { IfUsable result (IsAlone (K.tells keeper.old) (K.contents keeper.old) (K.left keeper.old) → IsAlone (K.tells keeper.new) (K.contents keeper.new) (K.left keeper.new)) }
+    ensures before { (k : Contents) → K.left keeper.new k → K.left keeper.old k ⊎ K.tells keeper.old }
     ensures told { K.tells keeper.new → K.tells keeper.old }
     ensures count { K.faults keeper.new ≡ count_after (fails_keeper result) (K.faults keeper.old) }
     ensures link_count { L.faults link.new ≡ count_after (fails_link result) (L.faults link.old) }
@@ -90,6 +94,8 @@ fn sync_from<K: Keeper, L: Link, G: Ledger>(
     ensures usable { IfUsable result ((device.new.spent ≡ false) × (device.new.batch ≡ [])) }
     ensures synced { K.tells keeper.new → OnOk result ((K.contents keeper.new).texts ≡ insert (K.contents keeper.old).texts (synced_name target.now) (stamp_text device.new.state.clock)) }
     ensures unsynced { K.tells keeper.new → OnErr result ((K.contents keeper.new).texts ≡ (K.contents keeper.old).texts) }
+    ensures alone { IfUsable result (IsAlone (K.tells keeper.old) (K.contents keeper.old) (K.left keeper.old) → IsAlone (K.tells keeper.new) (K.contents keeper.new) (K.left keeper.new)) }
+    ensures before { (k : Contents) → K.left keeper.new k → K.left keeper.old k ⊎ K.tells keeper.old }
     ensures told { K.tells keeper.new → K.tells keeper.old }
     ensures count { K.faults keeper.new ≡ count_after (fails_keeper result) (K.faults keeper.old) }
     ensures link_count { L.faults link.new ≡ count_after (fails_link result) (L.faults link.old) }
@@ -143,6 +149,8 @@ pub fn sync<K: Keeper, L: Link, G: Ledger>(
     ensures usable { IfUsable result ((device.new.spent ≡ false) × (device.new.batch ≡ [])) }
     ensures synced { K.tells keeper.new → OnOk result ((K.contents keeper.new).texts ≡ insert (K.contents keeper.old).texts (synced_name target.now) (stamp_text device.new.state.clock)) }
     ensures unsynced { K.tells keeper.new → OnErr result ((K.contents keeper.new).texts ≡ (K.contents keeper.old).texts) }
+    ensures alone { IfUsable result (IsAlone (K.tells keeper.old) (K.contents keeper.old) (K.left keeper.old) → IsAlone (K.tells keeper.new) (K.contents keeper.new) (K.left keeper.new)) }
+    ensures before { (k : Contents) → K.left keeper.new k → K.left keeper.old k ⊎ K.tells keeper.old }
     ensures told { K.tells keeper.new → K.tells keeper.old }
     ensures count { K.faults keeper.new ≡ count_after (fails_keeper result) (K.faults keeper.old) }
     ensures link_count { L.faults link.new ≡ count_after (fails_link result) (L.faults link.old) }

@@ -1,9 +1,9 @@
-use Rattle.std.proofs.Common.{◌-◌, FitsSigned, rules, w32, refl, sym, ap, ◌∙◌, arith}
+use Rattle.std.proofs.Common.{◌-◌, FitsSigned, rules, w32, inl, refl, sym, ap, ◌∙◌, arith}
 use Rattle.std.proofs.lemmas.Int.{to_z-of_z}
 use Rattle.budget_ports.specs.Faults.{count_after}
 use Rattle.device_sync.specs.declared.fault.SyncFault.TheVariants.{NoMemory}
 use Rattle.device_sync.specs.Sync.{is_link, is_keeper}
-use Rattle.device_sync.proofs.Loop.{goes_none, goes_on, ends_agreed, ends_out, ends_fault}
+use Rattle.device_sync.proofs.Loop.{left_before, usable_after, goes_none, goes_on, ends_agreed, ends_out, ends_fault}
 use Rattle.device_sync.proofs.Turns.{carries_same, nothing_sent}
 use Rattle.device_sync.proofs.syncing.converse.Goals as goal
 
@@ -14,6 +14,8 @@ rounds-init g c = record {
   idle = c.requires.idle;
   most = omega arith;
   texts = λ _. refl;
+  alone = λ a. a;
+  before = λ k h. inl h;
   told = λ t. t;
   count = refl;
   link_count = refl;
@@ -104,7 +106,30 @@ rounds-preserved g c = record {
   idle = c.in-Ok-Differ.ensures.usable.1;
   most = omega (arith, c.rounds.invariant.most);
   texts = λ t. c.in-Ok-Differ.ensures.texts t ∙ c.rounds.invariant.texts (c.in-Ok-Differ.ensures.told t);
+  alone = λ a. c.in-Ok-Differ.ensures.alone (c.rounds.invariant.alone a);
+  before = left_before c.in-Ok-Differ.ensures.before c.rounds.invariant.before c.rounds.invariant.told;
   told = λ t. c.rounds.invariant.told (c.in-Ok-Differ.ensures.told t);
   count = c.in-Ok-Differ.ensures.count ∙ c.rounds.invariant.count;
   link_count = c.in-Ok-Differ.ensures.link_count ∙ c.rounds.invariant.link_count;
 }
+
+pub returns-in-Ok-Agreed-clause-alone : goal.returns-in-Ok-Agreed-clause-alone
+returns-in-Ok-Agreed-clause-alone g c = λ a. c.in-Ok-Agreed.ensures.alone (c.rounds.invariant.alone a)
+
+pub returns-then-left-eq0-clause-alone : goal.returns-then-left-eq0-clause-alone
+returns-then-left-eq0-clause-alone g c = λ a. c.in-Ok-Differ.ensures.alone (c.rounds.invariant.alone a)
+
+pub returns-in-Err-clause-before : goal.returns-in-Err-clause-before
+returns-in-Err-clause-before g c = left_before c.in-Err.ensures.before c.rounds.invariant.before c.rounds.invariant.told
+
+pub returns-in-Ok-Agreed-clause-before : goal.returns-in-Ok-Agreed-clause-before
+returns-in-Ok-Agreed-clause-before g c = left_before c.in-Ok-Agreed.ensures.before c.rounds.invariant.before c.rounds.invariant.told
+
+pub returns-then-left-eq0-clause-before : goal.returns-then-left-eq0-clause-before
+returns-then-left-eq0-clause-before g c = left_before c.in-Ok-Differ.ensures.before c.rounds.invariant.before c.rounds.invariant.told
+
+pub returns-in-Err-moment-clause-before : goal.returns-in-Err-moment-clause-before
+returns-in-Err-moment-clause-before g c = left_before c.in-Ok-Differ.ensures.before c.rounds.invariant.before c.rounds.invariant.told
+
+pub returns-in-Err-clause-alone : goal.returns-in-Err-clause-alone
+returns-in-Err-clause-alone g c = usable_after _ _ _ c.in-Err.fault c.in-Err.ensures.alone c.rounds.invariant.alone

@@ -1,7 +1,7 @@
 use Rattle.std.proofs.Common.{refl, subst}
 use Rattle.field_merge.specs.Log.{LogState, IsRising}
 use Rattle.device_sync.proofs.Promise.{meets_honest}
-use Rattle.device_sync.proofs.Loop.{none_by_keeper, none_by_memory, talked_from}
+use Rattle.device_sync.proofs.Loop.{none_by_keeper, none_by_memory, talked_from, usable_result}
 use Rattle.device_sync.proofs.syncing.sync.Goals as goal
 
 pub returns-in-Err-Failed-clause-talked : goal.returns-in-Err-Failed-clause-talked
@@ -24,3 +24,6 @@ returns-clause-met g c = λ within.
     (record { exchanges = g.L.Link.exchanges c.args.link.now; contents = g.K.Keeper.contents c.args.keeper.now })
     (record { exchanges = g.L.Link.exchanges c.sync_from.new.link; contents = g.K.Keeper.contents c.sync_from.new.keeper }) c.sync_from.new.device.state c.sync_from.result
     (returns-clause-talked g c within) (subst (λ (l : LogState). IsRising l.messages) c.log.ensures.log c.len-count.ensures.rising) c.log.ensures.valid
+
+pub returns-clause-alone : goal.returns-clause-alone
+returns-clause-alone g c = usable_result _ _ _ c.sync_from.result c.sync_from.ensures.alone c.in-Ok.ensures.alone
