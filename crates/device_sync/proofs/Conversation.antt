@@ -1,5 +1,5 @@
 -- A conversation with an honest server ends in few rounds.
-use Rattle.std.proofs.Common.{◌≡◌, ◌≢◌, ◌⊎◌, inl, inr, ℕ, zero, suc, ◌+◌, ◌*◌, ◌<◌, ◌≤◌, List, [], ◌∷◌, ◌++◌, length, take, map, Bool, true, false, cond, Option, Some, None, Result, Ok, Err, refl, sym, ap, ap₂, ◌∙◌, subst, arith, length-append}
+use Rattle.std.proofs.Common.{◌≡◌, ◌≢◌, ◌⊎◌, inl, inr, ℕ, zero, suc, ◌+◌, ◌*◌, ◌<◌, ◌≤◌, List, [], ◌∷◌, length, map, Bool, true, false, cond, Option, Some, None, Result, Ok, Err, refl, sym, ap, ap₂, ◌∙◌, subst, arith, length-append}
 use Rattle.std.proofs.lemmas.List.{take_all, length-take}
 use Rattle.hybrid_clock.specs.Moments.{moment_text}
 use Rattle.hybrid_clock.specs.Stamp.{window}
@@ -27,11 +27,11 @@ use Rattle.device_core.proofs.Received.{received_joined}
 use Rattle.sync_wire.specs.declared.request.SyncRequest.{SyncRequest}
 use Rattle.sync_server.specs.Answer.{answer_of}
 use Rattle.device_sync.specs.declared.target.Target.{Target}
-use Rattle.device_sync.specs.Replies.{IsReply, Got, answer, refusal, with_trie, meant, most_bytes, IsJudged, refuses, says}
+use Rattle.device_sync.specs.Replies.{Got, answer, refusal, with_trie, meant, most_bytes, IsJudged, refuses, says}
 use Rattle.device_sync.specs.Requests.{request_of, request_text}
 use Rattle.device_sync.specs.Talk.{Outcome, going_on, agreed, not_taken, refused, Next, ends, asks, compared, taken, next, Turn, exchange_of, Ends, Follows, Talk, followed, talked}
 use Rattle.device_sync.specs.Honest.{front_of, Answers, IsFairStatus, Served, answers, declines, Honest, AreWithin}
-use Rattle.device_sync.specs.Laws.{TalksAreTold, IsFair, HaveOneEach, HaveSameStamps, Converges, TalksConverge}
+use Rattle.device_sync.specs.Laws.{TalksAreTold, IsFair, TalksConverge}
 use Rattle.device_sync.proofs.Sets.{those_valid, join_valid}
 use Rattle.device_sync.proofs.Rounds.{is_later, answered}
 use Rattle.device_sync.proofs.Meeting.{Grown, grown_none, grown_both, grown_round, grown_server, same_known, same_sets}

@@ -1,8 +1,8 @@
 -- A reply is judged as one thing.
-use Rattle.std.proofs.Common.{◌≡◌, ◌≢◌, ℕ, ◌+◌, ◌-◌, ◌≤◌, List, length, Option, None, Some, Result, Ok, Err, refl, sym, ap, ◌∙◌, subst, arith}
+use Rattle.std.proofs.Common.{◌≡◌, ◌≢◌, ℕ, ◌+◌, ◌-◌, ◌≤◌, List, length, None, Some, Result, Ok, Err, sym, ap, ◌∙◌, subst, arith}
 use Rattle.std.specs.Prelude.{IfOk}
 use Rattle.field_values.specs.declared.memory.NoMemory.{NoMemory}
-use Rattle.httparse.specs.Grammar.{ResponseHead, status_code}
+use Rattle.httparse.specs.Grammar.{status_code}
 use Rattle.httparse.proofs.GrammarLemmas.{response_unique}
 use Rattle.sync_wire.specs.declared.fault.WireFault.{WireFault}
 use Rattle.sync_wire.specs.declared.fault.WireFault.TheVariants.{NoMemory as OutOfMemory}

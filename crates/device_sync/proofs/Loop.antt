@@ -1,5 +1,5 @@
 -- The conversation goes on by one turn.
-use Rattle.std.proofs.Common.{◌≡◌, ◌⊎◌, inl, inr, ℕ, zero, suc, ◌+◌, ◌-◌, ◌≤◌, List, [], ◌∷◌, ◌++◌, Option, None, Some, Result, Ok, Err, ℤ, length, map, refl, sym, ap, ap₂, ◌∙◌, subst, append-nil, append_assoc, length-append, arith}
+use Rattle.std.proofs.Common.{◌≡◌, ◌⊎◌, inl, inr, ℕ, suc, ◌+◌, ◌-◌, List, [], ◌∷◌, ◌++◌, Option, None, Some, Result, Ok, Err, ℤ, length, map, refl, sym, ap, ◌∙◌, subst, append-nil, append_assoc, length-append, arith}
 use Rattle.std.proofs.lemmas.List.{map-append}
 use Rattle.std.specs.FinMap.{get}
 use Rattle.budget_ports.specs.Contents.{Contents, with_text}
@@ -12,12 +12,11 @@ use Rattle.device_core.specs.Device.{State}
 use Rattle.device_sync.specs.declared.fault.SyncFault.{SyncFault}
 use Rattle.device_sync.specs.declared.fault.SyncFault.TheVariants.{Link, BadReply, Refused, OutOfSync, Clock, Keeper, NoMemory}
 use Rattle.device_sync.specs.declared.fault.Synced.{Synced}
-use Rattle.device_sync.specs.declared.round.Compared.{Compared}
 use Rattle.device_sync.specs.declared.round.Compared.TheVariants.{Agreed, Differ}
 use Rattle.device_sync.specs.declared.target.Target.{Target}
 use Rattle.device_sync.specs.Requests.{first_since}
-use Rattle.device_sync.specs.Talk.{Outcome, going_on, agreed, out_of_sync, not_taken, refused, bad_reply, Next, ends, asks, next, Turn, exchange_of, Ends, Follows, Talk}
-use Rattle.device_sync.specs.Sync.{text_of, IsUnanswered, IsUnjudged, TakesTurn, further, IsLeft, IsRound, Carries, kept_of, IsCutOff, IsAnswered, Told, IsNumber, IsCounted, HasConversed, HasTalked, synced_name, UnlessSpoilt, IfUsable}
+use Rattle.device_sync.specs.Talk.{Outcome, going_on, agreed, out_of_sync, not_taken, refused, bad_reply, Next, ends, Turn, exchange_of, Follows, Talk}
+use Rattle.device_sync.specs.Sync.{text_of, IsUnanswered, IsUnjudged, TakesTurn, further, IsLeft, IsRound, Carries, IsCutOff, IsAnswered, Told, IsNumber, IsCounted, HasConversed, HasTalked, synced_name, UnlessSpoilt, IfUsable}
 use Rattle.device_sync.proofs.Turns.{carries_same, carries_both}
 
 -- The turns so far, after which the conversation goes on from a text with so many requests more than one

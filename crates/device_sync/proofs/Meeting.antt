@@ -1,19 +1,18 @@
 -- What both sides of a conversation have at the end.
-use Rattle.std.proofs.Common.{◌≡◌, ◌⊎◌, inl, inr, ℕ, List, [], ◌∷◌, Bool, true, false, ◌||◌, cond, Option, Some, None, map, refl, sym, ap, ◌∙◌, subst}
+use Rattle.std.proofs.Common.{◌≡◌, ◌⊎◌, inl, inr, ℕ, List, [], ◌∷◌, Bool, true, false, ◌||◌, cond, Option, Some, None, map, refl, sym, ap, ◌∙◌}
 use Rattle.std.specs.Ordering.{is_eq}
 use Rattle.std.specs.Option.{is_some, option_or}
 use Rattle.std.specs.List.{list_any}
 use Rattle.hybrid_clock.specs.declared.stamp.Stamp.{Stamp}
 use Rattle.hybrid_clock.specs.Order.{stamp_cmp}
 use Rattle.field_merge.specs.declared.message.Message.{Message}
-use Rattle.field_merge.specs.Messages.{AreMessages}
 use Rattle.field_merge.specs.Log.{IsRising, at_stamp, has_stamp, join, messages_after}
 use Rattle.field_merge.proofs.Joining.{found, rising, stamp_of}
 use Rattle.field_merge.proofs.Members.{is_some-find}
 use Rattle.field_merge.proofs.Ordered.{same}
 use Rattle.field_merge.proofs.Orders.{stamps_total}
 use Rattle.device_sync.specs.Laws.{HaveOneEach, HaveSameStamps}
-use Rattle.device_sync.proofs.Sets.{has, at_those, those_valid, join_valid}
+use Rattle.device_sync.proofs.Sets.{has, at_those}
 use Rattle.device_sync.proofs.Rounds.{is_later}
 
 -- two sets grew into others, and only by what one of them had

@@ -1,5 +1,5 @@
 -- What a sync comes to with an honest server.
-use Rattle.std.proofs.Common.{◌≡◌, ℕ, List, [], ◌∷◌, ◌++◌, Option, Some, Result, Ok, Err, map, refl, sym, ap, ◌∙◌, subst, append-nil}
+use Rattle.std.proofs.Common.{◌≡◌, ℕ, List, [], ◌∷◌, ◌++◌, Option, Some, Result, Ok, Err, map, sym, ap, ◌∙◌, subst, append-nil}
 use Rattle.budget_ports.specs.Exchanges.{Exchange, Adds}
 use Rattle.field_merge.specs.declared.message.Message.{Message}
 use Rattle.field_merge.specs.Messages.{AreMessages}
@@ -11,8 +11,8 @@ use Rattle.device_sync.specs.declared.fault.Synced.{Synced}
 use Rattle.device_sync.specs.declared.target.Target.{Target}
 use Rattle.device_sync.specs.Honest.{Honest, AreWithin}
 use Rattle.device_sync.specs.Laws.{IsFair, Converges}
-use Rattle.device_sync.specs.Talk.{Outcome, agreed, Turn, exchange_of}
-use Rattle.device_sync.specs.Sync.{Told, IsCounted, HasConversed, HasTalked, AreAdded, IsMet, MeetsHonest}
+use Rattle.device_sync.specs.Talk.{Outcome, agreed, exchange_of}
+use Rattle.device_sync.specs.Sync.{Told, IsCounted, HasConversed, HasTalked, AreAdded, MeetsHonest}
 use Rattle.device_sync.proofs.Conversation.{converges}
 
 append_cancel : (old xs ys : List Exchange) → old ++ xs ≡ old ++ ys → xs ≡ ys

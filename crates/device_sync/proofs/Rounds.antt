@@ -1,5 +1,5 @@
 -- A round that was answered, over message sets.
-use Rattle.std.proofs.Common.{◌≡◌, ℕ, suc, ◌*◌, ◌/◌, ◌<◌, List, [], ◌∷◌, ◌++◌, Bool, true, false, not, ◌&&◌, ◌||◌, cond, is_none, nat_le, nat_lt, filter, map, refl, sym, ap, ◌∙◌, subst, arith, append-nil, append_assoc, ltb-true, ltb-false, IsPermutation}
+use Rattle.std.proofs.Common.{◌≡◌, ℕ, ◌*◌, ◌/◌, ◌<◌, List, [], ◌∷◌, ◌++◌, Bool, true, false, not, ◌&&◌, ◌||◌, cond, is_none, nat_le, nat_lt, filter, refl, sym, ap, ◌∙◌, subst, arith, append-nil, append_assoc, ltb-true, ltb-false, IsPermutation}
 use Rattle.std.proofs.lemmas.Bool.{le-leb, lt-leb}
 use Rattle.std.proofs.lemmas.List.Sorted.{IsPermutation-refl, IsPermutation-trans, IsPermutation-append_left}
 use Rattle.std.specs.List.{list_any}

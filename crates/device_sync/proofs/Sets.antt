@@ -2,7 +2,7 @@
 use Rattle.std.proofs.Common.{◌≡◌, List, [], ◌∷◌, Bool, true, false, ◌&&◌, ◌||◌, cond, Option, None, Some, map, map-id, filter, refl, sym, ap, ap₂, ◌∙◌, subst, inl, inr}
 use Rattle.std.specs.Ordering.{is_eq}
 use Rattle.std.specs.Option.{is_some, option_or}
-use Rattle.std.specs.List.{find, list_any, AllByRecursion, Contains}
+use Rattle.std.specs.List.{find, list_any}
 use Rattle.std.specs.List.Sorted.{IsStrictlySortedBy}
 use Rattle.std.specs.declared.cmp.Ordering.{Ordering}
 use Rattle.hybrid_clock.specs.declared.stamp.Stamp.{Stamp}
@@ -11,7 +11,7 @@ use Rattle.hybrid_clock.specs.Stamp.{IsStamp}
 use Rattle.field_merge.specs.declared.message.Message.{Message}
 use Rattle.field_merge.specs.Messages.{IsMessage, AreMessages}
 use Rattle.field_merge.specs.Log.{IsRising, at_stamp, has_stamp, join}
-use Rattle.field_merge.proofs.Joining.{found, is_join, rising, stamp_of}
+use Rattle.field_merge.proofs.Joining.{found, is_join, stamp_of}
 use Rattle.field_merge.proofs.Members.{all_from, all_of, is_some-find}
 use Rattle.field_merge.proofs.Ordered.{IsBelow, IsInOrder, cons, equal, head, same, tail}
 use Rattle.field_merge.proofs.Orders.{stamps_exact, stamps_total}

@@ -1,5 +1,5 @@
 -- Numbers of some digits.
-use Rattle.std.proofs.Common.{◌≡◌, ℕ, suc, ◌+◌, ◌*◌, ◌^◌, ◌<◌, ◌≤◌, List, ◌∷◌, Option, Err, refl, arith}
+use Rattle.std.proofs.Common.{◌≡◌, ℕ, suc, ◌+◌, ◌*◌, ◌^◌, ◌<◌, ◌≤◌, arith}
 use Rattle.std.proofs.Math.Nat.{pow-le-pow_right, pow-succ'}
 
 pub few_digits : (n i : ℕ) → i < 18 → n < 10 ^ i → n < 10 ^ 17

@@ -1,7 +1,7 @@
 -- One turn of a conversation, and what is kept of it.
-use Rattle.std.proofs.Common.{◌≡◌, ◌⊎◌, inl, inr, ℕ, zero, suc, ◌*◌, ◌<◌, List, [], ◌∷◌, ◌++◌, Option, None, Some, Result, Ok, Err, false, ℤ, map, refl, sym, ap, ap₂, ◌∙◌, subst, append-nil, arith}
+use Rattle.std.proofs.Common.{◌≡◌, inl, inr, ℕ, zero, suc, ◌*◌, ◌<◌, List, [], ◌∷◌, Option, None, Some, Result, Ok, Err, false, ℤ, map, refl, sym, ap, ap₂, ◌∙◌, subst, append-nil, arith}
 use Rattle.budget_ports.specs.Contents.{Contents, appended}
-use Rattle.budget_ports.specs.Exchanges.{Exchange, begun, ended, Adds}
+use Rattle.budget_ports.specs.Exchanges.{Exchange, ended, Adds}
 use Rattle.field_merge.specs.declared.message.Message.{Message}
 use Rattle.field_merge.specs.Messages.{AreMessages}
 use Rattle.field_merge.specs.Log.{join}
@@ -14,8 +14,6 @@ use Rattle.kept_messages.specs.Holding.{Holds, BatchesAreKept}
 use Rattle.kept_messages.specs.News.{new_in}
 use Rattle.kept_messages.specs.Pairs.{pairs_of}
 use Rattle.kept_messages.specs.Records.{record_of}
-use Rattle.device_core.specs.declared.edit.LineRefusal.{LineRefusal}
-use Rattle.device_core.specs.declared.edit.LineRefusal.TheVariants.{Clock as OfClock}
 use Rattle.device_core.specs.Device.{State, DeviceState, Accepted, accepted_as, IsAccepted, received}
 use Rattle.device_core.proofs.Received.{received_joined}
 use Rattle.device_sync.specs.declared.fault.SyncFault.{SyncFault}
@@ -24,8 +22,8 @@ use Rattle.device_sync.specs.declared.round.Compared.{Compared}
 use Rattle.device_sync.specs.declared.round.Compared.TheVariants.{Agreed, Differ}
 use Rattle.device_sync.specs.declared.target.Target.{Target}
 use Rattle.device_sync.specs.Replies.{Got, answer, refusal, bad, IsJudged}
-use Rattle.device_sync.specs.Talk.{root_of, trie_in, Next, ends, compared, taken, next, Turn}
-use Rattle.device_sync.specs.Sync.{text_of, IsUnanswered, IsUnjudged, TakesTurn, further, AreCompared, IsLeft, IsSettled, HasMoment, IsRound, IsTaken, Carries, fails_link}
+use Rattle.device_sync.specs.Talk.{root_of, trie_in, Next, compared, taken, next}
+use Rattle.device_sync.specs.Sync.{text_of, IsUnanswered, IsUnjudged, TakesTurn, further, AreCompared, IsLeft, IsSettled, IsRound, IsTaken, Carries, fails_link}
 use Rattle.device_sync.proofs.Conversation.{told_minute, told_small}
 
 -- ---- the tries

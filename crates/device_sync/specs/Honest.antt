@@ -8,7 +8,6 @@ use Rattle.field_merge.specs.Log.{join}
 use Rattle.sync_wire.specs.declared.request.SyncRequest.{SyncRequest}
 use Rattle.sync_wire.specs.Wire.{IsResponse}
 use Rattle.sync_server.specs.Answer.{answer_of}
-use Rattle.device_sync.specs.declared.target.Target.{Target}
 use Rattle.device_sync.specs.Replies.{IsReply, most_bytes}
 use Rattle.device_sync.specs.Requests.{request_text}
 

@@ -1,5 +1,5 @@
 -- The conversation of a device with a server.
-use Rattle.std.specs.Prelude.{◌≡◌, ℕ, zero, suc, ℤ, List, [], ◌∷◌, map, Option, None, Some, Result, Ok, Err}
+use Rattle.std.specs.Prelude.{◌≡◌, ℕ, zero, suc, ℤ, List, [], ◌∷◌, Option, None, Some, Result, Ok, Err}
 use Rattle.std.specs.Int.{w32, cast_signed}
 use Rattle.budget_ports.specs.Exchanges.{Exchange, ended}
 use Rattle.hybrid_clock.specs.Moments.{moment_text}

@@ -1,4 +1,4 @@
-use Rattle.std.proofs.Common.{refl, arith}
+use Rattle.std.proofs.Common.{refl}
 use Rattle.device_sync.proofs.Judging.{answered_with, bad_of}
 use Rattle.device_sync.proofs.reply.judge_body.Goals as goal
 

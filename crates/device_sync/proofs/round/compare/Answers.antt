@@ -1,7 +1,6 @@
 use Rattle.std.proofs.Common.{FitsSigned, rules, sym, ◌∙◌, w32}
 use Rattle.std.proofs.lemmas.Int.{to_z-of_z}
 use Rattle.minute_trie.specs.Trie.{held}
-use Rattle.device_sync.specs.Talk.{trie_in}
 use Rattle.device_sync.proofs.Turns.{compared_none, compared_some, root_is, small_moment}
 use Rattle.device_sync.proofs.round.compare.Goals as goal
 

@@ -1,4 +1,4 @@
-use Rattle.std.proofs.Common.{◌-◌, FitsSigned, rules, w32, inl, refl, sym, ap, ◌∙◌, arith}
+use Rattle.std.proofs.Common.{◌-◌, FitsSigned, rules, w32, inl, refl, ap, ◌∙◌, arith}
 use Rattle.std.proofs.lemmas.Int.{to_z-of_z}
 use Rattle.budget_ports.specs.Faults.{count_after}
 use Rattle.device_sync.specs.declared.fault.SyncFault.TheVariants.{NoMemory}
