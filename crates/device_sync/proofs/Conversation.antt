@@ -28,7 +28,7 @@ use Rattle.sync_wire.specs.declared.request.SyncRequest.{SyncRequest}
 use Rattle.sync_server.specs.Answer.{answer_of}
 use Rattle.device_sync.specs.declared.target.Target.{Target}
 use Rattle.device_sync.specs.Replies.{Got, answer, refusal, with_trie, meant, most_bytes, IsJudged, refuses, says}
-use Rattle.device_sync.specs.Requests.{request_of, request_text}
+use Rattle.device_sync.specs.Requests.{request_of, IsAsked}
 use Rattle.device_sync.specs.Talk.{Outcome, going_on, agreed, not_taken, refused, Next, ends, asks, compared, taken, next, Turn, exchange_of, Ends, Follows, Talk, followed, talked}
 use Rattle.device_sync.specs.Honest.{front_of, Answers, IsFairStatus, Served, answers, declines, Honest, AreWithin}
 use Rattle.device_sync.specs.Laws.{TalksAreTold, IsFair, TalksConverge}
@@ -162,7 +162,7 @@ answer_is r q x text t valid sent is few judged a =
 
 round : (target : Target) (reading left : ℕ) (since : List ℕ) (p : State) (r : List Message) (x : Turn) (xs : List Turn) (now : State) (o : Outcome) (t : List Message)
     → IsRising p.messages → IsRising r → AreMessages p.messages → AreMessages r → length x.came ≤ most_bytes
-    → x.sent ≡ request_text target.token (request_of target since p.messages) → IsJudged x.came x.got
+    → IsAsked target.token (request_of target since p.messages) x.sent → IsJudged x.came x.got
     → Follows (next reading left p x.got) xs now o (λ q moment. Talk target reading left (moment_text moment) q xs now o) → Served target.token r (exchange_of x) t
     → Round target reading left since p.messages r xs now o t
 round target reading left since p r x xs now o t up down valid other few sent judged h (declines text is status body reply fair stays) =

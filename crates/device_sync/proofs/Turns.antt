@@ -22,6 +22,10 @@ use Rattle.device_sync.specs.declared.round.Compared.{Compared}
 use Rattle.device_sync.specs.declared.round.Compared.TheVariants.{Agreed, Differ}
 use Rattle.device_sync.specs.declared.target.Target.{Target}
 use Rattle.device_sync.specs.Replies.{Got, answer, refusal, bad, IsJudged}
+use Rattle.sync_wire.specs.declared.request.SyncRequest.{SyncRequest}
+use Rattle.sync_wire.specs.Wire.{IsRequest}
+use Rattle.sync_wire.specs.Canon.{request_bytes}
+use Rattle.device_sync.specs.Requests.{request_of}
 use Rattle.device_sync.specs.Talk.{root_of, trie_in, Next, compared, taken, next}
 use Rattle.device_sync.specs.Sync.{text_of, IsUnanswered, IsUnjudged, TakesTurn, further, AreCompared, IsLeft, IsSettled, IsRound, IsTaken, Carries, fails_link}
 use Rattle.device_sync.proofs.Conversation.{told_minute, told_small}
@@ -110,8 +114,8 @@ pub came_alone : (text sent came : List ℕ) (old new : Option (List Exchange)) 
 came_alone text sent came old new is adds = record { late = ended sent came ∷ []; adds = adds; is_late = inr (came, ap (λ (t : List ℕ). ended t came ∷ []) is) }
 
 pub turn_taken : (target : Target) (reading : ℕ) (since : List ℕ) (s : State) (old new : Option (List Exchange)) (sent came : List ℕ) (got : Got) (after : ℕ → Next)
-    → sent ≡ text_of target since s → Adds old new (ended sent came ∷ []) → IsJudged came got → ((left : ℕ) → next reading left s got ≡ after left) → TakesTurn target reading since s old new after
-turn_taken target reading since s old new sent came got after is adds judged follows = record { turn = record { sent = sent; came = came; got = got }; sent = is; judged = judged; adds = adds; follows = follows }
+    → sent ≡ text_of target since s → IsRequest (request_bytes (request_of target since s.messages)) (request_of target since s.messages) → Adds old new (ended sent came ∷ []) → IsJudged came got → ((left : ℕ) → next reading left s got ≡ after left) → TakesTurn target reading since s old new after
+turn_taken target reading since s old new sent came got after is means adds judged follows = record { turn = record { sent = sent; came = came; got = got }; sent = record { text = is; means = means }; judged = judged; adds = adds; follows = follows }
 
 pub settled_refusal : (s : State) (reading status : ℕ) → IsSettled s (refusal status) reading s (Err (Refused status))
 settled_refusal s reading status = (λ left. refl, refl)
@@ -120,16 +124,16 @@ pub settled_bad : (s : State) (reading at : ℕ) → IsSettled s (bad at) readin
 settled_bad s reading at = (λ left. refl, refl)
 
 pub round_settled : (target : Target) (reading : ℕ) (since : List ℕ) (s : State) (old new : Option (List Exchange)) (now : State) (sent came : List ℕ) (got : Got) (r : Result Compared SyncFault)
-    → sent ≡ text_of target since s → Adds old new (ended sent came ∷ []) → IsJudged came got → IsSettled s got reading now r → IsRound target reading since s old new now r
-round_settled target reading since s old new now sent came got (Ok Agreed) is adds judged h = turn_taken target reading since s old new sent came got _ is adds judged h
-round_settled target reading since s old new now sent came got (Ok (Differ moment mine theirs)) is adds judged h = turn_taken target reading since s old new sent came got _ is adds judged h
-round_settled target reading since s old new now sent came got (Err Link) is adds judged h = absurd h
-round_settled target reading since s old new now sent came got (Err (BadReply at)) is adds judged h = (turn_taken target reading since s old new sent came got _ is adds judged h.0, h.1)
-round_settled target reading since s old new now sent came got (Err (Refused status)) is adds judged h = (turn_taken target reading since s old new sent came got _ is adds judged h.0, h.1)
-round_settled target reading since s old new now sent came got (Err (OutOfSync mine theirs)) is adds judged h = absurd h
-round_settled target reading since s old new now sent came got (Err (Clock fault)) is adds judged h = (turn_taken target reading since s old new sent came got _ is adds judged h.0, h.1)
-round_settled target reading since s old new now sent came got (Err Keeper) is adds judged h = came_alone (text_of target since s) sent came old new is adds
-round_settled target reading since s old new now sent came got (Err NoMemory) is adds judged h = came_alone (text_of target since s) sent came old new is adds
+    → sent ≡ text_of target since s → IsRequest (request_bytes (request_of target since s.messages)) (request_of target since s.messages) → Adds old new (ended sent came ∷ []) → IsJudged came got → IsSettled s got reading now r → IsRound target reading since s old new now r
+round_settled target reading since s old new now sent came got (Ok Agreed) is means adds judged h = turn_taken target reading since s old new sent came got _ is means adds judged h
+round_settled target reading since s old new now sent came got (Ok (Differ moment mine theirs)) is means adds judged h = turn_taken target reading since s old new sent came got _ is means adds judged h
+round_settled target reading since s old new now sent came got (Err Link) is means adds judged h = absurd h
+round_settled target reading since s old new now sent came got (Err (BadReply at)) is means adds judged h = (turn_taken target reading since s old new sent came got _ is means adds judged h.0, h.1)
+round_settled target reading since s old new now sent came got (Err (Refused status)) is means adds judged h = (turn_taken target reading since s old new sent came got _ is means adds judged h.0, h.1)
+round_settled target reading since s old new now sent came got (Err (OutOfSync mine theirs)) is means adds judged h = absurd h
+round_settled target reading since s old new now sent came got (Err (Clock fault)) is means adds judged h = (turn_taken target reading since s old new sent came got _ is means adds judged h.0, h.1)
+round_settled target reading since s old new now sent came got (Err Keeper) is means adds judged h = came_alone (text_of target since s) sent came old new is adds
+round_settled target reading since s old new now sent came got (Err NoMemory) is means adds judged h = came_alone (text_of target since s) sent came old new is adds
 
 -- the link has not failed where something came
 pub not_linked : (s : State) (got : Got) (reading : ℕ) (now : State) (r : Result Compared SyncFault) → IsSettled s got reading now r → fails_link r ≡ false
@@ -141,3 +145,10 @@ not_linked s got reading now (Err (OutOfSync mine theirs)) h = refl
 not_linked s got reading now (Err (Clock fault)) h = refl
 not_linked s got reading now (Err Keeper) h = refl
 not_linked s got reading now (Err NoMemory) h = refl
+
+-- a request's bytes mean it
+pub means_itself : (q : SyncRequest) (bytes : List ℕ) → bytes ≡ request_bytes q → IsRequest bytes q → IsRequest (request_bytes q) q
+means_itself q bytes is means = subst (λ (z : List ℕ). IsRequest z q) is means
+
+pub means_same : (q p : SyncRequest) → q ≡ p → IsRequest (request_bytes q) q → IsRequest (request_bytes p) p
+means_same q p same means = subst (λ (z : SyncRequest). IsRequest (request_bytes z) z) same means

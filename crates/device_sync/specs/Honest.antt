@@ -9,7 +9,7 @@ use Rattle.sync_wire.specs.declared.request.SyncRequest.{SyncRequest}
 use Rattle.sync_wire.specs.Wire.{IsResponse}
 use Rattle.sync_server.specs.Answer.{answer_of}
 use Rattle.device_sync.specs.Replies.{IsReply, most_bytes}
-use Rattle.device_sync.specs.Requests.{request_text}
+use Rattle.device_sync.specs.Requests.{IsAsked}
 
 -- the first bytes of a text: one more than a reply may have are read, and no more
 abbrev pub front_of : List ℕ → List ℕ
@@ -30,7 +30,7 @@ IsFairStatus status = (status ≡ 413) ⊎ ((status ≡ 503) ⊎ (status ≡ 507
 -- was answered, or it was refused and nothing was joined
 pub data Served (token : List ℕ) (r : List Message) (x : Exchange) (s : List Message) : Type 0 where
   answers : (text : List ℕ) → x.got ≡ Some (front_of text)
-      → ((q : SyncRequest) → AreMessages q.messages → x.sent ≡ request_text token q → Answers r q text s) → Served token r x s
+      → ((q : SyncRequest) → AreMessages q.messages → IsAsked token q x.sent → Answers r q text s) → Served token r x s
   declines : (text : List ℕ) → x.got ≡ Some (front_of text) → (status : ℕ) (body : List ℕ) → IsReply text status body → IsFairStatus status → s ≡ r → Served token r x s
 
 -- so it was with each, one after the other

@@ -21,7 +21,7 @@ use Rattle.field_merge.specs.Messages.{AreMessages}
 use Rattle.field_merge.specs.Log.{IsRising}
 use Rattle.device_sync.specs.Honest.{IsFairStatus, Honest, AreWithin}
 use Rattle.device_sync.specs.Laws.{Converges}
-use Rattle.device_sync.specs.Requests.{request_of, request_text, first_since}
+use Rattle.device_sync.specs.Requests.{request_of, request_text, IsAsked, first_since}
 use Rattle.device_sync.specs.Talk.{Outcome, going_on, agreed, out_of_sync, not_taken, refused, bad_reply, root_of, Next, ends, asks, next, Turn, exchange_of, Talk, most_requests}
 
 -- the name of the text that tells of the last sync
@@ -43,7 +43,7 @@ IsUnjudged text late = IsUnanswered text late ⊎ ((came : List ℕ) × (late �
 -- a turn was taken, with what follows, by how many requests are left
 pub record TakesTurn (target : Target) (reading : ℕ) (since : List ℕ) (s : State) (old new : Option (List Exchange)) (after : ℕ → Next) : Type 0 where
   pub turn : Turn
-  pub sent : turn.sent ≡ text_of target since s
+  pub sent : IsAsked target.token (request_of target since s.messages) turn.sent
   pub judged : IsJudged turn.came turn.got
   pub adds : Adds old new (exchange_of turn ∷ [])
   pub follows : (left : ℕ) → next reading left s turn.got ≡ after left

@@ -11,7 +11,7 @@ use Rattle.device_core.specs.declared.edit.LineRefusal.{LineRefusal}
 use Rattle.device_core.specs.Device.{State, Accepted, received}
 use Rattle.device_sync.specs.declared.target.Target.{Target}
 use Rattle.device_sync.specs.Replies.{Got, answer, refusal, bad, IsJudged}
-use Rattle.device_sync.specs.Requests.{request_of, request_text}
+use Rattle.device_sync.specs.Requests.{request_of, IsAsked}
 
 -- how a conversation ended, or that it goes on, and from where it asks then: both tries have one hash at the root; or they have two, which are told, and no more
 -- may be asked; or the clock refused the messages that came; or the server refused; or its reply was bad
@@ -81,7 +81,7 @@ abbrev pub Talk : Target → ℕ → ℕ → List ℕ → State → List Turn �
 Talk target reading left since p [] now o = Ends p (going_on since) [] now o
 Talk target reading zero since p (x ∷ xs) now o = ⊥
 Talk target reading (suc left) since p (x ∷ xs) now o =
-    (x.sent ≡ request_text target.token (request_of target since p.messages)) × IsJudged x.came x.got
+    IsAsked target.token (request_of target since p.messages) x.sent × IsJudged x.came x.got
     × Follows (next reading left p x.got) xs now o (λ q moment. Talk target reading left (moment_text moment) q xs now o)
 
 -- a conversation may have so many requests

@@ -3,6 +3,8 @@ ghost use Rattle.std.specs.Prelude.{◌≡◌, ◌/◌, ◌*◌, ◌<◌, false,
 ghost use Rattle.hybrid_clock.specs.Moments as moments;
 ghost use Rattle.hybrid_clock.specs.Stamp.{window};
 ghost use Rattle.field_merge.specs.Messages.{AreMessages};
+ghost use Rattle.sync_wire.specs.Wire.{IsRequest};
+ghost use Rattle.sync_wire.specs.Canon.{request_bytes};
 ghost use Rattle.device_sync.specs.Requests.{head_text, request_text, first_since};
 
 use field_values::{NoMemory, Txt, TxtFault};
@@ -26,7 +28,8 @@ fn head_text(alloc: Global, token: &Txt, size: usize) -> Result<String, NoMemory
 pub fn request_text(alloc: Global, token: &Txt, request: &SyncRequest) -> Result<Vec<u8>, NoMemory>
     requires plain { request.now.encrypted ≡ false }
     requires valid { AreMessages request.now.messages }
-    ensures { IfOk result (λ text. text.items ≡ request_text token.now request.now) }
+    ensures text { IfOk result (λ text. text.items ≡ request_text token.now request.now) }
+    ensures means { IfOk result (λ _. IsRequest (request_bytes request.now) request.now) }
 {
     let body = write_request(alloc, request)?;
     let head = head_text(alloc, token, body.len())?;

@@ -6,6 +6,9 @@ ghost use Rattle.budget_ports.specs.Faults.{count_after};
 ghost use Rattle.budget_ports.specs.Keeper.{has_failed, IsAlone};
 ghost use Rattle.field_merge.specs.Messages.{AreMessages};
 ghost use Rattle.minute_trie.specs.Trie.{held};
+ghost use Rattle.sync_wire.specs.Wire.{IsRequest};
+ghost use Rattle.sync_wire.specs.Canon.{request_bytes};
+ghost use Rattle.device_sync.specs.Requests.{request_of};
 ghost use Rattle.device_sync.specs.Replies.{answer};
 ghost use Rattle.device_sync.specs.Judged.{got_of, messages_in};
 ghost use Rattle.device_sync.specs.Talk.{trie_in};
@@ -54,7 +57,8 @@ fn compare(device: &Device, trie: &Trie) -> Compared
 /// The text of the request that asks from a text on.
 fn ask(alloc: Global, device: &Device, target: &Target, since: &Txt) -> Result<Vec<u8>, NoMemory>
     requires { device.now.spent ≡ false }
-    ensures { IfOk result (λ text. text.items ≡ text_of target.now since.now device.now.state) }
+    ensures text { IfOk result (λ text. text.items ≡ text_of target.now since.now device.now.state) }
+    ensures means { IfOk result (λ _. IsRequest (request_bytes (request_of target.now since.now device.now.state.messages)) (request_of target.now since.now device.now.state.messages)) }
 {
     let request = SyncRequest {
         messages: device.outgoing(since.bytes())?,
