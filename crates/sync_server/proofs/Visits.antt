@@ -1,5 +1,5 @@
 -- What becomes of a connection.
-use Rattle.std.proofs.Common.{◌≡◌, ◌≢◌, ◌⊎◌, ◌∙◌, ◌<◌, ◌==◌, ℕ, suc, List, [], ◌∷◌, ◌++◌, length, Bool, true, false, Option, None, Some, Result, Ok, Err, inl, inr, refl, sym, ap, ap₂, subst, take, cond, arith, eqb-true}
+use Rattle.std.proofs.Common.{◌≡◌, ◌⊎◌, ◌∙◌, ◌<◌, ◌==◌, ℕ, List, [], ◌∷◌, ◌++◌, length, Bool, true, false, Option, None, Some, Result, Ok, Err, inl, inr, refl, sym, ap, ap₂, subst, take, cond, arith, eqb-true}
 use Rattle.budget_ports.specs.Contents.{Contents, Text}
 use Rattle.budget_ports.specs.Connections.{Stays, LetsIn, Opens, Begins}
 use Rattle.budget_ports.specs.Faults.{count_after}
@@ -7,7 +7,7 @@ use Rattle.field_merge.specs.declared.message.Message.{Message}
 use Rattle.field_merge.specs.Log.{join}
 use Rattle.sync_wire.specs.declared.request.SyncRequest.{SyncRequest}
 use Rattle.sync_server.specs.declared.refusal.Refusal.{Refusal}
-use Rattle.sync_server.specs.declared.refusal.Refusal.TheVariants.{KeeperFault, NoMemory, FileHasReset}
+use Rattle.sync_server.specs.declared.refusal.Refusal.TheVariants.{NoMemory, FileHasReset}
 use Rattle.sync_server.specs.declared.state.ServerState.{ServerState}
 use Rattle.sync_server.specs.declared.served.Served.{Served}
 use Rattle.sync_server.specs.declared.served.Served.TheVariants as served
@@ -16,9 +16,9 @@ use Rattle.sync_server.specs.State.{set_of, Remembers}
 use Rattle.std.specs.Str.{bytes_eq}
 use Rattle.sync_server.specs.Heads.{judge_head, IsUndecided}
 use Rattle.sync_server.specs.Keeping.{Puts, IsFree, is_fault, HasKept}
-use Rattle.sync_server.specs.Outside.{HasFound, HasServed, Gains, IsAll, IsNext, IsSent, is_cut, ServesOpen, UsesDoor, UsesKeeper}
+use Rattle.sync_server.specs.Outside.{HasFound, HasServed, Gains, IsAll, IsNext, IsSent, is_cut, ServesOpen, UsesKeeper}
 use Rattle.sync_server.specs.Written.{WritesTo}
-use Rattle.sync_server.proofs.Pieces.{stays_to, stays_on}
+use Rattle.sync_server.proofs.Pieces.{stays_to}
 use Rattle.sync_server.specs.Replies.{refusal_bytes, status_of}
 
 some_length : (xs : List ℕ) → 0 < length xs → (length xs == 0) ≡ false
@@ -149,30 +149,30 @@ module _ (token : Text) (tells new_tells : Type 0) (old new : Contents) (left ne
       let ms = k.by_result.0 in
       let h = k.by_result.1 in
       replied token tells new_tells old new left new_left faults new_faults s0 s1 came bytes outs new_outs df ndf (Accepts ms asks.request) false reply 200 result all
-          (decided refl (asks_decide token came (λ q found. new_tells → HasFound old q found) asks found (Accepts ms asks.request) k.finds h.judged)) refl (sym h.reply_is) sent count
-          (remembers s0 s1 ms asks.request h.state) (λ wrote cut. record {
-            told = k.told;
-            keeps = h.keeps;
-            stops = left_by asks k.stops;
-            known = λ ns r e. h.known;
-            alone = λ ns r e some. (let same = accepted_is ms ns asks.request r e in h.alone (λ none. some (sym (ap₂ batch_of same.0 same.1) ∙ none)));
-            count = still;
-          })
+      (decided refl (asks_decide token came (λ q found. new_tells → HasFound old q found) asks found (Accepts ms asks.request) k.finds h.judged)) refl (sym h.reply_is) sent count
+      (remembers s0 s1 ms asks.request h.state) (λ wrote cut. record {
+        told = k.told;
+        keeps = h.keeps;
+        stops = left_by asks k.stops;
+        known = λ ns r e. h.known;
+        alone = λ ns r e some. (let same = accepted_is ms ns asks.request r e in h.alone (λ none. some (sym (ap₂ batch_of same.0 same.1) ∙ none)));
+        count = still;
+      })
 
   pub refused_visit : (asks : AsksKeeper token came) (found : Found) (r : Refusal) → HasKept asks.request found s0 s1 tells new_tells old new left new_left (Err r) → new_faults ≡ count_after (is_fault r) faults
       → IsSent (refusal_bytes r) (status_of r) outs new_outs result → Final
   refused_visit asks found r k rose sent =
       let h = k.by_result in
       replied token tells new_tells old new left new_left faults new_faults s0 s1 came bytes outs new_outs df ndf (Refuses r) (is_fault r) (refusal_bytes r) (status_of r) result all
-          (means_refused token came (λ q found. new_tells → HasFound old q found) asks found r k.finds h.why) refl refl sent count
-          (remembers_token s0 s1 r h.token) (λ wrote cut. record {
-            told = k.told;
-            keeps = h.same;
-            stops = left_by asks k.stops;
-            known = λ ns q e. absurd (no ns q e);
-            alone = λ ns q e. absurd (no ns q e);
-            count = rose;
-          })
+      (means_refused token came (λ q found. new_tells → HasFound old q found) asks found r k.finds h.why) refl refl sent count
+      (remembers_token s0 s1 r h.token) (λ wrote cut. record {
+        told = k.told;
+        keeps = h.same;
+        stops = left_by asks k.stops;
+        known = λ ns q e. absurd (no ns q e);
+        alone = λ ns q e. absurd (no ns q e);
+        count = rose;
+      })
     where
       no : (ns : List Message) (q : SyncRequest) → Refuses r ≡ Accepts ns q → ⊥
       no ns q f = cc
@@ -201,7 +201,7 @@ module _ (token : Text) (tells : Type 0) (old : Contents) (left : Contents → T
       → IsSent (refusal_bytes r) (status_of r) outs new_outs result → Alone result
   early_visit result count r why sent =
       replied token tells tells old old left left faults faults s s came bytes outs new_outs df ndf (Refuses r) false (refusal_bytes r) (status_of r) result all (means why) refl refl sent count
-          (remembers_token s s r refl) (untouched token tells tells old old left left faults faults s s came (Refuses r) refl no (λ t. t) (λ t. refl) (λ k h. h) refl)
+      (remembers_token s s r refl) (untouched token tells tells old old left left faults faults s s came (Refuses r) refl no (λ t. t) (λ t. refl) (λ k h. h) refl)
     where
       means : ((k : Contents) → Decides token (HasFound k) came (Refuses r)) ⊎ (r ≡ NoMemory) → Means token Told came false (Refuses r)
       means (inl d) = decided refl (told_of (Refuses r) d)

@@ -1,4 +1,4 @@
-use Rattle.std.proofs.Common.{◌≡◌, ◌∙◌, Ok, Err, sym, subst, ap}
+use Rattle.std.proofs.Common.{◌∙◌, Ok, Err, sym, subst, ap}
 use Rattle.sync_server.specs.Keeping.{HasKept}
 use Rattle.budget_ports.specs.Faults.{count_after}
 use Rattle.sync_server.specs.Asking.{IsAsked}
