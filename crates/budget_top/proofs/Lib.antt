@@ -38,3 +38,4 @@ pub mod Growing
 pub mod Visits
 pub mod Behind
 pub mod ServeEnds
+pub mod Staying

@@ -1,5 +1,5 @@
 -- What a run has done, in each mode, and what its status tells.
-use Rattle.std.specs.Prelude.{◌≡◌, ◌≢◌, ◌⊎◌, ◌==◌, ℕ, Bool, true, List, Option, Some, Ok, IsErr}
+use Rattle.std.specs.Prelude.{◌≡◌, ◌≢◌, ◌⊎◌, ◌==◌, ℕ, Bool, true, false, List, Some, Ok, IsErr}
 use Rattle.budget_ports.specs.Faults.{count_after}
 use Rattle.budget_top.specs.declared.words.Mode.{Mode}
 use Rattle.budget_top.specs.declared.words.Mode.TheVariants.{Merge, Device, Serve}

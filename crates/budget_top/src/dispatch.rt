@@ -7,6 +7,7 @@ ghost use Rattle.budget_top.specs.Ran.{Ran};
 use crate::device_run::run_device;
 use crate::merge::run_merge;
 use crate::planning::plan;
+use crate::serve_run::run_serve;
 use crate::words::{Mode, WordFault};
 use budget_ports::{Door, Keeper, Link, Sink, Source, WallClock};
 use field_values::{Items, Steps, Txt};
@@ -55,8 +56,8 @@ pub fn refusal_status(fault: WordFault) -> u8
 
 /// Does what the words ask for, and answers the status: 0, all was done; 1, all was done, and a line was
 /// refused; 2, the words are refused, and nothing was touched; 3, a record that is kept is no message, and
-/// no line was taken; 4, 5, 6, the source, the sink or the keeper failed; 7, memory ran out; 9, the source
-/// gave more than 1,073,741,824 bytes.
+/// no line was taken; 4, 5, 6, the source, the sink or the keeper failed; 7, memory ran out; 8, the door failed
+/// to let a connection in; 9, the source gave more than 1,073,741,824 bytes.
 ///
 /// The words leave out the program's name. The first event that ends the run decides the status.
 pub fn run<S: Source, W: Sink, K: Keeper, L: Link, D: Door, C: WallClock, G: Ledger>(
@@ -85,7 +86,7 @@ pub fn run<S: Source, W: Sink, K: Keeper, L: Link, D: Door, C: WallClock, G: Led
             (Mode::Device, Some(node)) => {
                 run_device(alloc, node, source, sink, keeper, link, clock, steps)
             }
-            (Mode::Serve, _) => DOOR_FAILED,
+            (Mode::Serve, _) => run_serve(alloc, &plan, sink, keeper, door),
             // no plan of a device lacks its node
             (Mode::Device, None) => unreachable!(),
         },

@@ -13,7 +13,7 @@ use crate::words::Plan;
 use budget_ports::{Door, Keeper, PortFault, Sink};
 use field_values::{NoMemory, Txt};
 use std::alloc::Global;
-use sync_server::{ServerState, ServesOne};
+use sync_server::{ServerState, serve_one};
 
 /// The name under which the group of a file is kept.
 fn name_of(alloc: Global, file: &Txt) -> Result<Txt, NoMemory>
@@ -43,8 +43,7 @@ fn put_group<K: Keeper>(
 }
 
 /// Serves so many connections, one after the other, tells how each ended, and gives the status.
-fn serve_all<V: ServesOne, W: Sink, K: Keeper, D: Door>(
-    server: &V,
+fn serve_all<W: Sink, K: Keeper, D: Door>(
     alloc: Global,
     state: &mut ServerState,
     count: u32,
@@ -60,7 +59,7 @@ fn serve_all<V: ServesOne, W: Sink, K: Keeper, D: Door>(
 {
     let mut number = 0;
     'connections: while number < count {
-        let Ok(end) = server.serve_one(alloc, state, keeper, door) else {
+        let Ok(end) = serve_one(alloc, state, keeper, door) else {
             return DOOR_FAILED;
         };
         number += 1;
@@ -73,8 +72,7 @@ fn serve_all<V: ServesOne, W: Sink, K: Keeper, D: Door>(
 
 /// Gives the file its group, serves the connections, and gives the status. All memory that the run itself wants is
 /// taken before a connection is let in.
-pub fn run_serve<V: ServesOne, W: Sink, K: Keeper, D: Door>(
-    server: &V,
+pub fn run_serve<W: Sink, K: Keeper, D: Door>(
     alloc: Global,
     plan: &Plan,
     sink: &mut W,
@@ -90,7 +88,7 @@ pub fn run_serve<V: ServesOne, W: Sink, K: Keeper, D: Door>(
         return NO_MEMORY;
     };
     match put_group(alloc, keeper, &plan.file, &plan.group) {
-        Ok(()) => serve_all(server, alloc, &mut state, plan.count, sink, keeper, door),
+        Ok(()) => serve_all(alloc, &mut state, plan.count, sink, keeper, door),
         Err(PortFault::Failed) => KEEPER_FAILED,
         Err(PortFault::NoMemory) => NO_MEMORY,
     }
