@@ -11,14 +11,14 @@ use std::io::{ErrorKind, Read, Write};
 use std::net::{Net, Shutdown, TcpListener, TcpStream};
 use std::time::{Clock, Duration, Instant};
 
-/// How long a read or a write waits for the other side: half a minute.
-const PATIENCE: Duration = Duration::from_secs(30);
+/// How many seconds a read or a write waits for the other side.
+const PATIENCE: u64 = 30;
 
-/// How long a connection may be open in all before a read or a write of it begins: ten minutes.
-const LONGEST: Duration = Duration::from_secs(600);
+/// How many seconds a connection may be open before a read or a write of it begins.
+const LONGEST: u64 = 600;
 
-/// How long the other side is waited for once all is written: two seconds a read.
-const PARTING: Duration = Duration::from_secs(2);
+/// How many seconds a read waits for the other side once all is written.
+const PARTING: u64 = 2;
 
 /// How many reads there are at most once all is written.
 const LAST_READS: usize = 1024;
@@ -33,8 +33,9 @@ struct Visit {
 impl Visit {
     /// A connection that is open from now on, whose reads and writes wait no longer than the limit.
     fn begin<C: Clock>(stream: TcpStream, clock: &C) -> io::Result<Visit> {
-        stream.set_read_timeout(Some(PATIENCE))?;
-        stream.set_write_timeout(Some(PATIENCE))?;
+        let patience = Some(Duration::from_secs(PATIENCE));
+        stream.set_read_timeout(patience)?;
+        stream.set_write_timeout(patience)?;
         stream.set_nodelay(true)?;
         let since = Instant::now(clock)?;
         Ok(Visit { stream, since })
@@ -42,7 +43,7 @@ impl Visit {
 
     /// Fails where the connection is open for too long.
     fn in_time<C: Clock>(&self, clock: &C) -> io::Result<()> {
-        if self.since.elapsed(clock)? > LONGEST {
+        if self.since.elapsed(clock)?.as_secs() > LONGEST {
             return Err(ErrorKind::TimedOut.into());
         }
         Ok(())
@@ -68,7 +69,8 @@ impl Visit {
     /// connection that is given up with bytes left to read takes back what was written to it.
     fn end(mut self) -> io::Result<()> {
         self.stream.shutdown(Shutdown::Write)?;
-        self.stream.set_read_timeout(Some(PARTING))?;
+        self.stream
+            .set_read_timeout(Some(Duration::from_secs(PARTING)))?;
         let mut buffer = [0u8; 4096];
         for _ in 0..LAST_READS {
             if self.stream.read(&mut buffer)? == 0 {
