@@ -1,7 +1,6 @@
 -- Where a server stands behind one more connection.
-use Rattle.std.proofs.Common.{◌≡◌, ◌≢◌, ℕ, ◌+◌, Bool, List, [], ◌∷◌, ◌++◌, length, map, drop, Option, None, Some, refl, sym, ap, subst, ◌∙◌, inl, inr, append_assoc, append-nil, arith}
+use Rattle.std.proofs.Common.{◌≡◌, ℕ, ◌+◌, List, [], ◌∷◌, ◌++◌, length, map, drop, Option, None, Some, refl, sym, ap, subst, ◌∙◌, inl, inr, append_assoc, append-nil, arith}
 use Rattle.std.specs.List.{Contains}
-use Rattle.std.proofs.lemmas.List.{map-append}
 use Rattle.std.proofs.lemmas.List.Elements.{Contains-append_cases}
 use Rattle.budget_ports.specs.declared.keeper.Record.{Record}
 use Rattle.budget_ports.specs.Connections.{LetsIn, next_bytes}
@@ -12,9 +11,8 @@ use Rattle.field_merge.specs.declared.message.Message.{Message}
 use Rattle.field_merge.specs.Log.{join}
 use Rattle.kept_messages.proofs.Groups.{of_cons}
 use Rattle.sync_wire.specs.declared.request.SyncRequest.{SyncRequest}
-use Rattle.sync_server.specs.declared.refusal.Refusal.{Refusal}
 use Rattle.sync_server.specs.declared.served.Served.{Served}
-use Rattle.sync_server.specs.Serving.{Found, Verdict, Ends, Refuses, Accepts, Decides, Visit, IsServed, kept_after, batch_of}
+use Rattle.sync_server.specs.Serving.{Verdict, Ends, Refuses, Accepts, Decides, Visit, IsServed, kept_after, batch_of}
 use Rattle.sync_server.specs.Outside.{IsNext, Gains, HasFound, HasServed}
 use Rattle.budget_top.specs.Serving.{Turn, AreServed, kept_by, keeper_faults_by, door_faults_by, AreNext, ComeIn, GoOut, end_line, end_lines_from, end_lines}
 use Rattle.budget_top.specs.Answers.{KeepsAll, IsAnswered, KeepAnswered}
@@ -69,7 +67,7 @@ pub served_along : (T U : Type 0) (token : Text) (k l : Contents) (ts : List Tur
 served_along T U token k l [] told same h = tt
 served_along T U token k l (t ∷ ts) told same h = (
   served_on token (λ q found. T → HasFound k q found) (λ q found. U → HasFound l q found)
-  (λ q found f u. subst (λ (x : Contents). HasFound x q found) (same u) (f (told u))) t.visit t.end h.0,
+      (λ q found f u. subst (λ (x : Contents). HasFound x q found) (same u) (f (told u))) t.visit t.end h.0,
   served_along T U token (kept_after t.visit.verdict k) (kept_after t.visit.verdict l) ts told (λ u. ap (kept_after t.visit.verdict) (same u)) h.1,
 )
 
@@ -95,7 +93,7 @@ no_batch : (k : Contents) (g : Text) (rs : List Record) → rs ≡ [] → append
 no_batch k g rs is = ap (λ xs. appended k g xs) is
 
 module _ (token : Text) (entry before now : AtDoor) (turns : List Turn) (b : Behind token entry turns before) (visit : Visit) (end : Served)
-  (h : HasServed token visit end before.waiting now.waiting before.outs now.outs before.door_faults now.door_faults before.tells now.tells before.contents now.contents before.left now.left before.keeper_faults now.keeper_faults) where
+    (h : HasServed token visit end before.waiting now.waiting before.outs now.outs before.door_faults now.door_faults before.tells now.tells before.contents now.contents before.left now.left before.keeper_faults now.keeper_faults) where
   abbrev turn : Turn
   turn = record { visit = visit; end = end }
 

@@ -1,5 +1,5 @@
 -- What a group keeps when records are added.
-use Rattle.std.proofs.Common.{◌≡◌, ◌≢◌, Bool, true, false, cond, ◌&&◌, ℕ, List, [], ◌∷◌, map, None, Some, Result, Ok, Err, inl, inr, refl, sym, ap, subst, ◌∙◌, Ordering, Less, Equal, Greater}
+use Rattle.std.proofs.Common.{◌≡◌, ◌≢◌, Bool, true, false, cond, ◌&&◌, ℕ, List, [], ◌∷◌, map, Result, Ok, inl, inr, refl, sym, ap, subst, ◌∙◌, Less, Equal, Greater}
 use Rattle.std.specs.Prelude.{bytes_eq}
 use Rattle.std.specs.List.{Contains, list_any}
 use Rattle.std.specs.Ordering.{is_eq, is_lt}
@@ -20,7 +20,6 @@ use Rattle.kept_messages.specs.Holding.{Holds}
 use Rattle.kept_messages.proofs.OneRecord.{group, skip, hold}
 use Rattle.kept_messages.proofs.KeptSets.{batches_kept}
 use Rattle.kept_messages.proofs.Members.{still_there}
-use Rattle.budget_top.specs.Answers.{KeepsAll}
 use Rattle.budget_top.specs.ServeSteps.{KeepsMore}
 
 -- ---- records of another group

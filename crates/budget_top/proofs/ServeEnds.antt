@@ -1,5 +1,5 @@
 -- How a server's run goes on and ends.
-use Rattle.std.proofs.Common.{◌≡◌, ℕ, ◌+◌, ◌<◌, ◌≤◌, List, [], ◌∷◌, ◌++◌, length, Option, None, Some, true, refl, sym, ap, subst, ◌∙◌, arith}
+use Rattle.std.proofs.Common.{◌≡◌, ℕ, ◌+◌, ◌<◌, List, [], ◌∷◌, ◌++◌, length, Option, None, Some, true, refl, sym, ap, subst, ◌∙◌, arith}
 use Rattle.std.proofs.KnownBytes.{Appends-trans, Appends-nil}
 use Rattle.std.specs.Io.KnownBytes.{Appends}
 use Rattle.budget_ports.specs.Connections.{Stays}
@@ -11,7 +11,7 @@ use Rattle.sync_server.specs.Serving.{Visit}
 use Rattle.sync_server.specs.Outside.{HasServed as HasServedOne}
 use Rattle.budget_top.specs.Fronts.{IsFront, AppendsFront}
 use Rattle.budget_top.specs.Serving.{Turn, AreServed, kept_by, keeper_faults_by, AreNext, ComeIn, GoOut, end_line, end_lines}
-use Rattle.budget_top.specs.ServeRun.{AtDoor, HasServed, CutsLine}
+use Rattle.budget_top.specs.ServeRun.{AtDoor, HasServed}
 use Rattle.budget_top.specs.ServeSteps.{Behind, ServedSoFar}
 use Rattle.budget_top.proofs.Standing.{appends_as}
 use Rattle.budget_top.proofs.Behind.{behind_none, behind_now, served_along, lines_last, turns_last}
@@ -38,6 +38,7 @@ all_served token entry now number count s is = record {
   turns = s.turns;
   few = omega (arith, s.many, is);
   all = λ e. s.many ∙ is;
+  more = λ e. absurd (omega (arith, e));
   came = s.behind.came;
   went = s.behind.went;
   served = s.behind.served;
@@ -58,6 +59,7 @@ shut_out token entry before number count waiting outs faults s less w o f = reco
   turns = s.turns;
   few = omega (arith, s.many, less);
   all = λ e. absurd (omega (arith, e));
+  more = λ e. omega (arith, s.many, less);
   came = come_still entry.waiting before.waiting waiting s.turns s.behind.came w;
   went = went_still entry.outs before.outs outs s.turns s.behind.went o;
   served = s.behind.served;
@@ -70,7 +72,7 @@ shut_out token entry before number count waiting outs faults s less w o f = reco
 }
 
 module _ (token own : Text) (entry before now : AtDoor) (number count : ℕ) (s : ServedSoFar token entry number before) (same : own ≡ token) (visit : Visit) (end : Served)
-  (h : HasServedOne own visit end before.waiting now.waiting before.outs now.outs before.door_faults now.door_faults before.tells now.tells before.contents now.contents before.left now.left before.keeper_faults now.keeper_faults) where
+    (h : HasServedOne own visit end before.waiting now.waiting before.outs now.outs before.door_faults now.door_faults before.tells now.tells before.contents now.contents before.left now.left before.keeper_faults now.keeper_faults) where
   abbrev turn : Turn
   turn = record { visit = visit; end = end }
 
@@ -105,6 +107,7 @@ module _ (token own : Text) (entry before now : AtDoor) (number count : ℕ) (s 
     turns = all;
     few = omega (arith, many, less);
     all = λ e. absurd (omega (arith, e));
+    more = λ e. absurd (omega (arith, e));
     came = here.came;
     went = here.went;
     served = here.served;
@@ -134,6 +137,7 @@ opened token own count first middle status old now faults tells left is same fro
   turns = h.turns;
   few = h.few;
   all = h.all;
+  more = h.more;
   came = h.came;
   went = h.went;
   served =

@@ -1,6 +1,5 @@
 -- What was answered is right, and stays.
 use Rattle.std.proofs.Common.{◌≡◌, List, [], ◌∷◌, ◌++◌, Ok, refl, sym, ap, subst, ◌∙◌, arith}
-use Rattle.std.specs.List.{Contains}
 use Rattle.budget_ports.specs.Contents.{Contents, Text, records_after}
 use Rattle.field_merge.specs.declared.message.Message.{Message}
 use Rattle.field_merge.specs.Log.{join}
@@ -8,13 +7,10 @@ use Rattle.kept_messages.specs.Records.{kept_set}
 use Rattle.kept_messages.proofs.Groups.{of_cons}
 use Rattle.kept_messages.proofs.Starting.{rising_set}
 use Rattle.sync_wire.specs.declared.request.SyncRequest.{SyncRequest}
-use Rattle.sync_wire.specs.Canon.{response_bytes}
-use Rattle.sync_server.specs.declared.refusal.Refusal.{Refusal}
 use Rattle.sync_server.specs.declared.served.Served.{Served}
 use Rattle.sync_server.specs.declared.served.Served.TheVariants as served
 use Rattle.sync_server.specs.Answer.{answer_of}
 use Rattle.sync_server.specs.Laws.{AnswersTell}
-use Rattle.sync_server.specs.Replies.{accepted_bytes}
 use Rattle.sync_server.specs.Serving.{Found, Verdict, Ends, Refuses, Accepts, reply_of, Decides, Visit, IsServed, kept_after}
 use Rattle.sync_server.specs.Outside.{HasFound}
 use Rattle.budget_top.specs.Serving.{Turn, AreServed, kept_by}

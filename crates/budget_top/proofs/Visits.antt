@@ -1,8 +1,7 @@
 -- One connection: what its verdict makes of the contents.
-use Rattle.std.proofs.Common.{◌≡◌, ℕ, ◌<◌, ◌≤◌, ◌==◌, Bool, true, false, cond, List, [], ◌∷◌, ◌++◌, length, take, Option, Some, None, Result, Ok, Err, refl, sym, ap, subst, ◌∙◌}
+use Rattle.std.proofs.Common.{◌≡◌, ℕ, ◌==◌, Bool, true, false, cond, List, [], length, take, Option, Some, None, Result, Ok, Err, refl, sym, ap, subst, ◌∙◌}
 use Rattle.std.specs.Prelude.{bytes_eq}
-use Rattle.budget_ports.specs.declared.keeper.Record.{Record}
-use Rattle.budget_ports.specs.Contents.{Contents, Text, records_after, appended}
+use Rattle.budget_ports.specs.Contents.{Contents, Text, records_after}
 use Rattle.field_merge.specs.declared.message.Message.{Message}
 use Rattle.field_merge.specs.Log.{join}
 use Rattle.field_merge.specs.Messages.{AreMessages}
@@ -12,7 +11,7 @@ use Rattle.sync_server.specs.declared.refusal.Refusal.{Refusal}
 use Rattle.sync_server.specs.declared.refusal.Refusal.TheVariants.{FileHasReset, SinceRequired, EncryptedMessage}
 use Rattle.sync_server.specs.declared.served.Served.{Served}
 use Rattle.sync_server.specs.declared.served.Served.TheVariants as served
-use Rattle.sync_server.specs.Serving.{Found, found_in, Verdict, Ends, Refuses, Accepts, judge_set, judge_found, judge_request, DecidesBody, DecidesRest, Decides, Means, Visit, IsServed, kept_after, batch_of}
+use Rattle.sync_server.specs.Serving.{Found, Verdict, Ends, Refuses, Accepts, judge_set, judge_found, judge_request, DecidesBody, DecidesRest, Decides, Means, Visit, IsServed, kept_after}
 use Rattle.sync_server.specs.Outside.{HasFound}
 use Rattle.budget_top.specs.Answers.{KeepsAll}
 use Rattle.budget_top.specs.ServeSteps.{KeepsMore}
@@ -35,7 +34,7 @@ module _ (token : Text) (F G : SyncRequest → Found → Type 0) (on : (q : Sync
   decides_on came v (Decides.by_head head more rest front has r) = Decides.by_head head more rest front has (rest_on rest _ v r)
   decides_on came v (Decides.too_large none long e) = Decides.too_large none long e
   decides_on came v (Decides.no_head never e) = Decides.no_head never e
-  decides_on came v (Decides.ended none less e) = Decides.ended none less e
+  decides_on came v (Decides.bytes_end none less e) = Decides.bytes_end none less e
 
   means_on : (came : List ℕ) (failed : Bool) (v : Verdict) → Means token F came failed v → Means token G came failed v
   means_on came failed v (Means.decided is d) = Means.decided is (decides_on came v d)
@@ -92,7 +91,7 @@ module _ (token : Text) (k : Contents) (ms : List Message) (q : SyncRequest) whe
   good came v is (Decides.by_head head more rest front has r) = good_rest rest _ v is r
   good came v is (Decides.too_large none long e) = absurd (let no = sym is ∙ e in cc)
   good came v is (Decides.no_head never e) = absurd (let no = sym is ∙ e in cc)
-  good came v is (Decides.ended none less e) = absurd (let no = sym is ∙ e in cc)
+  good came v is (Decides.bytes_end none less e) = absurd (let no = sym is ∙ e in cc)
 
 -- what is decided of contents keeps all that they keep
 pub decided_more : (token : Text) (k : Contents) (came : List ℕ) (v : Verdict) → Decides token (HasFound k) came v → KeepsMore k (kept_after v k)

@@ -1,5 +1,5 @@
 -- What a run of the mode `serve` has done, by its status.
-use Rattle.std.specs.Prelude.{◌≡◌, ◌≢◌, ◌⊎◌, ◌==◌, ◌≤◌, ℕ, List, [], ◌∷◌, ◌++◌, length, Option, IsTrue}
+use Rattle.std.specs.Prelude.{◌≡◌, ◌≢◌, ◌⊎◌, ◌==◌, ◌<◌, ◌≤◌, ℕ, List, [], ◌∷◌, ◌++◌, length, Option, IsTrue}
 use Rattle.std.specs.List.{list_any}
 use Rattle.std.specs.Io.KnownBytes.{Appends}
 use Rattle.budget_ports.specs.Faults.{count_after}
@@ -77,6 +77,7 @@ pub record HasServed (token : Text) (count : ℕ) (first : Contents) (status : �
   pub turns : List Turn
   pub few : length turns ≤ count
   pub all : status ≡ 0 → length turns ≡ count
+  pub more : status ≡ 8 → length turns < count
   pub came : ComeIn old.waiting now.waiting turns
   pub went : GoOut old.outs now.outs turns
   pub served : AreServed now.tells token first turns
