@@ -1,5 +1,5 @@
 -- The numbers that are added up stay such as a value may hold.
-use Rattle.std.proofs.Common.{◌≡◌, Bool, true, false, cond, Option, Some, None, refl, ap, sym, ◌∙◌, if◌then◌else◌, subst}
+use Rattle.std.proofs.Common.{◌≡◌, Bool, true, false, cond, Option, Some, None, refl, sym, ◌∙◌, if◌then◌else◌, subst}
 use Rattle.std.specs.Prelude.{is_some, unwrap_or}
 use lib.IntN.{ℤ}
 use Rattle.std.specs.Ordering.{eq_by_cmp}

@@ -1,10 +1,9 @@
 -- A book without rows.
-use Rattle.std.proofs.Common.{◌≡◌, ℕ, Bool, true, false, List, [], ◌∷◌, Option, Some, None, refl, sym, ap, ◌∙◌, length, arith}
+use Rattle.std.proofs.Common.{◌≡◌, ℕ, List, [], ◌∷◌, Some, None, refl, sym, ap, ◌∙◌, length, arith}
 use Rattle.std.specs.Prelude.{◌||◌}
 use Rattle.std.specs.Ordering.{nat_cmp}
 use Rattle.std.specs.List.{list_any}
 use Rattle.std.specs.BTreeMap as tree
-use Rattle.std.specs.BTreeMap.{BTreeMap}
 use Rattle.std.specs.BTreeSet as set
 use Rattle.std.specs.BTreeSet.{BTreeSet}
 use Rattle.std.specs.Map.{lookup}
@@ -17,7 +16,7 @@ use Rattle.book_rows.specs.declared.rows.MonthRow.{MonthRow}
 use Rattle.book_rows.specs.declared.txs.TxIndex.{TxIndex}
 use Rattle.book_rows.specs.Months.{budget_month, month_row_month}
 use Rattle.book_rows.specs.Parts.{is_text}
-use Rattle.book_rows.specs.Book.{IsIndexed, keys_of, has_id, holds, is_month_of, has_named, dated_cmp}
+use Rattle.book_rows.specs.Book.{IsIndexed, keys_of, has_id, is_month_of, dated_cmp}
 
 no_entries : {X : Type 0} (m : Texts X) → m ≡ map.empty → map.entries m ≡ []
 no_entries m h = ap map.entries h ∙ none _ (sym (map.len-entries map.empty) ∙ map.len-empty _ _)

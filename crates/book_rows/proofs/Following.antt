@@ -1,7 +1,7 @@
 -- The rows of a book follow the values of fields.
-use Rattle.std.proofs.Common.{◌≡◌, ◌==◌, ℕ, Bool, true, false, cond, List, [], ◌∷◌, Option, Some, None, refl, sym, ap, ap₂, ◌∙◌, if◌then◌else◌, nat_eq, true≢false}
+use Rattle.std.proofs.Common.{◌≡◌, Bool, true, false, cond, List, [], ◌∷◌, Option, Some, None, refl, sym, ap, ap₂, ◌∙◌, if◌then◌else◌, nat_eq, true≢false}
 use Rattle.std.specs.Prelude.{◌&&◌, is_some, unwrap_or}
-use Rattle.std.specs.Ordering.{is_eq, eq_by_cmp}
+use Rattle.std.specs.Ordering.{eq_by_cmp}
 use Rattle.std.specs.Cmp.Lexicographic.{pointwise, texts_ties}
 use Rattle.std.specs.List.{list_any}
 use Rattle.std.specs.FinMap as map
@@ -18,7 +18,7 @@ use Rattle.book_rows.specs.Columns.{dataset_name, column_name, same_column, all_
 use Rattle.book_rows.specs.Tables.{Table, blank_row, has_column, row_at, with_column}
 use Rattle.book_rows.specs.Rules.{account_table, group_table, category_table, payee_table, tx_table, budget_table, month_table, note_table, rule_table, schedule_table}
 use Rattle.book_rows.specs.Rows.{Values, values_at, AreTableOf, AreRowsOf, with_known, with_field, with_value, no_rows, kind_of, known_kind, with_cell, dataset_kind}
-use Rattle.book_rows.proofs.Pairs.{is_equal, itself}
+use Rattle.book_rows.proofs.Pairs.{is_equal}
 use Rattle.book_rows.proofs.Keyed.{row_after, others_stay}
 use Rattle.book_rows.proofs.Naming.{text_is, is_text_itself, dataset_named, column_named, dataset_found, column_found, no_column, some_column, column_is, names_tell}
 use Rattle.book_rows.proofs.RowFields.{IsTable, with_one, account_is, group_is, category_is, payee_is, tx_is, budget_is, month_is, note_is, rule_is, schedule_is}

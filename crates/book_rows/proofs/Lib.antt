@@ -9,3 +9,5 @@ pub mod Empty
 pub mod Naming
 pub mod RowFields
 pub mod Following
+pub mod Balances
+pub mod RowNames

@@ -1,5 +1,5 @@
 -- The ids that an index lists are those of the rows that pass.
-use Rattle.std.proofs.Common.{◌≡◌, Bool, true, false, List, Option, Some, None, Result, Ok, Err, IfOk, refl, sym, ap, ◌∙◌, if◌then◌else◌}
+use Rattle.std.proofs.Common.{◌≡◌, Bool, true, false, List, Option, Some, None, Result, Ok, Err, IfOk, refl, ◌∙◌, if◌then◌else◌}
 use Rattle.std.specs.Prelude.{◌&&◌}
 use Rattle.std.specs.Ordering.{eq_by_cmp}
 use Rattle.std.specs.List.{list_any}
@@ -24,7 +24,7 @@ child_there : (key : Text) (o : Option TxRow) → is_text key (keys_of o).parent
 child_there key None = refl
 child_there key (Some x) = parent_is key x
 
-account_there : (key : Text) (o : Option TxRow) → is_text key (keys_of o).account ≡ some_and (is_in_account key) o
+pub account_there : (key : Text) (o : Option TxRow) → is_text key (keys_of o).account ≡ some_and (is_in_account key) o
 account_there key None = refl
 account_there key (Some x) = refl
 

@@ -1,10 +1,9 @@
 -- Each name is that of one dataset or of one column, and each dataset and column is found by its name.
 use Rattle.std.proofs.Common.{◌≡◌, ◌==◌, ℕ, zero, suc, Bool, true, false, List, [], ◌∷◌, Option, Some, None, refl, sym, ap, ◌∙◌, if◌then◌else◌, nat_eq, true≢false, codes, arith}
 use Rattle.std.specs.Prelude.{◌||◌}
-use Rattle.std.specs.Ordering.{is_eq, eq_by_cmp}
 use Rattle.std.specs.Cmp.Lexicographic.{pointwise, texts_ties}
 use Rattle.std.specs.List.{list_any}
-use Rattle.finite_sums.specs.Maps.{Text, text_cmp}
+use Rattle.finite_sums.specs.Maps.{Text}
 use Rattle.finite_sums.proofs.Texts.{text_same}
 use Rattle.book_rows.specs.declared.column.Dataset.{Dataset}
 use Rattle.book_rows.specs.declared.column.Dataset.TheVariants.{Accounts, CategoryGroups, Categories, Payees, Transactions, ZeroBudgets, ZeroBudgetMonths, Notes, Rules, Schedules}

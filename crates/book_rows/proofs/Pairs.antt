@@ -1,5 +1,5 @@
 -- Pairs of a key and an id, put into an index and taken out.
-use Rattle.std.proofs.Common.{◌≡◌, ◌==◌, ℕ, Bool, true, false, cond, List, [], Option, Some, None, Result, Ok, Err, OnOk, refl, ap, sym, ◌∙◌}
+use Rattle.std.proofs.Common.{◌≡◌, ◌==◌, ℕ, Bool, true, false, cond, [], Option, Some, None, Result, Ok, Err, OnOk, refl, ap, sym, ◌∙◌}
 use Rattle.std.specs.Option.{option_eq}
 use Rattle.std.specs.Cmp.Lexicographic.{pointwise, texts_ties}
 use Rattle.std.specs.Prelude.{◌&&◌}

@@ -1,5 +1,5 @@
 -- The row that the values of columns make, and one of them set.
-use Rattle.std.proofs.Common.{◌≡◌, Bool, true, false, Option, Some, None, refl, sym, ap, ◌∙◌, if◌then◌else◌}
+use Rattle.std.proofs.Common.{◌≡◌, true, refl, if◌then◌else◌}
 use Rattle.std.specs.Prelude.{is_some}
 use Rattle.field_values.specs.declared.value.Value.{Value}
 use Rattle.finite_sums.specs.Maps.{Text}

@@ -1,10 +1,9 @@
 -- The first and the last of the months that rows have.
-use Rattle.std.proofs.Common.{◌≡◌, ◌⊎◌, inl, inr, ℕ, zero, suc, ◌≤◌, min, max, Bool, true, false, cond, List, [], ◌∷◌, map, Option, Some, None, refl, sym, ap, ap₂, ◌∙◌, true≢false, arith, subst}
+use Rattle.std.proofs.Common.{◌≡◌, ◌⊎◌, inl, inr, ℕ, zero, suc, min, max, Bool, true, false, cond, List, [], ◌∷◌, map, Option, Some, None, refl, sym, ap, ap₂, ◌∙◌, true≢false, arith, subst}
 use Rattle.std.specs.Prelude.{◌||◌}
 use Rattle.std.specs.Ordering.{eq_by_cmp, nat_cmp}
 use Rattle.std.specs.Cmp.{eq_by_cmp_equiv, nat_cmp_total}
 use Rattle.std.specs.List.{filter, list_any}
-use Rattle.std.specs.BTreeSet as set
 use Rattle.std.specs.BTreeSet.{BTreeSet}
 use Rattle.std.specs.FinMap as map
 use Rattle.std.specs.FinMap.{nat_cmp-IsAntisymmetric, find}
@@ -18,8 +17,8 @@ use Rattle.book_rows.specs.declared.rows.BudgetRow.{BudgetRow}
 use Rattle.book_rows.specs.declared.rows.MonthRow.{MonthRow}
 use Rattle.book_rows.specs.Laws.{HasRowIn, WindowsSpan}
 use Rattle.book_rows.specs.Months.{month_of_row, budget_month, month_row_month, hull, month_span, span_of, window_of}
-use Rattle.book_rows.specs.Book.{IsTxIndex, IsIndexed, keys_of, is_month_of, has_named, dated_cmp}
-use Rattle.book_rows.specs.Spans.{IsSpan, Spans, HasDated, HasMonth}
+use Rattle.book_rows.specs.Book.{IsIndexed, keys_of, is_month_of, has_named}
+use Rattle.book_rows.specs.Spans.{Spans, HasDated, HasMonth}
 use Rattle.book_rows.proofs.Pairs.{is_equal, itself}
 
 never : {P : Type 0} → false ≡ true → P

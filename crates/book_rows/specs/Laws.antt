@@ -1,5 +1,5 @@
 -- What the laws say.
-use Rattle.std.specs.Prelude.{ℕ, ◌≡◌, ◌↔◌, ◌⊎◌, Bool, true, false, Option, None, Some, IsSome, if◌then◌else◌}
+use Rattle.std.specs.Prelude.{ℕ, ◌≡◌, ◌↔◌, ◌⊎◌, Bool, true, false, None, Some, IsSome}
 use Rattle.std.specs.FinMap as map
 use Rattle.field_values.specs.declared.value.Value.{Value}
 use Rattle.field_values.specs.Names.{FieldNames}
@@ -12,7 +12,7 @@ use Rattle.book_rows.specs.declared.rows.TxRow.{TxRow}
 use Rattle.book_rows.specs.declared.rows.BudgetRow.{BudgetRow}
 use Rattle.book_rows.specs.declared.rows.MonthRow.{MonthRow}
 use Rattle.book_rows.specs.Rows.{Values, AreRowsOf, no_rows, with_field, with_value, kind_of}
-use Rattle.book_rows.specs.Live.{is_live_tx, is_alive, is_counted, is_live_category, is_income_category, is_expense_category}
+use Rattle.book_rows.specs.Live.{is_live_tx, is_counted, is_live_category, is_income_category, is_expense_category}
 use Rattle.book_rows.specs.Months.{month_of_row, budget_month, month_row_month, window_of}
 use Rattle.book_rows.specs.Spans.{Spans}
 

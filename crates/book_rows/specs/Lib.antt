@@ -9,3 +9,8 @@ pub mod Months
 pub mod Book
 pub mod Spans
 pub mod Laws
+pub mod Writes
+pub mod Balances
+pub mod Faults
+pub mod Ids
+pub mod Named

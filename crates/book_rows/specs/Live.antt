@@ -1,5 +1,5 @@
 -- Which rows are live, and which transactions count.
-use Rattle.std.specs.Prelude.{Bool, true, false, not, ◌&&◌, Option, None, Some, is_some, if◌then◌else◌}
+use Rattle.std.specs.Prelude.{Bool, true, not, ◌&&◌, Option, is_some, if◌then◌else◌}
 use Rattle.std.specs.FinMap as map
 use Rattle.finite_sums.specs.Maps.{Text, some_and}
 use Rattle.book_rows.specs.declared.rows.Rows.{Rows}

@@ -1,8 +1,9 @@
 -- Tables: how the values of fields make the rows of a dataset.
-use Rattle.std.specs.Prelude.{ℕ, Bool, ◌&&◌, List, Option, None, Some, is_some, unwrap_or, if◌then◌else◌}
+use Rattle.std.specs.Prelude.{◌≡◌, Bool, ◌&&◌, Option, None, Some, is_some, unwrap_or, if◌then◌else◌}
 use Rattle.std.specs.List.{list_any}
 use Rattle.std.specs.Coded.{Coded, coded_list, coded_ℕ}
 use Rattle.std.specs.FinMap as map
+use Rattle.field_values.specs.Names.{IsName}
 use Rattle.field_values.specs.declared.value.Value.{Value}
 use Rattle.field_values.specs.declared.value.Value.TheVariants.{Null}
 use Rattle.finite_sums.specs.Maps.{Text, Texts}
@@ -39,3 +40,7 @@ with_column table id column value rows =
 -- how rows by id are stored: as a map from texts
 abbrev pub texts_code : {X : Type 0} → Coded X → Coded (Texts X)
 texts_code code = map.code (coded_list coded_ℕ) code
+
+-- each id that has a row is a name
+abbrev pub AreNamed : {Row : Type 0} → Texts Row → Type 0
+AreNamed {Row} rows = (id : Text) (x : Row) → map.get rows id ≡ Some x → IsName id

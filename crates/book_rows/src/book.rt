@@ -1,18 +1,25 @@
 //! A book: the rows that the fields of messages make.
-ghost use Rattle.std.specs.Prelude.{◌≡◌, ◌+◌, true, false, OnOk, OnErr, IfOk, length, is_some, if◌then◌else◌};
+ghost use Rattle.std.specs.Prelude.{◌≡◌, ◌+◌, true, false, OnOk, OnErr, IfOk, IsSome, length, is_some, if◌then◌else◌};
 ghost use Rattle.std.specs.Option.{option_copied};
 ghost use Rattle.std.specs.BTreeSet as set;
 ghost use Rattle.std.specs.FinMap as map;
+ghost use Rattle.field_values.specs.Names.{IsName};
 ghost use Rattle.field_values.specs.Value.{IsValue};
-ghost use Rattle.book_rows.specs.Rows.{no_rows, with_cell, with_field};
+ghost use Rattle.book_rows.specs.Rows.{no_rows, with_cell, with_field, kind_of};
 ghost use Rattle.book_rows.specs.Live.{is_live_tx, is_alive, has_parent};
 ghost use Rattle.book_rows.specs.Months.{month_of_tx, window_of};
 ghost use Rattle.book_rows.specs.Parts.{children_of, account_txs};
+ghost use Rattle.book_rows.specs.Balances.{adds, balance_of};
+ghost use Rattle.finite_sums.specs.Sums.{total};
+ghost use Rattle.finite_sums.specs.Maps.{text_cmp, value_or_zero};
+ghost use Rattle.std.specs.List.Sorted.{IsStrictlySortedBy};
+ghost use Rattle.book_rows.specs.Named.{HasNames};
 ghost use Rattle.book_rows.specs.Book.{HasSizes, IsIndexed};
 ghost use Rattle.book_rows.specs.Spans.{Spans, HasDated, HasMonth};
 
 use crate::column::{Column, Dataset, column_of, dataset_of};
 use crate::indexes::{Dated, list};
+use crate::known::dataset_kind;
 use crate::months::hull;
 use crate::rows::{
     AccountRow, BudgetRow, CategoryRow, GroupRow, MonthRow, NoteRow, PayeeRow, Rows, RuleRow,
@@ -69,6 +76,7 @@ fn set_cell(
     value: &Value,
 ) -> Result<(), NoMemory>
     requires indexed { IsIndexed index.old named.old rows.old.txs rows.old.budgets rows.old.months }
+    requires name { IsName id.now }
     requires valid { IsValue value.now }
     ensures rows { OnOk result (rows.new ≡ with_cell dataset id.now column value.now rows.old) }
     ensures indexed { OnOk result (IsIndexed index.new named.new rows.new.txs rows.new.budgets rows.new.months) }
@@ -87,7 +95,7 @@ fn set_cell(
     }
 }
 
-/// Sets a field, where its dataset and its column are known.
+/// Sets a field, where its dataset is known and has its column.
 fn set_field(
     alloc: Global,
     rows: &mut Rows,
@@ -100,6 +108,7 @@ fn set_field(
     requires valid { IsValue value.now }
     ensures rows { OnOk result (rows.new ≡ with_field rows.old field.now value.now) }
     ensures indexed { OnOk result (IsIndexed index.new named.new rows.new.txs rows.new.budgets rows.new.months) }
+    ensures memory { OnErr result (IsSome (kind_of field.now.dataset field.now.column)) }
 {
     let Some(dataset) = dataset_of(field.dataset()) else {
         return Ok(());
@@ -107,6 +116,9 @@ fn set_field(
     let Some(column) = column_of(field.column()) else {
         return Ok(());
     };
+    if dataset_kind(dataset, column).is_none() {
+        return Ok(());
+    }
     let id = Txt::from_text(alloc, field.row())?;
     set_cell(alloc, rows, index, named, dataset, &id, column, value)
 }
@@ -177,13 +189,15 @@ impl Book {
         self.spent
     }
 
-    /// Gives a field a value. A dataset or a column that a book doesn't know changes nothing.
+    /// Gives a field a value. A dataset that a book doesn't know, or a column that the dataset doesn't have, changes nothing, and
+    /// takes no memory.
     pub fn set(&mut self, field: &Field, value: &Value) -> Result<(), NoMemory>
         requires live { self.old.spent ≡ false }
         requires valid { IsValue value.now }
         ensures rows { OnOk result (self.new.rows ≡ with_field self.old.rows field.now value.now) }
         ensures kept { OnOk result (self.new.spent ≡ false) }
         ensures spent { OnErr result (self.new.spent ≡ true) }
+        ensures memory { OnErr result (IsSome (kind_of field.now.dataset field.now.column)) }
     {
         self.spent = true;
         set_field(
@@ -345,6 +359,13 @@ impl Book {
         self.rows.txs.all()
     }
 
+    /// Whether there is a transaction of this id, dead or alive. It takes no step.
+    pub fn has_tx(&self, id: &Txt) -> bool
+        ensures { result ≡ is_some (map.get self.now.rows.txs id.now) }
+    {
+        self.rows.txs.get(id).is_some()
+    }
+
     /// Whether a transaction is there and was not deleted, nor what it is a part of. It takes no step.
     pub fn alive(&self, id: &Txt) -> bool
         ensures { result ≡ is_alive self.now.rows id.now }
@@ -407,6 +428,47 @@ impl Book {
         list(self.alloc, &self.index.accounts, id, steps)
     }
 
+    /// What a transaction adds to the balance of its account.
+    fn added_by(&self, id: &Txt) -> i64
+        ensures { result ≡ value_or_zero (adds self.now.rows) (map.get self.now.rows.txs id.now) }
+    {
+        match self.rows.txs.get(id) {
+            Some(row) => {
+                if row.tombstone || row.is_parent || !self.has_parent(row) {
+                    0
+                } else {
+                    row.amount
+                }
+            }
+            None => 0,
+        }
+    }
+
+    /// What transactions add up to.
+    fn sum_of(&self, ids: &BTreeSet<Txt>) -> i128
+        ensures sorted { IsStrictlySortedBy text_cmp ids.now.keys }
+        ensures sum { result ≡ total (λ id. value_or_zero (adds self.now.rows) (map.get self.now.rows.txs id)) ids.now.keys }
+    {
+        let _ = ids.len();
+        let mut sum = 0i128;
+        for id in ids {
+            sum += i128::from(self.added_by(id));
+        }
+        sum
+    }
+
+    /// The balance of an account, in cents: what its transactions add up to, but for those that are dead, and for those that are
+    /// split, whose parts add up in their place. It looks at the transactions of this account alone, and takes no step.
+    pub fn balance(&self, account: &Txt) -> i128
+        requires live { self.now.spent ≡ false }
+        ensures { result ≡ balance_of self.now.rows account.now }
+    {
+        match self.index.accounts.get(account) {
+            Some(ids) => self.sum_of(ids),
+            None => 0,
+        }
+    }
+
     /// The first and the last month, YYYYMM, with a day of a transaction, dead or alive, or in the id of a budget row or of a month
     /// row. There is none where no row has a month.
     pub fn window(&self) -> Option<(u32, u32)>
@@ -414,6 +476,22 @@ impl Book {
         ensures { result ≡ window_of self.now.rows }
     {
         hull(dated_span(&self.index.months), named_span(&self.named))
+    }
+
+    /// Each id of a row is a name: it has come with a field.
+    pub fn names(&self)
+        ensures { HasNames self.now.rows }
+    {
+        self.rows.accounts.tell_names();
+        self.rows.groups.tell_names();
+        self.rows.categories.tell_names();
+        self.rows.payees.tell_names();
+        self.rows.txs.tell_names();
+        self.rows.budgets.tell_names();
+        self.rows.months.tell_names();
+        self.rows.notes.tell_names();
+        self.rows.rules.tell_names();
+        self.rows.schedules.tell_names();
     }
 
     /// How many rows there are of each kind, and how great the numbers are that are added up: none is greater than a value may

@@ -1,6 +1,7 @@
 //! Why an edit is refused.
-ghost use Rattle.std.specs.Prelude.{◌≡◌, IfOk};
+ghost use Rattle.std.specs.Prelude.{◌≡◌, IfOk, OnErr};
 ghost use Rattle.book_rows.specs.declared.fault.EditFault.TheVariants.{NoMemory as OutOfMemory};
+ghost use Rattle.book_rows.specs.Faults.{TellsId};
 
 use field_values::{NoMemory, Txt};
 use std::alloc::AllocFailed;
@@ -120,7 +121,8 @@ impl<T: Drop> From<AllocFailed<T>> for EditFault {
 impl EditFault {
     /// An equal fault.
     pub fn copy(&self) -> Result<EditFault, NoMemory>
-        ensures { IfOk result (λ f. f ≡ self.now) }
+        ensures copy { IfOk result (λ f. f ≡ self.now) }
+        ensures memory { OnErr result (TellsId self.now) }
     {
         match self {
             EditFault::BadId { id } => Ok(EditFault::BadId { id: id.copy()? }),

@@ -51,7 +51,7 @@ pub(crate) fn text(value: &Value) -> Result<Option<Txt>, NoMemory>
 
 /// Whether the number YYYYMMDD is a day from 19700101 to 21991231.
 #[tactic(auto, unfolding(crate::specs::Kinds::is_day))]
-fn is_day(n: u32) -> bool
+pub fn is_day(n: u32) -> bool
     ensures { result ≡ is_day n }
 {
     let year = n / 10_000;

@@ -11,7 +11,7 @@ use crate::rows::{
 use crate::table::Row;
 
 /// How a column of a dataset is read.
-fn dataset_kind(dataset: Dataset, column: Column) -> Option<Kind>
+pub(crate) fn dataset_kind(dataset: Dataset, column: Column) -> Option<Kind>
     ensures { result ≡ dataset_kind dataset column }
 {
     match dataset {

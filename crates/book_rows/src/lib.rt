@@ -8,6 +8,7 @@
 mod book;
 mod column;
 mod fault;
+mod ids;
 mod indexes;
 mod kind;
 mod known;
@@ -21,7 +22,8 @@ mod write;
 
 pub use book::Book;
 pub use fault::{EditFault, RecurPart, RulePart};
-pub use kind::Kind;
+pub use ids::{budget_id, is_month, month_id};
+pub use kind::{Kind, is_day};
 pub use known::kind_of;
 pub use laws::{live_rows_are_told, rows_follow_fields, windows_span};
 pub use rows::{

@@ -4,7 +4,8 @@ ghost use Rattle.std.specs.Option.{option_copied};
 ghost use Rattle.std.specs.BTreeMap.{IsOrdered};
 ghost use Rattle.std.specs.FinMap as map;
 ghost use Rattle.finite_sums.specs.Maps.{text_cmp, map_of};
-ghost use Rattle.book_rows.specs.Tables.{Table as TableRules, blank_row, with_column};
+ghost use Rattle.field_values.specs.Names.{IsName};
+ghost use Rattle.book_rows.specs.Tables.{Table as TableRules, AreNamed, blank_row, with_column};
 
 use crate::column::Column;
 use crate::kind::Kind;
@@ -40,7 +41,7 @@ pub(crate) struct Table<R> {
 impl<R> Model for Table<R> {
     ghost use Rattle.std.specs.BTreeMap.{IsOrdered};
     ghost use Rattle.finite_sums.specs.Maps.{Texts, text_cmp, map_of};
-    ghost use Rattle.book_rows.specs.Tables.{texts_code};
+    ghost use Rattle.book_rows.specs.Tables.{texts_code, AreNamed};
 
     ghost Value = { Texts R };
 
@@ -48,7 +49,7 @@ impl<R> Model for Table<R> {
 
     ghost view = { λ t. map_of t.rows };
 
-    ghost invariant = { λ t. IsOrdered text_cmp t.rows };
+    ghost invariant = { λ t. IsOrdered text_cmp t.rows × AreNamed (map_of t.rows) };
 }
 
 /// Sets a column of a row, which is made where it is not there.
@@ -60,6 +61,7 @@ fn set_row<R: Row>(
 ) -> Result<(), NoMemory>
     ensures row { OnOk result (map_of rows.new ≡ map.insert (map_of rows.old) id.now (R.table.set column value.now (unwrap_or (map.get (map_of rows.old) id.now) (blank_row R.table id.now)))) }
     ensures ordered { IsOrdered text_cmp rows.new }
+    ensures named { IsName id.now → AreNamed (map_of rows.old) → AreNamed (map_of rows.new) }
 {
     if let Some(row) = rows.get_mut(id) {
         return row.set(column, value);
@@ -82,6 +84,7 @@ impl<R: Row> Table<R> {
 
     /// Sets a column of the row of an id. A column that the dataset doesn't have changes nothing.
     pub fn set(&mut self, id: &Txt, column: Column, value: &Value) -> Result<(), NoMemory>
+        requires { IsName id.now }
         ensures { OnOk result (self.new ≡ with_column R.table id.now column value.now self.old) }
     {
         if R::kind(column).is_none() {
@@ -102,6 +105,13 @@ impl<R: Row> Table<R> {
         ensures { result.now.entries ≡ map.entries self.now }
     {
         &self.rows
+    }
+
+    /// Each id of a row is a name.
+    pub fn tell_names(&self)
+        ensures { AreNamed self.now }
+    {
+        let _ = &self.rows;
     }
 
     /// How many rows there are.

@@ -3,6 +3,7 @@ ghost use Rattle.std.specs.Prelude.{◌≡◌, ℕ, IfOk, OnOk, ◌||◌};
 ghost use Rattle.std.specs.BTreeSet as set;
 ghost use Rattle.std.specs.Ordering.{nat_cmp};
 ghost use Rattle.std.specs.Option.{option_copied};
+ghost use Rattle.field_values.specs.Names.{IsName};
 ghost use Rattle.finite_sums.specs.Maps.{Texts};
 ghost use Rattle.book_rows.specs.Tables.{with_column};
 ghost use Rattle.book_rows.specs.Rules.{tx_table, budget_table, month_table};
@@ -136,7 +137,8 @@ fn set_key(
     column: Column,
     value: &Value,
 ) -> Result<(), NoMemory>
-    requires { IsTxIndex index.old txs.old }
+    requires index { IsTxIndex index.old txs.old }
+    requires name { IsName id.now }
     ensures rows { OnOk result (txs.new ≡ with_column tx_table id.now column value.now txs.old) }
     ensures index { OnOk result (IsTxIndex index.new txs.new) }
 {
@@ -155,7 +157,8 @@ pub(crate) fn set_tx(
     column: Column,
     value: &Value,
 ) -> Result<(), NoMemory>
-    requires { IsTxIndex index.old txs.old }
+    requires index { IsTxIndex index.old txs.old }
+    requires name { IsName id.now }
     ensures rows { OnOk result (txs.new ≡ with_column tx_table id.now column value.now txs.old) }
     ensures index { OnOk result (IsTxIndex index.new txs.new) }
 {
@@ -184,6 +187,7 @@ pub(crate) fn set_budget(
     column: Column,
     value: &Value,
 ) -> Result<(), NoMemory>
+    requires { IsName id.now }
     ensures rows { OnOk result (budgets.new ≡ with_column budget_table id.now column value.now budgets.old) }
     ensures named { (months : Texts MonthRow) → ((m : ℕ) → set.contains nat_cmp named.old m ≡ has_named budgets.old months m) → OnOk result ((m : ℕ) → set.contains nat_cmp named.new m ≡ has_named budgets.new months m) }
 {
@@ -202,6 +206,7 @@ pub(crate) fn set_month(
     column: Column,
     value: &Value,
 ) -> Result<(), NoMemory>
+    requires { IsName id.now }
     ensures rows { OnOk result (months.new ≡ with_column month_table id.now column value.now months.old) }
     ensures named { (budgets : Texts BudgetRow) → ((m : ℕ) → set.contains nat_cmp named.old m ≡ has_named budgets months.old m) → OnOk result ((m : ℕ) → set.contains nat_cmp named.new m ≡ has_named budgets months.new m) }
 {

@@ -3,12 +3,12 @@ use Rattle.std.proofs.Common.{◌≡◌, inl, inr, ℕ, List, [], ◌∷◌, Boo
 use Rattle.field_values.specs.declared.value.Value.{Value}
 use Rattle.field_merge.specs.declared.message.Message.{Message}
 use Rattle.device_core.specs.declared.edit.Edit.TheVariants.{Book}
-use Rattle.device_core.specs.declared.edit.BookEdit.TheVariants.{Set}
+use Rattle.book_edits.specs.declared.edit.BookEdit.TheVariants.{Set}
 use Rattle.device_core.specs.declared.edit.LineRefusal.{LineRefusal}
 use Rattle.device_core.specs.Device.{Accepted, IsAhead, edited, received}
 use Rattle.device_core.specs.ReadBack.{EditsReadBack, ReceivedAreJoined}
 use Rattle.command_lines.specs.declared.command.Command.{Command}
-use Rattle.command_lines.specs.declared.command.Command.TheVariants.{Edit, Receive, Fields, Messages, Value as ValueOf, Trie}
+use Rattle.command_lines.specs.declared.command.Command.TheVariants.{Edit, Receive, Fields, Messages, Value as ValueOf, Trie, Balance, Register, Cell, Sheet}
 use Rattle.command_lines.specs.declared.reply.Reply.{Reply}
 use Rattle.command_lines.specs.Commands.{command}
 use Rattle.command_lines.specs.Readings.{answer, IsReading}
@@ -72,6 +72,10 @@ answering target r i Fields asks h = stepped target r i _ asks
 answering target r i (Messages since) asks h = stepped target r i _ asks
 answering target r i (ValueOf dataset row column) asks h = stepped target r i _ asks
 answering target r i Trie asks h = stepped target r i _ asks
+answering target r i (Balance account) asks h = stepped target r i _ asks
+answering target r i (Register account) asks h = stepped target r i _ asks
+answering target r i (Cell month name) asks h = stepped target r i _ asks
+answering target r i (Sheet month) asks h = stepped target r i _ asks
 
 pub lines_obeyed : EditsReadBack → ReceivedAreJoined → LinesAreObeyed
 lines_obeyed edits messages = record {

@@ -1,17 +1,16 @@
 -- The replies of a device as lines.
 use Rattle.std.proofs.Common.{◌≡◌, ℕ, List, [], ◌∷◌, ◌++◌, refl, ap, sym, ◌∙◌, append_assoc, append-nil, Option, None, Some, Result, Ok, Err}
-use Rattle.field_merge.specs.Messages.{AreMessages}
 use Rattle.device_core.specs.declared.edit.LineRefusal.{LineRefusal}
 use Rattle.device_core.specs.Device.{State, Accepted, edited, received}
 use Rattle.device_core.specs.Accepting.{AcceptedAreJoined}
 use Rattle.command_lines.specs.declared.command.Command.{Command}
-use Rattle.command_lines.specs.declared.command.Command.TheVariants.{Edit as EditOf, Receive, Fields, Messages, Value, Trie}
+use Rattle.command_lines.specs.declared.command.Command.TheVariants.{Edit as EditOf, Receive, Fields, Messages, Value, Trie, Balance, Register, Cell, Sheet}
 use Rattle.command_lines.specs.declared.reply.Reply.{Reply}
 use Rattle.command_lines.specs.Replies.{refused, reply_lines, reply_text_of}
 use Rattle.command_lines.specs.ReplyLines.{RepliesAreLines, IsReply}
 use Rattle.budget_top.specs.Lines.{pieces, all_but_last, last_of}
 use Rattle.budget_top.specs.Session.{asked, obeyed, settled, wrote_all, added_all, reply_to_refusal}
-use Rattle.budget_top.specs.Valid.{StatesStayValid}
+use Rattle.budget_top.specs.Valid.{IsState, StatesStayValid}
 use Rattle.budget_top.specs.Course.{step, replies}
 use Rattle.budget_top.specs.Replies.{RepliesAreCut, lines_of_replies}
 use Rattle.budget_top.proofs.Cutting.{onto, pieces_some, pieces-append, but_last-append, last_of-append}
@@ -27,14 +26,18 @@ module _ (law : RepliesAreLines) (joined : AcceptedAreJoined) where
   settled_reply s reply (Ok done) all = all done refl
   settled_reply s reply (Err refusal) all = refused_reply refusal (refused refusal) refl
 
-  obeyed_reply : (s : State) (reading : ℕ) (asks : Result Command ℕ) → AreMessages s.messages → IsReply (obeyed s reading asks).1
+  obeyed_reply : (s : State) (reading : ℕ) (asks : Result Command ℕ) → IsState s → IsReply (obeyed s reading asks).1
   obeyed_reply s reading (Err index) valid = law.faults index
-  obeyed_reply s reading (Ok (EditOf edit)) valid = settled_reply s wrote_all (edited s edit reading) (λ done is. law.edits done.count done.made (joined.of_edits s edit reading done is).lines)
+  obeyed_reply s reading (Ok (EditOf edit)) valid = settled_reply s wrote_all (edited s edit reading) (λ done is. law.edits done.count done.made ((joined.of_edits s edit reading done is).lines valid.clock))
   obeyed_reply s reading (Ok (Receive message)) valid = settled_reply s added_all (received s (message ∷ []) reading) (λ done is. law.received done.count)
-  obeyed_reply s reading (Ok Fields) valid = law.answers s.messages Fields valid
-  obeyed_reply s reading (Ok (Messages since)) valid = law.answers s.messages (Messages since) valid
-  obeyed_reply s reading (Ok (Value dataset row column)) valid = law.answers s.messages (Value dataset row column) valid
-  obeyed_reply s reading (Ok Trie) valid = law.answers s.messages Trie valid
+  obeyed_reply s reading (Ok Fields) valid = law.answers s.messages Fields valid.messages
+  obeyed_reply s reading (Ok (Messages since)) valid = law.answers s.messages (Messages since) valid.messages
+  obeyed_reply s reading (Ok (Value dataset row column)) valid = law.answers s.messages (Value dataset row column) valid.messages
+  obeyed_reply s reading (Ok Trie) valid = law.answers s.messages Trie valid.messages
+  obeyed_reply s reading (Ok (Balance account)) valid = law.answers s.messages (Balance account) valid.messages
+  obeyed_reply s reading (Ok (Register account)) valid = law.answers s.messages (Register account) valid.messages
+  obeyed_reply s reading (Ok (Cell month name)) valid = law.answers s.messages (Cell month name) valid.messages
+  obeyed_reply s reading (Ok (Sheet month)) valid = law.answers s.messages (Sheet month) valid.messages
 
 -- ---- one reply behind the other
 
@@ -51,6 +54,6 @@ pub replies_cut : RepliesAreLines → AcceptedAreJoined → StatesStayValid → 
 replies_cut law joined stay t r [] valid = refl
 replies_cut law joined stay t r (i ∷ is) valid =
     cut_behind (reply_text_of (step t r i).1) (replies t (step t r i).0 is) (reply_lines (step t r i).1)
-    (law.cut (step t r i).1 (obeyed_reply law joined r.state i.given.reading (asked i.line) valid.messages))
+    (law.cut (step t r i).1 (obeyed_reply law joined r.state i.given.reading (asked i.line) valid))
     ∙ ap (λ ls. reply_lines (step t r i).1 ++ ls) (replies_cut law joined stay t (step t r i).0 is (stay.obeyed r.state i.given.reading i.line valid))
     ∙ sym (append_assoc (reply_lines (step t r i).1) (lines_of_replies t (step t r i).0 is) ([] ∷ []))

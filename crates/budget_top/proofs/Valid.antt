@@ -3,9 +3,6 @@ use Rattle.std.proofs.Common.{◌≡◌, ℕ, ◌+◌, ◌-◌, ◌<◌, ◌≤�
 use Rattle.std.specs.Prelude.{nat_lt, max, if◌then◌else◌}
 use Rattle.std.specs.Str.{is_utf8}
 use Rattle.std.proofs.lemmas.Bool.{ltb-true, ltb-false}
-use Rattle.field_values.specs.declared.name.NameFault.{NameFault}
-use Rattle.field_values.specs.Names.{FieldNames, names_fault}
-use Rattle.field_values.proofs.NameLemmas.{names_without_fault}
 use Rattle.hybrid_clock.specs.declared.clock.ClockFault.{ClockFault}
 use Rattle.hybrid_clock.specs.declared.clock.ClockFault.TheVariants.{Drift, Overflow, Beyond}
 use Rattle.hybrid_clock.specs.declared.stamp.Stamp.{Stamp}
@@ -18,54 +15,30 @@ use Rattle.field_merge.specs.Messages.{IsMessage, AreMessages}
 use Rattle.field_merge.proofs.Joining.{is_join}
 use Rattle.field_merge.proofs.Members.{all_from, all_of}
 use Rattle.device_core.specs.declared.edit.Edit.{Edit}
-use Rattle.device_core.specs.declared.edit.Edit.TheVariants.{Book}
-use Rattle.device_core.specs.declared.edit.BookEdit.TheVariants.{Set}
-use Rattle.device_core.specs.declared.edit.EditFault.TheVariants.{TooManyWrites}
 use Rattle.device_core.specs.declared.edit.LineRefusal.{LineRefusal}
 use Rattle.device_core.specs.declared.edit.LineRefusal.TheVariants.{Edit as OfEdit}
-use Rattle.device_core.specs.declared.edit.Write.{Write}
-use Rattle.device_core.specs.Device.{State, Accepted, begun, first_in_row, stamped, written, writing, edited, taken_in, received}
-use Rattle.device_core.specs.Edits.{AreWrites, IsEdit, write_unless}
+use Rattle.book_rows.specs.declared.fault.EditFault.{EditFault}
+use Rattle.book_rows.specs.declared.fault.EditFault.TheVariants.{TooManyWrites}
+use Rattle.book_rows.specs.declared.write.Write.{Write}
+use Rattle.book_rows.specs.Writes.{AreWrites}
+use Rattle.device_core.specs.Books.{rows_of}
+use Rattle.device_core.specs.Device.{State, Accepted, begun, first_in_row, written, writing, edited, taken_in, received}
+use Rattle.device_core.specs.Edits.{IsEdit, writes_of}
+use Rattle.device_core.specs.Placing.{stamped}
+use Rattle.device_core.proofs.Drawing.{draw_valid, greater, moved_valid}
 use Rattle.device_core.proofs.Greatest.{last_valid}
+use Rattle.device_core.proofs.Making.{writes_valid}
+use Rattle.device_core.proofs.RowsNamed.{rows_named}
 use Rattle.device_core.proofs.Stamping.{stamped_valid}
 use Rattle.command_lines.specs.Commands.{command, IsCommand}
 use Rattle.command_lines.specs.declared.command.Command.{Command}
-use Rattle.command_lines.specs.declared.command.Command.TheVariants.{Edit as EditOf, Receive, Fields, Messages, Value as ValueOf, Trie}
+use Rattle.command_lines.specs.declared.command.Command.TheVariants.{Edit as EditOf, Receive, Fields, Messages, Value as ValueOf, Trie, Balance, Register, Cell, Sheet}
 use Rattle.command_lines.specs.declared.reply.Reply.{Reply}
 use Rattle.command_lines.specs.Written.{LinesWriteBack}
 use Rattle.budget_top.specs.Session.{asked, obeyed, settled, wrote_all, added_all}
 use Rattle.budget_top.specs.Valid.{IsState, StatesStayValid}
 
 -- ---- the clock
-
--- the clock moves to a time within the window
-moved_valid : (clock s : Stamp) (reading time counter : ℕ) → IsNode clock.node → time < 60_000 * window → moved clock reading time counter ≡ Ok s → IsStamp s × (s.counter ≡ counter)
-moved_valid clock s reading time counter node within e = by (nat_lt 300_000 (time - reading)) (nat_lt 65_535 counter) refl e
-  where
-    by : (far full : Bool) → nat_lt 65_535 counter ≡ full → cond far (Err (Drift time reading)) (cond full (Err (Overflow counter)) (Ok (stands_at clock.node time counter))) ≡ Ok s
-        → IsStamp s × (s.counter ≡ counter)
-    by true full f e = absurd (cc)
-    by false true f e = absurd (cc)
-    by false false f e =
-        let same : stands_at clock.node time counter ≡ s = cc in
-        let few : counter ≤ 65_535 = ltb-false 65_535 counter f in
-        subst (λ (x : Stamp). IsStamp x × (x.counter ≡ counter)) same (record { within = within; counter = few; node = node }, refl)
-
-greater : (a b n : ℕ) → a < n → b < n → max a b < n
-greater a b n h k = omega (arith, h, k)
-
-draw_valid : (clock s : Stamp) (reading n : ℕ) → IsStamp clock → draw clock reading n ≡ Ok s → IsStamp s × (n - 1 ≤ s.counter)
-unfolding draw
-draw_valid clock s reading n is e = by (nat_lt (reading / 60_000) window) refl e
-  where
-    by : (near : Bool) → nat_lt (reading / 60_000) window ≡ near
-        → cond near (moved clock reading (max clock.millis reading) (first_counter clock (max clock.millis reading) + (n - 1))) (Err (Beyond reading)) ≡ Ok s → IsStamp s × (n - 1 ≤ s.counter)
-    by false f e = absurd (cc)
-    by true f e =
-        let below : reading / 60_000 < window = ltb-true (reading / 60_000) window f in
-        let within : reading < 60_000 * window = omega (arith, below) in
-        let told = moved_valid clock s reading (max clock.millis reading) (first_counter clock (max clock.millis reading) + (n - 1)) is.node (greater clock.millis reading (60_000 * window) is.within within) e in
-        (told.0, omega (arith, told.1))
 
 receive_valid : (clock s message : Stamp) (reading : ℕ) → IsStamp clock → IsStamp message → receive clock reading message ≡ Ok s → IsStamp s
 unfolding receive
@@ -125,14 +98,11 @@ writing_valid s reading (w ∷ ws) is valid = by (nat_lt 65_536 (length (w ∷ w
     by false = written_valid s w ws reading (draw s.clock reading (length (w ∷ ws))) refl is valid
 
 edited_valid : (s : State) (edit : Edit) (reading : ℕ) → IsState s → IsEdit edit → LeavesValid (edited s edit reading)
-edited_valid s (Book (Set dataset row column value)) reading is valid = by (names_fault field) refl
+edited_valid s edit reading is valid = by (writes_of (rows_of s.messages) edit) refl
   where
-    field : FieldNames
-    field = record { dataset = dataset; row = row; column = column }
-
-    by : (o : Option NameFault) → names_fault field ≡ o → LeavesValid (writing s reading (write_unless o field value))
-    by None e = writing_valid s reading (record { field = field; value = value } ∷ []) is ((names_without_fault field e, valid), tt)
-    by (Some fault) e = tt
+    by : (o : Result (List Write) EditFault) → writes_of (rows_of s.messages) edit ≡ o → LeavesValid (writing s reading o)
+    by (Ok ws) e = writing_valid s reading ws is (writes_valid (rows_of s.messages) edit ws (rows_named s.messages is.messages) valid e)
+    by (Err fault) e = tt
 
 received_valid : (s : State) (m : Message) (reading : ℕ) → IsState s → IsMessage m → LeavesValid (received s (m ∷ []) reading)
 received_valid s m reading is valid = by (receive s.clock reading m.stamp) refl
@@ -165,6 +135,10 @@ obeyed_valid s reading (Ok Fields) is valid = is
 obeyed_valid s reading (Ok (Messages since)) is valid = is
 obeyed_valid s reading (Ok (ValueOf dataset row column)) is valid = is
 obeyed_valid s reading (Ok Trie) is valid = is
+obeyed_valid s reading (Ok (Balance account)) is valid = is
+obeyed_valid s reading (Ok (Register account)) is valid = is
+obeyed_valid s reading (Ok (Cell month name)) is valid = is
+obeyed_valid s reading (Ok (Sheet month)) is valid = is
 
 begun_valid : (node : List ℕ) (ms : List Message) → IsNode node → AreMessages ms → IsState (begun node ms)
 begun_valid node ms is valid = by (last_stamp ms) (λ s e. last_valid ms valid s e)

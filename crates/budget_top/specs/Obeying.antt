@@ -5,7 +5,7 @@ use Rattle.std.specs.Fmt.{decimal}
 use Rattle.field_values.specs.declared.value.Value.{Value}
 use Rattle.field_merge.specs.declared.message.Message.{Message}
 use Rattle.device_core.specs.declared.edit.Edit.TheVariants.{Book}
-use Rattle.device_core.specs.declared.edit.BookEdit.TheVariants.{Set}
+use Rattle.book_edits.specs.declared.edit.BookEdit.TheVariants.{Set}
 use Rattle.device_core.specs.declared.edit.LineRefusal.{LineRefusal}
 use Rattle.device_core.specs.Device.{Accepted, IsAhead, edited, received}
 use Rattle.device_core.specs.ReadBack.{IsReadBack, AreTakenIn}

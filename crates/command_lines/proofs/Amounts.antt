@@ -1,15 +1,16 @@
 -- An amount and its text, and an id or none and its text.
-use Rattle.std.proofs.Common.{◌≡◌, ◌≢◌, ◌∙◌, ℕ, suc, List, [], ◌∷◌, ◌<◌, ◌^◌, ℤ, pos, negsuc, neg_ℤ, arith, ap, sym, refl, length, true, false, Bool, ◌&&◌, ◌==◌, Option, Some, None, cond}
+use Rattle.std.proofs.Common.{◌≡◌, ◌≢◌, ◌∙◌, ℕ, suc, List, [], ◌∷◌, ◌<◌, ◌^◌, ℤ, pos, negsuc, neg_ℤ, arith, ap, sym, refl, length, true, false, Bool, ◌&&◌, ◌==◌, Option, Some, None, Result, Ok, cond, subst, w64, FitsSigned}
 use Rattle.std.specs.Prelude.{codes, if◌then◌else◌, int_le}
 use Rattle.std.specs.Fmt.{signed_decimal, decimal}
 use Rattle.std.specs.Str.{bytes_eq}
-use Rattle.std.specs.Str.Parse.{AllDigits, signed_digits_value, starts_with_minus, without_leading_plus}
-use Rattle.std.proofs.lemmas.Fmt.{decimal_is_IsNumeral}
-use Rattle.std.proofs.lemmas.Str.Parse.{digit_from_value}
+use Rattle.std.specs.Str.Parse.{ParsesSigned, AllDigits, signed_digits_value, starts_with_minus, without_leading_plus}
+use Rattle.std.proofs.lemmas.Fmt.{decimal_is_IsNumeral, parse-signed_decimal}
+use Rattle.std.proofs.lemmas.Result.{Ok-from_Ok_iff}
+use Rattle.std.proofs.lemmas.Str.Parse.{digit_from_value, numerals_by_value, tells_digits, parse_signed_minus}
 use Rattle.std.proofs.lemmas.Slice.Eq.{bytes_eq-Decides}
 use Rattle.std.proofs.lemmas.Bool.{and_parts, false≢true, ne_eqb}
 use Rattle.std.proofs.lemmas.Int.{ints}
-use Rattle.command_lines.specs.Forms.{is_amount, amount_of, id_or_none}
+use Rattle.command_lines.specs.Forms.{is_amount, amount_of, id_or_none, id_of}
 use Rattle.command_lines.specs.FormLaws.{id_text}
 
 -- digits begin with no sign
@@ -38,6 +39,18 @@ value_of_minus n small = let k = decimal_is_IsNumeral n small in ap (λ m. neg_�
 
 amount_within : (n : ℤ) → is_amount n ≡ true → (int_le (neg_ℤ (pos 9_223_372_036_854_775_808)) n ≡ true) × (int_le n (pos 9_223_372_036_854_775_807) ≡ true)
 amount_within n h = and_parts (int_le (neg_ℤ (pos 9_223_372_036_854_775_808)) n) (int_le n (pos 9_223_372_036_854_775_807)) h
+
+-- the text of an amount is read as the amount
+pub reads_amount : {E : Type 0} (n : ℤ) (text : List ℕ) (r : Result ℤ E) → is_amount n ≡ true → signed_decimal n ≡ text → ParsesSigned w64 10 text r → r ≡ Ok n
+reads_amount (pos n) text r h is p =
+    let small = (amount_within (pos n) h).1 in
+    let fits : FitsSigned w64 (pos n) = omega (arith, ints, small) in
+    parse-signed_decimal w64 (pos n) text r fits (omega (arith, ints, small)) (sym is) p
+reads_amount (negsuc n) text r h is p =
+    let small = (amount_within (negsuc n) h).0 in
+    let k = decimal_is_IsNumeral (suc n) (omega (arith, ints, small)) in
+    let read = parse_signed_minus (numerals_by_value _ tells_digits) w64 (45 ∷ decimal (suc n)) r (subst (λ l. ParsesSigned w64 10 l r) (sym is) p) refl in
+    Ok-from_Ok_iff r _ _ read (k.0.1, k.0.0, omega (arith, ints, k.1, small)) ∙ ap (λ m. Ok (neg_ℤ (pos m))) k.1
 
 -- the text of an amount writes it
 value_of_amount : (n : ℤ) → is_amount n ≡ true → signed_digits_value 10 (signed_decimal n) ≡ n
@@ -75,3 +88,11 @@ id_written text = by (bytes_eq text (codes "-")) refl
     by : (t : Bool) → bytes_eq text (codes "-") ≡ t → ((if t then None else Some text) ≢ Some (codes "-")) × (id_text (if t then None else Some text) ≡ text)
     by true e = (λ clash. cc, sym ((bytes_eq-Decides text (codes "-")).0 e))
     by false e = (λ is. let same : text ≡ codes "-" = cc in false≢true (sym e ∙ (bytes_eq-Decides text (codes "-")).1 same), refl)
+
+pub id_of_back : (id : Option (List ℕ)) → id ≢ Some (codes "-") → id_of (id_text id) ≡ Some id
+unfolding id_of
+id_of_back id h = ap Some (id_back id h)
+
+pub id_told : (text : List ℕ) (id : Option (List ℕ)) → id_of text ≡ Some id → (id ≢ Some (codes "-")) × (id_text id ≡ text)
+unfolding id_of
+id_told text id e = let same : id_or_none text ≡ id = cc in subst (λ (o : Option (List ℕ)). (o ≢ Some (codes "-")) × (id_text o ≡ text)) same (id_written text)

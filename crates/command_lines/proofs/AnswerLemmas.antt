@@ -32,6 +32,7 @@ use Rattle.kept_messages.specs.Pairs.{pairs_of}
 use Rattle.command_lines.specs.declared.reply.Reply.TheVariants.{Done}
 use Rattle.command_lines.specs.Answers.{AnswersTell, ListsLater, TellsTrie}
 use Rattle.command_lines.specs.Readings.{shown}
+use Rattle.command_lines.proofs.BookAnswerLemmas.{books_told}
 
 -- ---- the latest message of a field
 
@@ -166,4 +167,5 @@ they_tell law maps texts order = record {
   fields = λ ms listed h. ap (λ ns. Done (map message_line ns)) (only_listed ms listed h);
   messages = λ ms told since s h. ap (λ ns. Done (map message_line ns)) (only_later ms told since s h);
   trie = λ ms valid. (trie_text (trie_of (pairs_of ms)), refl, trie_told maps texts order ms valid);
+  books = books_told;
 }

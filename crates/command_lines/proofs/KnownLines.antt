@@ -15,38 +15,18 @@ use Rattle.field_merge.specs.Messages.{message_of}
 use Rattle.field_merge.proofs.RawLines.{IsGood}
 use Rattle.command_lines.specs.declared.command.Command.TheVariants.{Receive}
 use Rattle.command_lines.specs.Forms.{Wanted, word, no_more, name_word, misfit}
-use Rattle.command_lines.specs.Commands.{LineForm, set_words, receive_words, messages_words, value_words, words_in, field_lines, line_words}
-use Rattle.command_lines.proofs.FormLemmas.{IsForm}
-use Rattle.command_lines.proofs.Opening.{GoesOn, Opens, open_end, open_word, open_name, open_stamp}
+use Rattle.command_lines.specs.Commands.{LineForm, set_words, receive_words, messages_words, value_words, field_lines, words_of_row_lines, line_words}
+use Rattle.command_lines.proofs.Known.{IsKnown, AreKnown, known_in}
+use Rattle.command_lines.proofs.EditLines.{row_lines_known}
+use Rattle.command_lines.proofs.Opening.{Opens, open_end, open_word, open_name, open_stamp}
 use Rattle.command_lines.proofs.Telling.{Tells, tells_stamp, tells_name}
-
--- what is to be known of a line with this name that wants these words
-pub record IsKnown (name : List ℕ) (wanted : Wanted) : Type 0 where
-  pub good : IsGood name
-  pub plain : unescaped name ≡ name
-  pub form : IsForm wanted
-  pub goes : GoesOn wanted
-  pub tells : Tells (name ∷ []) wanted
-
-abbrev AreKnown : List LineForm → Type 0
-AreKnown lines = AllByRecursion (λ line. IsKnown line.0 line.1) lines
-
-known_by : (t : Bool) (name known : List ℕ) (words others rest : Wanted) → bytes_eq name known ≡ t → IsKnown known words
-    → (rest ≡ others) ⊎ IsKnown name rest → (cond t words rest ≡ others) ⊎ IsKnown name (cond t words rest)
-known_by true name known words others rest e is on = inr (subst (λ n. IsKnown n words) (sym ((bytes_eq-Decides name known).0 e)) is)
-known_by false name known words others rest e is on = on
-
--- the words of a name are those of a known line, or the others
-known_in : (lines : List LineForm) (name : List ℕ) (others : Wanted) → AreKnown lines → (words_in lines name others ≡ others) ⊎ IsKnown name (words_in lines name others)
-known_in [] name others known = inl refl
-known_in (line ∷ lines) name others known = known_by (bytes_eq name line.0) name line.0 line.1 others (words_in lines name others) refl known.0 (known_in lines name others known.1)
 
 -- ---- the lines about messages and fields
 
 set_tells : Tells (codes "set" ∷ []) set_words
 set_tells d r c v =
     let value = texts_write_back_lem v in
-    record { same = ap (λ t. codes "set" ∷ d ∷ r ∷ c ∷ t ∷ []) value.1; valid = value.0 }
+    record { same = ap (λ t. codes "set" ∷ d ∷ r ∷ c ∷ t ∷ []) value.1; valid = value.0; can = tt }
 
 receive_tells : Tells (codes "receive" ∷ []) receive_words
 receive_tells text =
@@ -63,6 +43,7 @@ receive_tells text =
           ap (λ t. codes "receive" ∷ t ∷ d ∷ r ∷ c ∷ value_text (value_of v) ∷ []) (read_text text s told)
           ∙ ap (λ t. codes "receive" ∷ text ∷ d ∷ r ∷ c ∷ t ∷ []) value.1;
       valid = record { stamp = read_valid text s told; field = record { dataset = dataset; row = row; column = column }; value = value.0 };
+      can = tt;
     }))))
 
 set_opens : Opens set_words
@@ -83,12 +64,12 @@ field_lines_are = (
   (
     record { good = refl; plain = refl; form = tt; goes = receive_opens.1; tells = receive_tells },
     (
-      record { good = refl; plain = refl; form = tt; goes = tt; tells = record { same = refl; valid = tt } },
+      record { good = refl; plain = refl; form = tt; goes = tt; tells = record { same = refl; valid = tt; can = tt } },
       (
-        record { good = refl; plain = refl; form = tt; goes = messages_opens.1; tells = λ since. record { same = refl; valid = tt } },
+        record { good = refl; plain = refl; form = tt; goes = messages_opens.1; tells = λ since. record { same = refl; valid = tt; can = tt } },
         (
-          record { good = refl; plain = refl; form = tt; goes = value_opens.1; tells = λ d r c. record { same = refl; valid = tt } },
-          (record { good = refl; plain = refl; form = tt; goes = tt; tells = record { same = refl; valid = tt } }, tt),
+          record { good = refl; plain = refl; form = tt; goes = value_opens.1; tells = λ d r c. record { same = refl; valid = tt; can = tt } },
+          (record { good = refl; plain = refl; form = tt; goes = tt; tells = record { same = refl; valid = tt; can = tt } }, tt),
         ),
       ),
     ),
@@ -98,4 +79,4 @@ field_lines_are = (
 -- ---- all lines
 
 pub line_known : (name : List ℕ) → (line_words name ≡ misfit) ⊎ IsKnown name (line_words name)
-line_known name = known_in field_lines name misfit field_lines_are
+line_known name = known_in field_lines name (words_of_row_lines name) field_lines_are (row_lines_known name)

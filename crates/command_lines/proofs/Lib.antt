@@ -1,8 +1,12 @@
 pub mod FormLemmas
 pub mod Amounts
+pub mod FormTexts
 pub mod RepeatLemmas
 pub mod Opening
 pub mod Telling
+pub mod Known
+pub mod BookLines
+pub mod EditLines
 pub mod KnownLines
 pub mod Cutting
 pub mod WordLemmas
@@ -12,5 +16,11 @@ pub mod WrittenLemmas
 pub mod RawLemmas
 pub mod ReceivedLines
 pub mod FirstBad
+pub mod RegisterLemmas
+pub mod Prefixes
+pub mod BookAnswerLemmas
 pub mod AnswerLemmas
+pub mod PlainTexts
+pub mod RowIds
+pub mod BookLineLemmas
 pub mod ReplyLemmas

@@ -1,5 +1,5 @@
 -- What is wanted of the words of a line can be given.
-use Rattle.std.proofs.Common.{◌≢◌, ℕ, Bool, true, false, List, [], ◌∷◌, ◌++◌, Option, None, Some, Result, Ok, Err, refl, subst, sym, arith, pos, ℤ}
+use Rattle.std.proofs.Common.{◌≡◌, ◌≢◌, ℕ, Bool, true, false, List, [], ◌∷◌, ◌++◌, Option, None, Some, Result, Ok, Err, refl, subst, sym, arith, pos, ℤ}
 use Rattle.std.specs.Prelude.{codes, if◌then◌else◌}
 use Rattle.hybrid_clock.specs.declared.stamp.Stamp.{Stamp}
 use Rattle.hybrid_clock.specs.declared.stamp.StampFault.{StampFault}
@@ -7,8 +7,12 @@ use Rattle.hybrid_clock.specs.Stamp.{IsStamp, stamp_text}
 use Rattle.hybrid_clock.specs.Reading.{read_stamp}
 use Rattle.hybrid_clock.proofs.Writing.{text_reads}
 use Rattle.command_lines.specs.declared.command.Command.{Command}
-use Rattle.command_lines.specs.Forms.{Share, Wanted, no_more, word, may_end, some_texts, some_shares, misfit, is_name, of_stamp, stamp_word, name_word, of_amount, amount_of, id_or_none, behind}
-use Rattle.command_lines.specs.FormLaws.{share_texts}
+use Rattle.std.specs.Fmt.{signed_decimal}
+use Rattle.command_lines.specs.Forms.{Share, Wanted, no_more, word, may_end, some_texts, some_shares, misfit, is_name, of_stamp, stamp_word, name_word, if_read, amount_of, id_or_none, behind, id_of, flag_of, date_of, month_of, form_word, amount_word, flag_word, date_word, month_word, id_word}
+use Rattle.command_lines.specs.Written.{flag_text, date_text, month_text}
+use Rattle.command_lines.proofs.Amounts.{amount_back, id_of_back}
+use Rattle.command_lines.proofs.FormTexts.{flag_back, date_back, month_back}
+use Rattle.command_lines.specs.FormLaws.{id_text, share_texts}
 use Rattle.command_lines.proofs.FormLemmas.{IsForm, Makes}
 use Rattle.command_lines.proofs.RepeatLemmas.{some_made, texts_make, shares_make}
 
@@ -46,7 +50,7 @@ goes_behind (may_end c next) text on = on text
 goes_behind (some_texts texts made) text on = tt
 goes_behind (some_shares shares made) text on = by (amount_of text)
   where
-    by : (o : Option ℤ) → GoesOn (of_amount (λ n. word (λ id. some_shares (shares ++ (n, id_or_none id) ∷ []) made)) o)
+    by : (o : Option ℤ) → GoesOn (if_read (λ n. word (λ id. some_shares (shares ++ (n, id_or_none id) ∷ []) made)) o)
     by None = tt
     by (Some n) =
         let more : List Share = shares ++ (n, id_or_none []) ∷ [] in
@@ -97,3 +101,29 @@ open_stamp next h =
     let end : CanEnd (stamp_word next) =
     (stamp_text first_stamp ∷ first.0, first.1, subst (λ read. Makes (of_stamp next read) first.0 first.1) (sym (text_reads first_stamp first_stamp_is)) first.2) in
     (end, (end, λ text. on_stamp next (read_stamp text) (λ s. (h s).1)))
+
+on_form : {A : Type 0} (next : A → Wanted) (read : Option A) → ((a : A) → GoesOn (next a)) → GoesOn (if_read next read)
+on_form next None h = tt
+on_form next (Some a) h = h a
+
+-- a form, of which some text is
+open_form : {A : Type 0} (read : List ℕ → Option A) (next : A → Wanted) (text : List ℕ) (a : A) → read text ≡ Some a → ((b : A) → Opens (next b)) → Opens (form_word read next)
+open_form {A} read next text a e h =
+    let first = (h a).0 in
+    let end : CanEnd (form_word read next) = (text ∷ first.0, first.1, subst (λ (o : Option A). Makes (if_read next o) first.0 first.1) (sym e) first.2) in
+    (end, (end, λ other. on_form next (read other) (λ b. (h b).1)))
+
+pub open_id : (next : Option (List ℕ) → Wanted) → ((id : Option (List ℕ)) → Opens (next id)) → Opens (id_word next)
+open_id next h = open_form id_of next (id_text None) None (id_of_back None (λ e. cc)) h
+
+pub open_amount : (next : ℤ → Wanted) → ((n : ℤ) → Opens (next n)) → Opens (amount_word next)
+open_amount next h = open_form amount_of next (signed_decimal (pos 0)) (pos 0) (amount_back (pos 0) refl) h
+
+pub open_flag : (next : Bool → Wanted) → ((b : Bool) → Opens (next b)) → Opens (flag_word next)
+open_flag next h = open_form flag_of next (flag_text true) true (flag_back true) h
+
+pub open_date : (next : ℕ → Wanted) → ((n : ℕ) → Opens (next n)) → Opens (date_word next)
+open_date next h = open_form date_of next (date_text 0) 0 (date_back 0 (omega arith)) h
+
+pub open_month : (next : ℕ → Wanted) → ((n : ℕ) → Opens (next n)) → Opens (month_word next)
+open_month next h = open_form month_of next (month_text 0) 0 (month_back 0 (omega arith)) h

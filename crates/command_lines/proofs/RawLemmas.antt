@@ -36,4 +36,4 @@ not_long false read c h = h
 pub write_back : LinesWriteBack
 write_back line c h =
     let told = texts_of_line (parts line) c (not_long (nat_lt longest_line (length line)) (of_words (parts line)) c h) in
-    (told.1.valid, ap (λ texts. join_with_byte 9 (map escaped texts)) told.1.same ∙ parts_write_back line told.0)
+    (told.1.valid, told.1.can, ap (λ texts. join_with_byte 9 (map escaped texts)) told.1.same ∙ parts_write_back line told.0)

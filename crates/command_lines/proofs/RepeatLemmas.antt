@@ -5,7 +5,7 @@ use Rattle.std.specs.Fmt.{signed_decimal}
 use Rattle.std.proofs.lemmas.List.{append-nil}
 use Rattle.field_merge.specs.Escapes.{unescaped}
 use Rattle.command_lines.specs.declared.command.Command.{Command}
-use Rattle.command_lines.specs.Forms.{Share, Wanted, word, may_end, some_texts, some_shares, of_amount, amount_of, id_or_none, of_some, command_of}
+use Rattle.command_lines.specs.Forms.{Share, Wanted, word, may_end, some_texts, some_shares, if_read, amount_of, id_or_none, of_some, command_of}
 use Rattle.command_lines.specs.FormLaws.{id_text, share_texts, IsShare, MakesOfTexts, MakesOfShares, FormsAreRead}
 use Rattle.command_lines.proofs.Amounts.{amount_back, amount_written, id_back, id_written}
 use Rattle.command_lines.proofs.FormLemmas.{Makes, makes_none, makes_read, read_makes}
@@ -56,7 +56,7 @@ read_texts made last ws c (texts, h) =
 behind_share : (shares : List Share) (made : List Share → Command) (n : ℤ) (id text : List ℕ) (more : List (List ℕ)) (c : Command) → amount_of text ≡ Some n
     → Makes (some_shares shares made) (text ∷ id ∷ more) c ≡ Makes (some_shares (shares ++ (n, id_or_none id) ∷ []) made) more c
 behind_share shares made n id text more c e =
-    ap (λ (o : Option ℤ). Makes (of_amount (λ n. word (λ id. some_shares (shares ++ (n, id_or_none id) ∷ []) made)) o) (id ∷ more) c) e
+    ap (λ (o : Option ℤ). Makes (if_read (λ n. word (λ id. some_shares (shares ++ (n, id_or_none id) ∷ []) made)) o) (id ∷ more) c) e
 
 pub shares_make : (more shares : List Share) (made : List Share → Command) → AllByRecursion IsShare more → shares ++ more ≢ []
     → Makes (some_shares shares made) (flat_map share_texts more) (made (shares ++ more))
@@ -78,7 +78,7 @@ record OfShares (made : List Share → Command) (texts : List (List ℕ)) (front
 
 more_shares : (text id : List ℕ) (texts : List (List ℕ)) (shares : List Share) (made : List Share → Command) (c : Command) (o : Option ℤ) → amount_of text ≡ o
     → ((n : ℤ) → Makes (some_shares (shares ++ (n, id_or_none id) ∷ []) made) texts c → (more : List Share) × OfShares made texts (shares ++ (n, id_or_none id) ∷ []) more c)
-    → Makes (of_amount (λ n. word (λ id. some_shares (shares ++ (n, id_or_none id) ∷ []) made)) o) (id ∷ texts) c
+    → Makes (if_read (λ n. word (λ id. some_shares (shares ++ (n, id_or_none id) ∷ []) made)) o) (id ∷ texts) c
     → (more : List Share) × OfShares made (text ∷ id ∷ texts) shares more c
 more_shares text id texts shares made c None e on k = absurd (makes_none (id ∷ texts) c k)
 more_shares text id texts shares made c (Some n) e on k =
@@ -102,7 +102,7 @@ make_shares [] shares made c h =
     ([], record { some = λ e. one.0 (sym (append-nil shares) ∙ e); valid = tt; same = refl; command = one.1 ∙ ap made (sym (append-nil shares)) })
 make_shares (text ∷ []) shares made c h = absurd (none (amount_of text) h)
   where
-    none : (o : Option ℤ) → Makes (of_amount (λ n. word (λ id. some_shares (shares ++ (n, id_or_none id) ∷ []) made)) o) [] c → ⊥
+    none : (o : Option ℤ) → Makes (if_read (λ n. word (λ id. some_shares (shares ++ (n, id_or_none id) ∷ []) made)) o) [] c → ⊥
     none None k = cc
     none (Some n) k = cc
 make_shares (text ∷ id ∷ texts) shares made c h =

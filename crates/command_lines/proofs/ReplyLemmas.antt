@@ -11,7 +11,7 @@ use Rattle.field_values.specs.Names.{field_of}
 use Rattle.hybrid_clock.specs.declared.clock.ClockFault.{ClockFault}
 use Rattle.hybrid_clock.specs.declared.clock.ClockFault.TheVariants.{Drift, Overflow, Beyond}
 use Rattle.field_merge.specs.declared.message.Message.{Message}
-use Rattle.field_merge.specs.Messages.{message_line}
+use Rattle.field_merge.specs.Messages.{message_line, AreMessages}
 use Rattle.field_merge.specs.Lines.{ended}
 use Rattle.field_merge.specs.Log.{fields, messages_after, value_in}
 use Rattle.field_merge.proofs.EscapeLemmas.{Lacks, Fails-append, escaped-no_feed}
@@ -21,66 +21,37 @@ use Rattle.minute_trie.specs.Held.{Held, after, or_zero}
 use Rattle.minute_trie.specs.Trie.{trie_of}
 use Rattle.minute_trie.specs.Names.{child_name, hash_name}
 use Rattle.minute_trie.specs.Json.{hash_text, key_text, object_text, child_text, members_text, trie_text}
-use Rattle.device_core.specs.declared.edit.EditFault.TheVariants.{BadId, TooManyWrites, NoMemory as EditNoMemory}
+use Rattle.book_rows.specs.declared.fault.EditFault.TheVariants.{BadId, IdTaken, NoSuchAccount, NoSuchGroup, NoSuchCategory, NoSuchPayee, NoSuchTransaction, BadDate, BadAmount, BadMonth, SplitSum, IsChild, IsTransferPart, SameAccount, ClosedAccount, IncomeCategory, NameTaken, TooManyWrites, BadRule, NoSuchSchedule, BadRecur, ScheduleDone, BadStatement, NothingToUndo, NothingToRedo, NoMemory as EditNoMemory}
 use Rattle.device_core.specs.declared.edit.LineRefusal.{LineRefusal}
 use Rattle.device_core.specs.declared.edit.LineRefusal.TheVariants.{Edit as OfEdit, Clock as OfClock, NoMemory}
 use Rattle.kept_messages.specs.Pairs.{pairs_of}
 use Rattle.command_lines.specs.declared.command.Command.{Command}
-use Rattle.command_lines.specs.declared.command.Command.TheVariants.{Edit, Receive, Fields, Messages, Value, Trie}
+use Rattle.command_lines.specs.declared.command.Command.TheVariants.{Edit, Receive, Fields, Messages, Value, Trie, Balance, Register, Cell, Sheet}
 use Rattle.command_lines.specs.declared.reply.Reply.{Reply}
 use Rattle.command_lines.specs.declared.reply.Reply.TheVariants.{Done, Refused}
+use Rattle.finite_sums.specs.Maps.{Text}
+use Rattle.book_rows.specs.declared.rows.Rows.{Rows}
+use Rattle.book_rows.specs.Live.{is_live_account}
+use Rattle.book_rows.specs.Balances.{balance_of}
+use Rattle.book_rows.specs.Months.{is_month}
+use Rattle.envelope_cells.specs.declared.name.CellName.{CellName}
+use Rattle.envelope_cells.specs.BudgetOf.{budget_of}
+use Rattle.envelope_cells.specs.CellOf.{cell_of}
+use Rattle.envelope_cells.specs.SheetOf.{sheet_of}
+use Rattle.device_core.specs.Books.{rows_of}
+use Rattle.command_lines.specs.Refusals.{no_such_account, no_such_group, no_such_category, bad_month}
+use Rattle.command_lines.specs.Register.{register_lines}
+use Rattle.command_lines.specs.CellNames.{is_of_group, cell_named}
+use Rattle.command_lines.specs.BookAnswers.{balance_answer, register_answer, told_cell, cell_or_faulty, cell_answer, cell_text, sheet_answer}
 use Rattle.command_lines.specs.Readings.{shown, answer}
 use Rattle.command_lines.specs.Replies.{detail_text, reply_lines, refused_clock, refused}
 use Rattle.command_lines.specs.ReplyLines.{IsLine, AreLines, IsReply, RepliesAreLines}
+use Rattle.command_lines.proofs.PlainTexts.{Plain, both, tested, is_line, plain_of, number_plain, signed_plain}
+use Rattle.book_rows.specs.Named.{HasNames}
+use Rattle.device_core.proofs.RowsNamed.{rows_named}
+use Rattle.command_lines.proofs.BookLineLemmas.{register_is, sheet_is}
 use Rattle.command_lines.proofs.Cutting.{pieces, pieces-at}
 use Rattle.command_lines.proofs.LineLemmas.{OnOneLine}
-
--- ---- texts without a line feed, by recursion
-
-abbrev Plain : List ℕ → Type 0
-Plain text = Lacks 10 text
-
-both : (xs ys : List ℕ) → Plain xs → Plain ys → Plain (xs ++ ys)
-both xs ys = Fails-append (λ b. b == 10) xs ys
-
--- a text that is written out is tested
-tested : (text : List ℕ) → list_any (λ b. b == 10) text ≡ false → Plain text
-tested [] h = tt
-tested (b ∷ bs) h = let parts = or_parts (b == 10) (list_any (λ b. b == 10) bs) h in (parts.0, tested bs parts.1)
-
-is_line : (text : List ℕ) → Plain text → IsLine text
-is_line [] h k d l = absurd (omega arith)
-is_line (b ∷ bs) h zero d l = eqb-false b 10 h.0
-is_line (b ∷ bs) h (suc k) d l = is_line bs h.1 k d (omega arith)
-
-plain_of : (text : List ℕ) → IsLine text → Plain text
-plain_of [] h = tt
-plain_of (b ∷ bs) h = (ne_eqb b 10 (h 0 0 (omega arith)), plain_of bs (λ k d l. h (suc k) d (omega arith)))
-
--- ---- numbers
-
-glyph_plain : (digit : ℕ) (small : Bool) → eqb (cond small (48 + digit) (87 + digit)) 10 ≡ false
-glyph_plain digit true = ne_eqb (48 + digit) 10 (λ e. omega (arith, e))
-glyph_plain digit false = ne_eqb (87 + digit) 10 (λ e. omega (arith, e))
-
-either : (last : Bool) (here on : List ℕ) → Plain here → Plain on → Plain (cond last here on)
-either true here on h k = h
-either false here on h k = k
-
-onto_plain : (k n : ℕ) (text : List ℕ) → Plain text → Plain (digits_onto k 10 false n text)
-onto_plain zero n text h = h
-onto_plain (suc k) n text h =
-    let more : List ℕ = digit_glyph false (n % 10) ∷ text in
-    let plain : Plain more = (glyph_plain (n % 10) (nat_lt (n % 10) 10), h) in
-    either (n / 10 == 0) more (digits_onto k 10 false (n / 10) more) plain (onto_plain k (n / 10) more plain)
-
-number_plain : (n : ℕ) → Plain (decimal n)
-unfolding digits
-number_plain n = onto_plain 64 n [] tt
-
-signed_plain : (z : ℤ) → Plain (signed_decimal z)
-signed_plain (pos n) = number_plain n
-signed_plain (negsuc n) = (refl, number_plain (suc n))
 
 -- ---- the text of a trie
 
@@ -127,15 +98,63 @@ message_lines_are : OnOneLine → (ms : List Message) → AreLines (map message_
 message_lines_are law [] = tt
 message_lines_are law (m ∷ ms) = (law m, message_lines_are law ms)
 
-answer_is : OnOneLine → (messages : List Message) (command : Command) → IsReply (answer messages command)
-answer_is law messages Fields = message_lines_are law (fields messages)
-answer_is law messages (Messages since) = message_lines_are law (messages_after since messages)
-answer_is law messages (Value dataset row column) =
+-- a code that is written out
+code : (text : List ℕ) → list_any (λ b. b == 10) text ≡ false → IsLine text
+code text h = is_line text (tested text h)
+
+balance_is : (rows : Rows) (account : List ℕ) → IsReply (balance_answer rows account)
+balance_is rows account = by (is_live_account rows account)
+  where
+    by : (live : Bool) → IsReply (cond live (Done (signed_decimal (balance_of rows account) ∷ [])) (no_such_account account))
+    by true = (is_line (signed_decimal (balance_of rows account)) (signed_plain (balance_of rows account)), tt)
+    by false = code (codes "no-such-account") refl
+
+register_reply_is : (rows : Rows) (account : List ℕ) → HasNames rows → IsReply (register_answer rows account)
+register_reply_is rows account named = by (is_live_account rows account)
+  where
+    by : (live : Bool) → IsReply (cond live (Done (register_lines rows account)) (no_such_account account))
+    by true = register_is rows account named
+    by false = code (codes "no-such-account") refl
+
+told_is : (name : CellName) (value : Option ℤ) → IsReply (told_cell name value)
+told_is name (Some z) = (is_line (signed_decimal z) (signed_plain z), tt)
+told_is name None = by (is_of_group name.kind)
+  where
+    by : (group : Bool) → IsReply (cond group (no_such_group name.id) (no_such_category name.id))
+    by true = code (codes "no-such-group") refl
+    by false = code (codes "no-such-category") refl
+
+named_is : (rows : Rows) (name : Option CellName) → IsReply (cell_or_faulty rows name)
+named_is rows None = code (codes "bad-command") refl
+named_is rows (Some name) = told_is name (cell_of (budget_of rows) name)
+
+cell_is : (rows : Rows) (month : ℕ) (name : List ℕ) → IsReply (cell_answer rows month name)
+cell_is rows month name = by (is_month month)
+  where
+    by : (is : Bool) → IsReply (cond is (cell_or_faulty rows (cell_named month name)) (bad_month month))
+    by true = named_is rows (cell_named month name)
+    by false = code (codes "bad-month") refl
+
+sheet_reply_is : (rows : Rows) (month : ℕ) → HasNames rows → IsReply (sheet_answer rows month)
+sheet_reply_is rows month named = by (is_month month)
+  where
+    by : (is : Bool) → IsReply (cond is (Done (map cell_text (sheet_of (budget_of rows) month))) (bad_month month))
+    by true = sheet_is rows month named
+    by false = code (codes "bad-month") refl
+
+answer_is : OnOneLine → (messages : List Message) (command : Command) → AreMessages messages → IsReply (answer messages command)
+answer_is law messages Fields valid = message_lines_are law (fields messages)
+answer_is law messages (Messages since) valid = message_lines_are law (messages_after since messages)
+answer_is law messages (Value dataset row column) valid =
     let value : Option AnyValue = value_in messages (field_of dataset row column) in (is_line (shown value) (shown_plain value), tt)
-answer_is law messages Trie =
+answer_is law messages Trie valid =
     let f : Held = trie_of (pairs_of messages) in (is_line (trie_text f) (trie_plain f), tt)
-answer_is law messages (Edit edit) = tt
-answer_is law messages (Receive message) = tt
+answer_is law messages (Balance account) valid = balance_is (rows_of messages) account
+answer_is law messages (Register account) valid = register_reply_is (rows_of messages) account (rows_named messages valid)
+answer_is law messages (Cell month name) valid = cell_is (rows_of messages) month name
+answer_is law messages (Sheet month) valid = sheet_reply_is (rows_of messages) month (rows_named messages valid)
+answer_is law messages (Edit edit) valid = tt
+answer_is law messages (Receive message) valid = tt
 
 -- a word and a number
 counted : (word : List ℕ) (n : ℕ) → list_any (λ b. b == 10) word ≡ false → IsLine (word ++ decimal n)
@@ -145,10 +164,6 @@ made_are : (made : List (List ℕ)) → AreLines made → AreLines (map (λ id. 
 made_are [] h = tt
 made_are (id ∷ ids) h =
     (is_line (codes "made " ++ id) (both (codes "made ") id (tested (codes "made ") refl) (plain_of id h.0)), made_are ids h.1)
-
--- a code that is written out
-code : (text : List ℕ) → list_any (λ b. b == 10) text ≡ false → IsLine text
-code text h = is_line text (tested text h)
 
 clock_is : (fault : ClockFault) → IsReply (refused_clock fault)
 clock_is (Drift logical reading) = code (codes "clock-drift") refl
@@ -162,7 +177,30 @@ IsReplyIf (Some reply) = IsReply reply
 
 refusal_if : (refusal : LineRefusal) → IsReplyIf (refused refusal)
 refusal_if (OfEdit (BadId id)) = code (codes "bad-id") refl
-refusal_if (OfEdit (TooManyWrites count)) = code (codes "too-many-writes") refl
+refusal_if (OfEdit (IdTaken id)) = code (codes "id-taken") refl
+refusal_if (OfEdit (NoSuchAccount id)) = code (codes "no-such-account") refl
+refusal_if (OfEdit (NoSuchGroup id)) = code (codes "no-such-group") refl
+refusal_if (OfEdit (NoSuchCategory id)) = code (codes "no-such-category") refl
+refusal_if (OfEdit (NoSuchPayee id)) = code (codes "no-such-payee") refl
+refusal_if (OfEdit (NoSuchTransaction id)) = code (codes "no-such-transaction") refl
+refusal_if (OfEdit (BadDate n)) = code (codes "bad-date") refl
+refusal_if (OfEdit (BadAmount n)) = code (codes "bad-amount") refl
+refusal_if (OfEdit (BadMonth n)) = code (codes "bad-month") refl
+refusal_if (OfEdit (SplitSum difference)) = code (codes "split-sum") refl
+refusal_if (OfEdit (IsChild id)) = code (codes "split-part") refl
+refusal_if (OfEdit (IsTransferPart id)) = code (codes "transfer-part") refl
+refusal_if (OfEdit (SameAccount id)) = code (codes "same-id") refl
+refusal_if (OfEdit (ClosedAccount balance)) = code (codes "account-balance") refl
+refusal_if (OfEdit (IncomeCategory id)) = code (codes "income-category") refl
+refusal_if (OfEdit (NameTaken id)) = code (codes "name-taken") refl
+refusal_if (OfEdit (TooManyWrites n)) = code (codes "too-many-writes") refl
+refusal_if (OfEdit (BadRule part at)) = code (codes "bad-rule") refl
+refusal_if (OfEdit (NoSuchSchedule id)) = code (codes "no-such-schedule") refl
+refusal_if (OfEdit (BadRecur part)) = code (codes "bad-recur") refl
+refusal_if (OfEdit (ScheduleDone id)) = code (codes "schedule-done") refl
+refusal_if (OfEdit (BadStatement row column)) = code (codes "bad-statement") refl
+refusal_if (OfEdit NothingToUndo) = code (codes "nothing-to-undo") refl
+refusal_if (OfEdit NothingToRedo) = code (codes "nothing-to-redo") refl
 refusal_if (OfEdit EditNoMemory) = tt
 refusal_if (OfClock fault) = clock_is fault
 refusal_if NoMemory = tt
@@ -195,7 +233,7 @@ pieces-ended (line ∷ lines) h =
 pub are_lines : OnOneLine → RepliesAreLines
 are_lines law = record {
   cut = λ reply h. pieces-ended (reply_lines reply) (lines_are reply h);
-  answers = λ messages command valid. answer_is law messages command;
+  answers = λ messages command valid. answer_is law messages command valid;
   edits = λ writes made h. (counted (codes "writes ") writes refl, made_are made h);
   received = λ count. (counted (codes "added ") count refl, tt);
   faults = λ index. code (codes "bad-command") refl;

@@ -12,18 +12,19 @@ use Rattle.hybrid_clock.specs.declared.stamp.Stamp.{Stamp}
 use Rattle.hybrid_clock.specs.declared.stamp.StampFault.{StampFault}
 use Rattle.hybrid_clock.specs.Reading.{read_stamp}
 use Rattle.command_lines.specs.declared.command.Command.{Command}
-use Rattle.command_lines.specs.Forms.{Share, Wanted, no_more, word, may_end, some_texts, some_shares, misfit, is_name, of_stamp, of_amount, amount_of, id_or_none, ends, behind}
+use Rattle.command_lines.specs.Forms.{Share, Wanted, no_more, word, may_end, some_texts, some_shares, misfit, is_name, of_stamp, if_read, amount_of, id_or_none, ends, behind}
 use Rattle.command_lines.specs.Commands.{IsCommand}
 use Rattle.command_lines.specs.FormLaws.{share_texts, id_text, IsShare}
-use Rattle.command_lines.specs.Written.{command_texts}
+use Rattle.command_lines.specs.Written.{command_texts, CanBeWritten}
 use Rattle.command_lines.proofs.Amounts.{amount_written, id_written}
 use Rattle.command_lines.proofs.FormLemmas.{Makes}
 use Rattle.command_lines.proofs.RepeatLemmas.{made_some}
 
--- the command is valid, and these are its texts
+-- the command is valid, and its words, which are these texts, can be written
 pub record IsCommandOf (texts : List (List ℕ)) (c : Command) : Type 0 where
   pub same : command_texts c ≡ texts
   pub valid : IsCommand c
+  pub can : CanBeWritten c
 
 -- each command that is made here is one of the texts in front, and then those of the words
 abbrev pub Tells : List (List ℕ) → Wanted → Type 0
@@ -58,7 +59,7 @@ tells_behind (some_texts texts made) front text h =
     (sym (append_assoc front (text ∷ []) more)) (ap made (sym (append_assoc texts (text ∷ []) more))) (h (text ∷ more))
 tells_behind (some_shares shares made) front text h = by (amount_of text) refl
   where
-    by : (o : Option ℤ) → amount_of text ≡ o → Tells (front ++ text ∷ []) (of_amount (λ n. word (λ id. some_shares (shares ++ (n, id_or_none id) ∷ []) made)) o)
+    by : (o : Option ℤ) → amount_of text ≡ o → Tells (front ++ text ∷ []) (if_read (λ n. word (λ id. some_shares (shares ++ (n, id_or_none id) ∷ []) made)) o)
     by None e = tt
     by (Some n) e = λ id more valid.
         let share : Share = (n, id_or_none id) in
@@ -86,6 +87,12 @@ pub tells_stamp : (read : Result Stamp StampFault) (front : List (List ℕ)) (te
     → ((s : Stamp) → read_stamp text ≡ Ok s → Tells front (next s)) → Tells front (of_stamp next read)
 tells_stamp (Err fault) front text next e h = tt
 tells_stamp (Ok s) front text next e h = h s e
+
+-- a form: the word is of it, and was read as this
+pub tells_form : {A : Type 0} (o : Option A) (front : List (List ℕ)) (text : List ℕ) (read : List ℕ → Option A) (next : A → Wanted) → read text ≡ o
+    → ((a : A) → read text ≡ Some a → Tells front (next a)) → Tells front (if_read next o)
+tells_form None front text read next e h = tt
+tells_form (Some a) front text read next e h = h a e
 
 none_is : (o : Option NameFault) → is_none o ≡ true → o ≡ None
 none_is None e = refl

@@ -1,7 +1,8 @@
 -- What the answers of the lines that only read tell.
-use Rattle.std.specs.Prelude.{◌≡◌, ◌↔◌, ℕ, List, [], ◌∷◌, map, codes, None, true}
+use Rattle.std.specs.Prelude.{◌≡◌, ◌≢◌, ◌↔◌, ℕ, ℤ, List, [], ◌∷◌, ◌++◌, map, codes, Option, None, Some, true, false}
 use Rattle.std.specs.Cmp.Lexicographic.{slice_cmp}
-use Rattle.std.specs.List.{Contains}
+use Rattle.std.specs.List.{Contains, flat_map}
+use Rattle.std.specs.Fmt.{signed_decimal}
 use Rattle.std.specs.List.Sorted.{IsPermutation}
 use Rattle.std.specs.Ordering.{is_gt, nat_cmp}
 use Rattle.field_values.specs.Names.{field_of}
@@ -14,8 +15,24 @@ use Rattle.field_merge.specs.Log.{IsRising}
 use Rattle.field_merge.specs.Messages.{message_line, AreMessages}
 use Rattle.minute_trie.specs.Trie.{Pair, stamp_pair, trie_of}
 use Rattle.minute_trie.specs.Faults.{fault_of_text, map_of_text}
-use Rattle.command_lines.specs.declared.command.Command.TheVariants.{Fields, Messages, Value, Trie}
+use Rattle.command_lines.specs.declared.command.Command.TheVariants.{Fields, Messages, Value, Trie, Balance, Register, Cell, Sheet}
 use Rattle.command_lines.specs.declared.reply.Reply.TheVariants.{Done}
+use Rattle.field_merge.specs.Lines.{ended}
+use Rattle.book_rows.specs.Live.{is_live_account}
+use Rattle.book_rows.specs.Balances.{balance_of}
+use Rattle.book_rows.specs.Months.{is_month}
+use Rattle.envelope_cells.specs.declared.name.CellName.{CellName}
+use Rattle.envelope_cells.specs.declared.name.CellKind.{CellKind}
+use Rattle.envelope_cells.specs.BudgetOf.{budget_of}
+use Rattle.envelope_cells.specs.CellOf.{cell_of, is_of_category}
+use Rattle.envelope_cells.specs.SheetOf.{sheet_of}
+use Rattle.envelope_cells.specs.Text.{kind_text, sheet_text}
+use Rattle.device_core.specs.Books.{rows_of}
+use Rattle.command_lines.specs.Refusals.{no_such_account, no_such_group, no_such_category, bad_month}
+use Rattle.command_lines.specs.Replies.{faulty}
+use Rattle.command_lines.specs.Register.{Entry}
+use Rattle.command_lines.specs.RegisterLaws.{IsRegister}
+use Rattle.command_lines.specs.CellNames.{is_of_group, is_of_month}
 use Rattle.command_lines.specs.Readings.{answer}
 
 -- the messages that are told are those of ms whose timestamp's text is greater than the text, by timestamp
@@ -27,6 +44,41 @@ pub record ListsLater (since : List ℕ) (ms told : List Message) : Type 0 where
 pub record TellsTrie (ms : List Message) (text : List ℕ) : Type 0 where
   pub right : fault_of_text text ≡ None
   pub same : (pairs : List Pair) → IsPermutation pairs (map (λ m. stamp_pair m.stamp) ms) → map_of_text text ≡ trie_of pairs
+
+-- a cell of a month has no id
+abbrev pub MayHaveId : CellKind → List ℕ → Type 0
+MayHaveId kind id = is_of_month kind ≡ true → id ≡ []
+
+-- the name of a cell, and what it tells of the messages' books
+abbrev pub name_text : CellName → List ℕ
+name_text name = kind_text name.kind ++ name.id
+
+abbrev pub value_in_books : List Message → CellName → Option ℤ
+value_in_books ms name = cell_of (budget_of (rows_of ms)) name
+
+-- what the lines that ask of the books are answered, which are the rows of the messages
+pub record BooksAreTold (ms : List Message) : Type 0 where
+  -- `balance` and `register` of a live account: its balance, and the lines of its live transactions, by day and id
+  pub balance : (account : List ℕ) → is_live_account (rows_of ms) account ≡ true → answer ms (Balance account) ≡ Done (signed_decimal (balance_of (rows_of ms) account) ∷ [])
+  pub register : (account : List ℕ) → is_live_account (rows_of ms) account ≡ true
+      → (told : List Entry) × (answer ms (Register account) ≡ Done (map (λ e. e.1) told)) × IsRegister (rows_of ms) account told
+  -- and of any other
+  pub no_balance : (account : List ℕ) → is_live_account (rows_of ms) account ≡ false → answer ms (Balance account) ≡ no_such_account account
+  pub no_register : (account : List ℕ) → is_live_account (rows_of ms) account ≡ false → answer ms (Register account) ≡ no_such_account account
+  -- `cell` of a month, by the name of a cell: what it tells, or that there is no such group or category
+  pub cell : (name : CellName) (z : ℤ) → is_month name.month ≡ true → MayHaveId name.kind name.id → value_in_books ms name ≡ Some z
+      → answer ms (Cell name.month (name_text name)) ≡ Done (signed_decimal z ∷ [])
+  pub no_group : (name : CellName) → is_month name.month ≡ true → is_of_group name.kind ≡ true → value_in_books ms name ≡ None
+      → answer ms (Cell name.month (name_text name)) ≡ no_such_group name.id
+  pub no_category : (name : CellName) → is_month name.month ≡ true → is_of_category name.kind ≡ true → value_in_books ms name ≡ None
+      → answer ms (Cell name.month (name_text name)) ≡ no_such_category name.id
+  -- and by a name of no kind
+  pub no_kind : (month : ℕ) (text : List ℕ) → is_month month ≡ true → ((name : CellName) → MayHaveId name.kind name.id → name_text name ≢ text) → answer ms (Cell month text) ≡ faulty 2
+  -- `sheet` of a month: the lines of its sheet
+  pub sheet : (month : ℕ) → is_month month ≡ true → (lines : List (List ℕ)) × (answer ms (Sheet month) ≡ Done lines) × (flat_map ended lines ≡ sheet_text (sheet_of (budget_of (rows_of ms)) month))
+  -- `cell` and `sheet` of no month
+  pub no_cell : (month : ℕ) (text : List ℕ) → is_month month ≡ false → answer ms (Cell month text) ≡ bad_month month
+  pub no_sheet : (month : ℕ) → is_month month ≡ false → answer ms (Sheet month) ≡ bad_month month
 
 -- what the lines that only read are answered
 pub record AnswersTell : Type 0 where
@@ -40,3 +92,5 @@ pub record AnswersTell : Type 0 where
   pub messages : (ms told : List Message) (since : List ℕ) → IsRising ms → ListsLater since ms told → answer ms (Messages since) ≡ Done (map message_line told)
   -- `trie`: the text of the trie of the messages
   pub trie : (ms : List Message) → AreMessages ms → (text : List ℕ) × (answer ms Trie ≡ Done (text ∷ [])) × TellsTrie ms text
+  -- the lines that ask of the books
+  pub books : (ms : List Message) → BooksAreTold ms

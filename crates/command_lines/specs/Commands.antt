@@ -6,18 +6,23 @@ use Rattle.field_values.specs.Value.{value_of}
 use Rattle.field_merge.specs.Lines.{parts}
 use Rattle.field_merge.specs.Messages.{IsMessage, message_of}
 use Rattle.device_core.specs.declared.edit.Edit.TheVariants.{Book}
-use Rattle.device_core.specs.declared.edit.BookEdit.TheVariants.{Set}
 use Rattle.device_core.specs.Edits.{IsEdit}
+use Rattle.book_edits.specs.declared.edit.BookEdit.{BookEdit}
+use Rattle.book_edits.specs.declared.edit.BookEdit.TheVariants.{Set, AccountAdd, AccountRename, AccountOffbudget, AccountReopen, AccountClose, GroupAdd, GroupRename, GroupDelete, CategoryAdd, CategoryRename, CategoryMove, CategoryDelete, PayeeAdd, PayeeRename, PayeeDelete, TxAdd, Budget, Carryover, Hold, Move, Note}
 use Rattle.command_lines.specs.declared.command.Command.{Command}
-use Rattle.command_lines.specs.declared.command.Command.TheVariants.{Edit, Receive, Fields, Messages, Value, Trie}
+use Rattle.command_lines.specs.declared.command.Command.TheVariants.{Edit, Receive, Fields, Messages, Value, Trie, Balance, Register, Cell, Sheet}
 use Rattle.command_lines.specs.declared.command.CommandFault.{CommandFault}
 use Rattle.command_lines.specs.declared.command.CommandFault.TheVariants.{BadCommand, NoMemory}
-use Rattle.command_lines.specs.Forms.{Wanted, word, no_more, misfit, stamp_word, name_word, command_of}
+use Rattle.command_lines.specs.Forms.{Wanted, word, no_more, misfit, stamp_word, name_word, amount_word, flag_word, date_word, month_word, id_word, command_of}
+
+-- an edit of the books
+abbrev pub edit : BookEdit → Command
+edit e = Edit (Book e)
 
 -- the words of each line, behind its name. `set`: a field's three names, which the edit judges, and the text of a value
 abbrev pub set_words : Wanted
 set_words = word (λ dataset. word (λ row. word (λ column. word (λ value.
-    no_more (Edit (Book (Set dataset row column (value_of value))))))))
+    no_more (edit (Set dataset row column (value_of value)))))))
 
 -- `receive`: the parts of a message's line
 abbrev pub receive_words : Wanted
@@ -40,6 +45,86 @@ value_words = word (λ dataset. word (λ row. word (λ column. no_more (Value da
 abbrev pub trie_words : Wanted
 trie_words = no_more Trie
 
+-- the lines that give a row a name, a place or a note: an id, and a name, another id or a text
+abbrev pub account_rename_words : Wanted
+account_rename_words = word (λ id. word (λ name. no_more (edit (AccountRename id name))))
+
+abbrev pub group_rename_words : Wanted
+group_rename_words = word (λ id. word (λ name. no_more (edit (GroupRename id name))))
+
+abbrev pub category_rename_words : Wanted
+category_rename_words = word (λ id. word (λ name. no_more (edit (CategoryRename id name))))
+
+abbrev pub payee_rename_words : Wanted
+payee_rename_words = word (λ id. word (λ name. no_more (edit (PayeeRename id name))))
+
+abbrev pub category_move_words : Wanted
+category_move_words = word (λ id. word (λ group. no_more (edit (CategoryMove id group))))
+
+abbrev pub note_words : Wanted
+note_words = word (λ id. word (λ text. no_more (edit (Note id text))))
+
+-- the lines that open, close or delete a row: an id; and whether an account stands outside the budget
+abbrev pub account_reopen_words : Wanted
+account_reopen_words = word (λ id. no_more (edit (AccountReopen id)))
+
+abbrev pub account_close_words : Wanted
+account_close_words = word (λ id. no_more (edit (AccountClose id)))
+
+abbrev pub account_offbudget_words : Wanted
+account_offbudget_words = word (λ id. flag_word (λ off. no_more (edit (AccountOffbudget id off))))
+
+abbrev pub group_delete_words : Wanted
+group_delete_words = word (λ id. no_more (edit (GroupDelete id)))
+
+abbrev pub category_delete_words : Wanted
+category_delete_words = word (λ id. no_more (edit (CategoryDelete id)))
+
+abbrev pub payee_delete_words : Wanted
+payee_delete_words = word (λ id. no_more (edit (PayeeDelete id)))
+
+-- the lines that add a row: an id or a hyphen for a new one, and what the row is to have
+abbrev pub account_add_words : Wanted
+account_add_words = id_word (λ id. word (λ name. flag_word (λ off. no_more (edit (AccountAdd id name off)))))
+
+abbrev pub group_add_words : Wanted
+group_add_words = id_word (λ id. word (λ name. flag_word (λ income. no_more (edit (GroupAdd id name income)))))
+
+abbrev pub category_add_words : Wanted
+category_add_words = id_word (λ id. word (λ group. word (λ name. no_more (edit (CategoryAdd id group name)))))
+
+abbrev pub payee_add_words : Wanted
+payee_add_words = id_word (λ id. word (λ name. no_more (edit (PayeeAdd id name))))
+
+abbrev pub tx_add_words : Wanted
+tx_add_words = id_word (λ id. word (λ account. date_word (λ date. amount_word (λ amount. id_word (λ payee. id_word (λ category. word (λ notes. no_more (edit (TxAdd id account date amount payee category notes)))))))))
+
+-- the lines that budget a month: a month, and what is given, held back or moved in it
+abbrev pub budget_words : Wanted
+budget_words = month_word (λ month. word (λ category. amount_word (λ amount. no_more (edit (Budget month category amount)))))
+
+abbrev pub carryover_words : Wanted
+carryover_words = month_word (λ month. word (λ category. flag_word (λ carries. no_more (edit (Carryover month category carries)))))
+
+abbrev pub hold_words : Wanted
+hold_words = month_word (λ month. amount_word (λ amount. no_more (edit (Hold month amount))))
+
+abbrev pub move_amount_words : Wanted
+move_amount_words = month_word (λ month. word (λ from. word (λ to. amount_word (λ amount. no_more (edit (Move month from to amount))))))
+
+-- the lines that ask of the books: an account; or a month, and the name of a cell
+abbrev pub balance_words : Wanted
+balance_words = word (λ account. no_more (Balance account))
+
+abbrev pub register_words : Wanted
+register_words = word (λ account. no_more (Register account))
+
+abbrev pub cell_words : Wanted
+cell_words = month_word (λ month. word (λ name. no_more (Cell month name)))
+
+abbrev pub sheet_words : Wanted
+sheet_words = month_word (λ month. no_more (Sheet month))
+
 -- a line: its name, and the words that it wants behind it
 abbrev pub LineForm : Type 0
 LineForm = List ℕ × Wanted
@@ -60,9 +145,74 @@ field_lines =
     ∷ (codes "trie", trie_words)
     ∷ []
 
--- the words that a line with this name wants
+-- the lines that give a row a name, a place or a note
+abbrev pub row_lines : List LineForm
+row_lines =
+    (codes "account-rename", account_rename_words)
+    ∷ (codes "group-rename", group_rename_words)
+    ∷ (codes "category-rename", category_rename_words)
+    ∷ (codes "payee-rename", payee_rename_words)
+    ∷ (codes "category-move", category_move_words)
+    ∷ (codes "note", note_words)
+    ∷ []
+
+-- the lines that open, close or delete a row
+abbrev pub state_lines : List LineForm
+state_lines =
+    (codes "account-reopen", account_reopen_words)
+    ∷ (codes "account-close", account_close_words)
+    ∷ (codes "account-offbudget", account_offbudget_words)
+    ∷ (codes "group-delete", group_delete_words)
+    ∷ (codes "category-delete", category_delete_words)
+    ∷ (codes "payee-delete", payee_delete_words)
+    ∷ []
+
+-- the lines that add a row
+abbrev pub add_lines : List LineForm
+add_lines =
+    (codes "account-add", account_add_words)
+    ∷ (codes "group-add", group_add_words)
+    ∷ (codes "category-add", category_add_words)
+    ∷ (codes "payee-add", payee_add_words)
+    ∷ (codes "tx-add", tx_add_words)
+    ∷ []
+
+-- the lines that budget a month
+abbrev pub month_lines : List LineForm
+month_lines =
+    (codes "budget", budget_words)
+    ∷ (codes "carryover", carryover_words)
+    ∷ (codes "hold", hold_words)
+    ∷ (codes "move", move_amount_words)
+    ∷ []
+
+-- the lines that ask of the books
+abbrev pub book_lines : List LineForm
+book_lines =
+    (codes "balance", balance_words)
+    ∷ (codes "register", register_words)
+    ∷ (codes "cell", cell_words)
+    ∷ (codes "sheet", sheet_words)
+    ∷ []
+
+-- the words that a line with this name wants: those of a line about messages and fields, of the next kind, or of the one behind it
+unfoldable pub words_of_book_lines : List ℕ → Wanted
+words_of_book_lines name = words_in book_lines name misfit
+
+unfoldable pub words_of_month_lines : List ℕ → Wanted
+words_of_month_lines name = words_in month_lines name (words_of_book_lines name)
+
+unfoldable pub words_of_add_lines : List ℕ → Wanted
+words_of_add_lines name = words_in add_lines name (words_of_month_lines name)
+
+unfoldable pub words_of_state_lines : List ℕ → Wanted
+words_of_state_lines name = words_in state_lines name (words_of_add_lines name)
+
+unfoldable pub words_of_row_lines : List ℕ → Wanted
+words_of_row_lines name = words_in row_lines name (words_of_state_lines name)
+
 abbrev pub line_words : List ℕ → Wanted
-line_words name = words_in field_lines name misfit
+line_words name = words_in field_lines name (words_of_row_lines name)
 
 -- the first word names the line
 abbrev pub of_words : List (List ℕ) → Result Command ℕ
@@ -101,4 +251,5 @@ IsCommand _ = Unit {0}
 abbrev pub HoldsText : Command → Type 0
 HoldsText Fields = ⊥
 HoldsText Trie = ⊥
+HoldsText (Sheet month) = ⊥
 HoldsText _ = Unit {0}

@@ -1,5 +1,5 @@
 -- The forms that the words of a line have, and the command that words of a form make.
-use Rattle.std.specs.Prelude.{ℕ, ◌+◌, List, [], ◌∷◌, ◌++◌, Bool, ◌&&◌, if◌then◌else◌, codes, Option, None, Some, is_none, Result, Ok, Err, ℤ, pos, neg_ℤ, int_le}
+use Rattle.std.specs.Prelude.{ℕ, ◌+◌, ◌==◌, List, [], ◌∷◌, ◌++◌, length, slice_index, Bool, true, false, ◌&&◌, if◌then◌else◌, codes, Option, None, Some, is_none, Result, Ok, Err, ℤ, pos, neg_ℤ, int_le}
 use Rattle.std.specs.Fmt.{signed_decimal}
 use Rattle.std.specs.Str.{bytes_eq}
 use Rattle.std.specs.Str.Parse.{signed_digits_value}
@@ -9,6 +9,7 @@ use Rattle.hybrid_clock.specs.declared.stamp.Stamp.{Stamp}
 use Rattle.hybrid_clock.specs.declared.stamp.StampFault.{StampFault}
 use Rattle.hybrid_clock.specs.Reading.{read_stamp}
 use Rattle.field_merge.specs.Escapes.{unescaped, bad_escape}
+use Rattle.book_rows.specs.Months.{behind as before_last, two_at, four_at}
 use Rattle.command_lines.specs.declared.command.Command.{Command}
 
 -- an amount, and an id or none
@@ -58,14 +59,51 @@ abbrev pub amount_of : List ℕ → Option ℤ
 amount_of text = let n = signed_digits_value 10 text in
     if is_amount n && bytes_eq (signed_decimal n) text then Some n else None
 
--- what is wanted behind a word that was read as an amount, or was none
-abbrev pub of_amount : (ℤ → Wanted) → Option ℤ → Wanted
-of_amount next (Some n) = next n
-of_amount next None = misfit
+-- a flag is written `1` or `0`
+abbrev pub flag_of : List ℕ → Option Bool
+flag_of text = if bytes_eq text (codes "1") then Some true else (if bytes_eq text (codes "0") then Some false else None)
+
+-- the number YYYYMMDD that eight digits write, whether or not it is a day
+unfoldable pub date_of : List ℕ → Option ℕ
+date_of text = if length text == 8 then before_last 10000 (four_at text 0) (four_at text 4) else None
+
+-- the number YYYYMM that four digits, `-` and two digits write, whether or not it is a month
+unfoldable pub month_of : List ℕ → Option ℕ
+month_of text =
+    if length text == 7 then (if slice_index text 4 == 45 then before_last 100 (four_at text 0) (two_at text 5) else None)
+    else None
+
+-- what is wanted behind a word that was read, or was not of its form
+abbrev pub if_read : {A : Type 0} → (A → Wanted) → Option A → Wanted
+if_read next (Some a) = next a
+if_read next None = misfit
+
+-- a word of a form: what its text is read as says what is wanted next
+abbrev pub form_word : {A : Type 0} → (List ℕ → Option A) → (A → Wanted) → Wanted
+form_word read next = word (λ text. if_read next (read text))
+
+abbrev pub amount_word : (ℤ → Wanted) → Wanted
+amount_word = form_word amount_of
+
+abbrev pub flag_word : (Bool → Wanted) → Wanted
+flag_word = form_word flag_of
+
+abbrev pub date_word : (ℕ → Wanted) → Wanted
+date_word = form_word date_of
+
+abbrev pub month_word : (ℕ → Wanted) → Wanted
+month_word = form_word month_of
 
 -- an id that may be left out: a hyphen stands for none
 abbrev pub id_or_none : List ℕ → Option (List ℕ)
 id_or_none text = if bytes_eq text (codes "-") then None else Some text
+
+-- any text is such an id
+unfoldable pub id_of : List ℕ → Option (Option (List ℕ))
+id_of text = Some (id_or_none text)
+
+abbrev pub id_word : (Option (List ℕ) → Wanted) → Wanted
+id_word = form_word id_of
 
 -- ---- the words of a line
 
@@ -90,7 +128,7 @@ behind (word next) text = next text
 behind (may_end command next) text = next text
 behind (some_texts texts made) text = some_texts (texts ++ text ∷ []) made
 behind (some_shares shares made) text =
-    of_amount (λ n. word (λ id. some_shares (shares ++ (n, id_or_none id) ∷ []) made)) (amount_of text)
+    if_read (λ n. word (λ id. some_shares (shares ++ (n, id_or_none id) ∷ []) made)) (amount_of text)
 behind misfit text = misfit
 
 -- what is wanted behind a word as it is written: one with a bad escape is of no form

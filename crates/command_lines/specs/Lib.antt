@@ -2,7 +2,12 @@ pub mod Forms
 pub mod FormLaws
 pub mod Commands
 pub mod Unread
+pub mod Refusals
 pub mod Replies
+pub mod Register
+pub mod RegisterLaws
+pub mod CellNames
+pub mod BookAnswers
 pub mod Readings
 pub mod Answers
 pub mod ReplyLines

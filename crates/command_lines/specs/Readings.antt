@@ -11,7 +11,10 @@ use Rattle.minute_trie.specs.Trie.{trie_of}
 use Rattle.minute_trie.specs.Json.{trie_text}
 use Rattle.kept_messages.specs.Pairs.{pairs_of}
 use Rattle.command_lines.specs.declared.command.Command.{Command}
-use Rattle.command_lines.specs.declared.command.Command.TheVariants.{Edit, Receive, Fields, Messages, Value, Trie}
+use Rattle.command_lines.specs.declared.command.Command.TheVariants.{Edit, Receive, Fields, Messages, Value, Trie, Balance, Register, Cell, Sheet}
+use Rattle.book_rows.specs.declared.rows.Rows.{Rows}
+use Rattle.device_core.specs.Books.{rows_of}
+use Rattle.command_lines.specs.BookAnswers.{balance_answer, register_answer, cell_answer, sheet_answer}
 use Rattle.command_lines.specs.declared.reply.Reply.{Reply}
 use Rattle.command_lines.specs.declared.reply.Reply.TheVariants.{Done}
 
@@ -20,13 +23,26 @@ abbrev pub shown : Option AnyValue → List ℕ
 shown None = codes "none"
 shown (Some value) = escaped (value_text value)
 
+-- what a line that asks of the books is answered, of a book with these rows
+abbrev pub book_answer : Rows → Command → Reply
+book_answer rows (Balance account) = balance_answer rows account
+book_answer rows (Register account) = register_answer rows account
+book_answer rows (Cell month name) = cell_answer rows month name
+book_answer rows (Sheet month) = sheet_answer rows month
+book_answer rows other = Done []
+
 -- what a line that only reads is answered: the latest message of each field, the messages with a greater timestamp's text,
--- the value of a field, or the text of the trie of all messages. The other lines are answered elsewhere.
+-- the value of a field, the text of the trie of all messages, or what is asked of the books, which are the rows of the messages.
+-- The other lines are answered elsewhere.
 abbrev pub answer : List Message → Command → Reply
 answer messages Fields = Done (map message_line (fields messages))
 answer messages (Messages since) = Done (map message_line (messages_after since messages))
 answer messages (Value dataset row column) = Done (shown (value_in messages (field_of dataset row column)) ∷ [])
 answer messages Trie = Done (trie_text (trie_of (pairs_of messages)) ∷ [])
+answer messages (Balance account) = book_answer (rows_of messages) (Balance account)
+answer messages (Register account) = book_answer (rows_of messages) (Register account)
+answer messages (Cell month name) = book_answer (rows_of messages) (Cell month name)
+answer messages (Sheet month) = book_answer (rows_of messages) (Sheet month)
 answer messages (Edit edit) = Done []
 answer messages (Receive message) = Done []
 
@@ -35,3 +51,11 @@ abbrev pub IsReading : Command → Type 0
 IsReading (Edit edit) = ⊥
 IsReading (Receive message) = ⊥
 IsReading _ = Unit {0}
+
+-- a line that asks of the books
+abbrev pub AsksBooks : Command → Type 0
+AsksBooks (Balance account) = Unit {0}
+AsksBooks (Register account) = Unit {0}
+AsksBooks (Cell month name) = Unit {0}
+AsksBooks (Sheet month) = Unit {0}
+AsksBooks other = ⊥

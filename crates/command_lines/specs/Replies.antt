@@ -6,11 +6,10 @@ use Rattle.hybrid_clock.specs.declared.clock.ClockFault.{ClockFault}
 use Rattle.hybrid_clock.specs.declared.clock.ClockFault.TheVariants.{Drift, Overflow, Beyond}
 use Rattle.field_merge.specs.Escapes.{escaped}
 use Rattle.field_merge.specs.Lines.{ended}
-use Rattle.device_core.specs.declared.edit.EditFault.{EditFault}
-use Rattle.device_core.specs.declared.edit.EditFault.TheVariants.{BadId, TooManyWrites, NoMemory as EditNoMemory}
 use Rattle.device_core.specs.declared.edit.LineRefusal.{LineRefusal}
 use Rattle.device_core.specs.declared.edit.LineRefusal.TheVariants.{Edit, Clock, NoMemory}
 use Rattle.command_lines.specs.declared.reply.Reply.{Reply}
+use Rattle.command_lines.specs.Refusals.{refused_edit}
 use Rattle.command_lines.specs.declared.reply.Reply.TheVariants.{Done, Refused}
 
 -- an edit that made writes and rows with these ids
@@ -24,12 +23,6 @@ added count = Done ((codes "added " ++ decimal count) ∷ [])
 -- a line whose word at this index is the first that is not of its form
 abbrev pub faulty : ℕ → Reply
 faulty index = Refused 30 (codes "bad-command") (decimal index)
-
--- an edit that was refused; a want of memory has no reply
-abbrev pub refused_edit : EditFault → Option Reply
-refused_edit (BadId id) = Some (Refused 1 (codes "bad-id") id)
-refused_edit (TooManyWrites count) = Some (Refused 18 (codes "too-many-writes") (decimal count))
-refused_edit EditNoMemory = None
 
 -- a timestamp that the clock refused
 abbrev pub refused_clock : ClockFault → Reply

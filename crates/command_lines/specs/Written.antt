@@ -1,5 +1,5 @@
 -- How a command is written as a line, that the line reads back, and that a line that was read is written back.
-use Rattle.std.specs.Prelude.{◌≡◌, ◌≤◌, ℕ, List, [], ◌∷◌, ◌++◌, ◌↔◌, length, codes, Ok}
+use Rattle.std.specs.Prelude.{◌≡◌, ◌≢◌, ◌≤◌, ◌<◌, ℕ, ◌/◌, List, [], ◌∷◌, ◌++◌, ◌↔◌, length, codes, ℤ, Bool, true, false, Option, None, Some, Ok}
 use Rattle.std.specs.List.{flat_map}
 use Rattle.field_values.specs.Value.{value_text}
 use Rattle.field_merge.specs.declared.message.Message.{Message}
@@ -7,19 +7,98 @@ use Rattle.field_merge.specs.Escapes.{raw_escaped}
 use Rattle.field_merge.specs.Lines.{reading}
 use Rattle.field_merge.specs.Messages.{message_texts, line_of_texts}
 use Rattle.device_core.specs.declared.edit.Edit.TheVariants.{Book}
-use Rattle.device_core.specs.declared.edit.BookEdit.TheVariants.{Set}
+use Rattle.book_edits.specs.declared.edit.BookEdit.{BookEdit}
+use Rattle.book_edits.specs.declared.edit.BookEdit.TheVariants.{Set, AccountAdd, AccountRename, AccountOffbudget, AccountReopen, AccountClose, GroupAdd, GroupRename, GroupDelete, CategoryAdd, CategoryRename, CategoryMove, CategoryDelete, PayeeAdd, PayeeRename, PayeeDelete, TxAdd, Budget, Carryover, Hold, Move, Note}
+use Rattle.std.specs.Fmt.{signed_decimal}
+use Rattle.book_rows.specs.Ids.{two_digits, four_digits, month_id}
+use Rattle.command_lines.specs.Forms.{is_amount}
+use Rattle.command_lines.specs.FormLaws.{id_text}
 use Rattle.command_lines.specs.declared.command.Command.{Command}
-use Rattle.command_lines.specs.declared.command.Command.TheVariants.{Edit, Receive, Fields, Messages, Value, Trie}
+use Rattle.command_lines.specs.declared.command.Command.TheVariants.{Edit, Receive, Fields, Messages, Value, Trie, Balance, Register, Cell, Sheet}
 use Rattle.command_lines.specs.Commands.{command, longest_line, IsCommand}
+
+-- how a flag is written, a number YYYYMMDD and a number YYYYMM
+abbrev pub flag_text : Bool → List ℕ
+flag_text true = codes "1"
+flag_text false = codes "0"
+
+abbrev pub date_text : ℕ → List ℕ
+date_text n = four_digits (n / 10000) ++ four_digits n
+
+abbrev pub month_text : ℕ → List ℕ
+month_text n = month_id n
+
+-- the name of an edit's line and its words, each as a text
+abbrev pub edit_texts : BookEdit → List (List ℕ)
+edit_texts (Set dataset row column value) = codes "set" ∷ dataset ∷ row ∷ column ∷ value_text value ∷ []
+edit_texts (AccountAdd id name off) = codes "account-add" ∷ id_text id ∷ name ∷ flag_text off ∷ []
+edit_texts (AccountRename id name) = codes "account-rename" ∷ id ∷ name ∷ []
+edit_texts (AccountOffbudget id off) = codes "account-offbudget" ∷ id ∷ flag_text off ∷ []
+edit_texts (AccountReopen id) = codes "account-reopen" ∷ id ∷ []
+edit_texts (AccountClose id) = codes "account-close" ∷ id ∷ []
+edit_texts (GroupAdd id name income) = codes "group-add" ∷ id_text id ∷ name ∷ flag_text income ∷ []
+edit_texts (GroupRename id name) = codes "group-rename" ∷ id ∷ name ∷ []
+edit_texts (GroupDelete id) = codes "group-delete" ∷ id ∷ []
+edit_texts (CategoryAdd id group name) = codes "category-add" ∷ id_text id ∷ group ∷ name ∷ []
+edit_texts (CategoryRename id name) = codes "category-rename" ∷ id ∷ name ∷ []
+edit_texts (CategoryMove id group) = codes "category-move" ∷ id ∷ group ∷ []
+edit_texts (CategoryDelete id) = codes "category-delete" ∷ id ∷ []
+edit_texts (PayeeAdd id name) = codes "payee-add" ∷ id_text id ∷ name ∷ []
+edit_texts (PayeeRename id name) = codes "payee-rename" ∷ id ∷ name ∷ []
+edit_texts (PayeeDelete id) = codes "payee-delete" ∷ id ∷ []
+edit_texts (TxAdd id account date amount payee category notes) =
+    codes "tx-add" ∷ id_text id ∷ account ∷ date_text date ∷ signed_decimal amount ∷ id_text payee ∷ id_text category ∷ notes ∷ []
+edit_texts (Budget month category amount) = codes "budget" ∷ month_text month ∷ category ∷ signed_decimal amount ∷ []
+edit_texts (Carryover month category carries) = codes "carryover" ∷ month_text month ∷ category ∷ flag_text carries ∷ []
+edit_texts (Hold month amount) = codes "hold" ∷ month_text month ∷ signed_decimal amount ∷ []
+edit_texts (Move month from to amount) = codes "move" ∷ month_text month ∷ from ∷ to ∷ signed_decimal amount ∷ []
+edit_texts (Note id text) = codes "note" ∷ id ∷ text ∷ []
+
+-- an id that is given is no hyphen, a date has eight digits at most and a month six, and an amount has 64 bits
+abbrev pub IsGiven : Option (List ℕ) → Type 0
+IsGiven id = id ≢ Some (codes "-")
+
+abbrev pub HasEight : ℕ → Type 0
+HasEight n = n < 100_000_000
+
+abbrev pub HasSix : ℕ → Type 0
+HasSix n = n < 1_000_000
+
+abbrev pub Has64Bits : ℤ → Type 0
+Has64Bits n = is_amount n ≡ true
+
+-- the words of an edit's line can write what it holds
+abbrev pub CanWriteEdit : BookEdit → Type 0
+CanWriteEdit (AccountAdd id name off) = IsGiven id
+CanWriteEdit (GroupAdd id name income) = IsGiven id
+CanWriteEdit (CategoryAdd id group name) = IsGiven id
+CanWriteEdit (PayeeAdd id name) = IsGiven id
+CanWriteEdit (TxAdd id account date amount payee category notes) = IsGiven id × HasEight date × Has64Bits amount × IsGiven payee × IsGiven category
+CanWriteEdit (Budget month category amount) = HasSix month × Has64Bits amount
+CanWriteEdit (Carryover month category carries) = HasSix month
+CanWriteEdit (Hold month amount) = HasSix month × Has64Bits amount
+CanWriteEdit (Move month from to amount) = HasSix month × Has64Bits amount
+CanWriteEdit other = Unit {0}
+
+-- the words of a line can write what the command holds
+abbrev pub CanBeWritten : Command → Type 0
+CanBeWritten (Edit (Book edit)) = CanWriteEdit edit
+CanBeWritten (Cell month name) = HasSix month
+CanBeWritten (Sheet month) = HasSix month
+CanBeWritten other = Unit {0}
 
 -- the name of a command and its words, each as a text
 abbrev pub command_texts : Command → List (List ℕ)
-command_texts (Edit (Book (Set dataset row column value))) = codes "set" ∷ dataset ∷ row ∷ column ∷ value_text value ∷ []
+command_texts (Edit (Book edit)) = edit_texts edit
 command_texts (Receive message) = codes "receive" ∷ message_texts message
 command_texts Fields = codes "fields" ∷ []
 command_texts (Messages since) = codes "messages" ∷ since ∷ []
 command_texts (Value dataset row column) = codes "value" ∷ dataset ∷ row ∷ column ∷ []
 command_texts Trie = codes "trie" ∷ []
+command_texts (Balance account) = codes "balance" ∷ account ∷ []
+command_texts (Register account) = codes "register" ∷ account ∷ []
+command_texts (Cell month name) = codes "cell" ∷ month_text month ∷ name ∷ []
+command_texts (Sheet month) = codes "sheet" ∷ month_text month ∷ []
 
 -- the line of a command
 abbrev pub command_line : Command → List ℕ
@@ -34,10 +113,10 @@ abbrev pub ReceivesMessageLines : Type 0
 ReceivesMessageLines = (line : List ℕ) (m : Message) → length (receive_line line) ≤ longest_line →
     ((command (receive_line line) ≡ Ok (Receive m)) ↔ (reading line ≡ Ok m))
 
--- the line of a command, where it is not too long, is read as the command
+-- the line of a command whose words can be written, where it is not too long, is read as the command
 abbrev pub CommandsReadBack : Type 0
-CommandsReadBack = (c : Command) → IsCommand c → length (command_line c) ≤ longest_line → command (command_line c) ≡ Ok c
+CommandsReadBack = (c : Command) → IsCommand c → CanBeWritten c → length (command_line c) ≤ longest_line → command (command_line c) ≡ Ok c
 
--- what a line is read as is a valid command, and the line is that of the command, but for the bytes 0 and LF that stand in it without their escape
+-- what a line is read as is a valid command whose words can be written, and the line is that of the command, but for the bytes 0 and LF that stand in it without their escape
 abbrev pub LinesWriteBack : Type 0
-LinesWriteBack = (line : List ℕ) (c : Command) → command line ≡ Ok c → IsCommand c × (command_line c ≡ flat_map raw_escaped line)
+LinesWriteBack = (line : List ℕ) (c : Command) → command line ≡ Ok c → IsCommand c × CanBeWritten c × (command_line c ≡ flat_map raw_escaped line)

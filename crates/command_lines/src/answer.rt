@@ -1,5 +1,5 @@
 //! The answers of the lines that only read.
-ghost use Rattle.std.specs.Prelude.{◌≡◌, ◌≢◌, ◌<◌, ◌==◌, ◌++◌, ◌∷◌, [], List, ℕ, length, MatchOption, OnOk, IfOk, IfSome, map, false};
+ghost use Rattle.std.specs.Prelude.{◌≡◌, ◌≢◌, ◌<◌, ◌≤◌, ◌==◌, ◌++◌, ◌∷◌, [], List, ℕ, length, MatchOption, OnOk, IfOk, IfSome, map, false};
 ghost use Rattle.std.specs.List.{slice_split};
 ghost use Rattle.std.specs.Option.{option_copied};
 ghost use Rattle.field_values.specs.Names.{field_of};
@@ -10,14 +10,19 @@ ghost use Rattle.field_merge.specs.Log.{fields, value_in};
 ghost use Rattle.minute_trie.specs.Trie.{trie_of};
 ghost use Rattle.minute_trie.specs.Json.{trie_text};
 ghost use Rattle.kept_messages.specs.Pairs.{pairs_of};
-ghost use Rattle.command_lines.specs.Readings.{answer, shown, IsReading};
+ghost use Rattle.device_core.specs.Books.{rows_of};
+ghost use Rattle.command_lines.specs.Readings.{answer, book_answer, shown, IsReading, AsksBooks};
 
+use crate::book_answer::{balance_reply, cell_reply, register_reply, sheet_reply};
 use crate::command::Command;
-use crate::reply::Reply;
+use crate::reply::{Reply, one_line};
+use book_rows::Book;
 use device_core::Device;
 use field_merge::{Log, Message, message_lines, push_escaped, write_line};
-use field_values::{Field, Items, NameFault, NoMemory, Txt, Value};
+use field_values::{Field, Items, NameFault, NoMemory, Steps, Txt, Value};
 use std::alloc::Global;
+use std::marker::Brand;
+use std::sync::ledger::{Blank, Ledger};
 
 /// The lines of messages.
 fn lines_of(alloc: Global, messages: &[Message]) -> Result<Items<Txt>, NoMemory>
@@ -134,33 +139,73 @@ fn trie_line(device: &Device) -> Result<Txt, NoMemory>
     device.trie().to_json()
 }
 
-/// One line.
-fn one_line(alloc: Global, line: Txt) -> Result<Items<Txt>, NoMemory>
-    ensures { IfOk result (λ lines. lines ≡ line ∷ []) }
+/// What the books, which are the rows that the values of the fields make, answer to a line that asks of them.
+fn book_reply_over<G: Ledger>(
+    alloc: Global,
+    book: &Book,
+    command: &Command,
+    blank: Blank,
+) -> Result<Reply, NoMemory>
+    requires name { blank.name ≡ G.name }
+    requires parts { blank.parts ≡ G.parts }
+    requires some { 1 ≤ G.parts }
+    requires live { book.now.spent ≡ false }
+    requires asks { AsksBooks command.now }
+    ensures { IfOk result (λ r. r ≡ book_answer book.now.rows command.now) }
 {
-    let mut lines = Vec::new(alloc);
-    lines.push(line)?;
-    Ok(Items::new(lines))
+    let mut steps = Steps::<G>::new(blank);
+    match command {
+        Command::Balance { account } => balance_reply(alloc, book, account),
+        Command::Register { account } => register_reply(alloc, book, account, &mut steps),
+        Command::Cell { month, name } => cell_reply(alloc, book, *month, name, &mut steps),
+        Command::Sheet { month } => sheet_reply(alloc, book, *month, &mut steps),
+        _ => unreachable!(),
+    }
 }
 
-/// The reply to a line that only reads: `fields`, `messages`, `value` or `trie`. It is told by the
-/// device's messages alone, so devices that have the same messages reply the same.
+/// The reply to a line that asks of the books.
+fn book_reply(alloc: Global, book: &Book, command: &Command) -> Result<Reply, NoMemory>
+    requires live { book.now.spent ≡ false }
+    requires asks { AsksBooks command.now }
+    ensures { IfOk result (λ r. r ≡ book_answer book.now.rows command.now) }
+{
+    book_reply_over::<Brand>(alloc, book, command, Blank::new(1))
+}
+
+/// What a device's books answer to a line that asks of them.
+fn told_of_books(alloc: Global, device: &Device, command: &Command) -> Result<Reply, NoMemory>
+    requires live { device.now.spent ≡ false }
+    requires asks { AsksBooks command.now }
+    ensures { IfOk result (λ r. r ≡ book_answer (rows_of device.now.state.messages) command.now) }
+{
+    book_reply(alloc, device.book(), command)
+}
+
+/// The reply to a line that only reads: `fields`, `messages`, `value`, `trie`, `balance`, `register`, `cell` or `sheet`. It is told
+/// by the device's messages alone, so devices that have the same messages reply the same.
 pub fn read_reply(alloc: Global, device: &Device, command: &Command) -> Result<Reply, NoMemory>
     requires live { device.now.spent ≡ false }
     requires reading { IsReading command.now }
     ensures { IfOk result (λ r. r ≡ answer device.now.state.messages command.now) }
 {
     let log = device.log();
-    let lines = match command {
-        Command::Fields => field_lines(alloc, log)?,
-        Command::Messages { since } => lines_of(alloc, device.outgoing(since.bytes())?.as_slice())?,
+    match command {
+        Command::Fields => Ok(Reply::Done {
+            lines: field_lines(alloc, log)?,
+        }),
+        Command::Messages { since } => Ok(Reply::Done {
+            lines: lines_of(alloc, device.outgoing(since.bytes())?.as_slice())?,
+        }),
         Command::Value {
             dataset,
             row,
             column,
-        } => one_line(alloc, shown_value(alloc, log, dataset, row, column)?)?,
-        Command::Trie => one_line(alloc, trie_line(device)?)?,
+        } => one_line(alloc, shown_value(alloc, log, dataset, row, column)?),
+        Command::Trie => one_line(alloc, trie_line(device)?),
+        Command::Balance { .. }
+        | Command::Register { .. }
+        | Command::Cell { .. }
+        | Command::Sheet { .. } => told_of_books(alloc, device, command),
         Command::Edit(_) | Command::Receive { .. } => unreachable!(),
-    };
-    Ok(Reply::Done { lines })
+    }
 }

@@ -5,6 +5,7 @@ ghost use Rattle.command_lines.specs.declared.command.CommandFault.TheVariants.{
 ghost use Rattle.command_lines.specs.Commands.{set_words, receive_words, fields_words, messages_words, value_words, trie_words, line_words, is_too_long, command, IsRead, IsCommand, HoldsText};
 ghost use Rattle.command_lines.specs.Unread.{command_of_unread, IsFaultOf, ReadsTextIn};
 
+use crate::edit_lines::row_line;
 use crate::words::{Words, cut_word};
 use device_core::{BookEdit, Edit};
 use field_merge::Message;
@@ -26,6 +27,14 @@ pub enum Command {
     Value { dataset: Txt, row: Txt, column: Txt },
     /// `trie`: the JSON text of the trie of all messages.
     Trie,
+    /// `balance ACCOUNT`: the sum of an account's transactions.
+    Balance { account: Txt },
+    /// `register ACCOUNT`: an account's transactions.
+    Register { account: Txt },
+    /// `cell MONTH NAME`: what one cell of a month YYYYMM tells.
+    Cell { month: u32, name: Txt },
+    /// `sheet MONTH`: all cells of a month YYYYMM.
+    Sheet { month: u32 },
 }
 
 impl Command {
@@ -55,6 +64,17 @@ impl Command {
                 column: column.copy()?,
             }),
             Command::Trie => Ok(Command::Trie),
+            Command::Balance { account } => Ok(Command::Balance {
+                account: account.copy()?,
+            }),
+            Command::Register { account } => Ok(Command::Register {
+                account: account.copy()?,
+            }),
+            Command::Cell { month, name } => Ok(Command::Cell {
+                month: *month,
+                name: name.copy()?,
+            }),
+            Command::Sheet { month } => Ok(Command::Sheet { month: *month }),
         }
     }
 }
@@ -193,7 +213,7 @@ fn command_of(alloc: Global, name: &str, words: &mut Words<'_>) -> Result<Comman
         "messages" => messages(alloc, words),
         "value" => value(alloc, words),
         "trie" => trie(words),
-        _ => Err(CommandFault::BadCommand { word: 0 }),
+        _ => row_line(alloc, name, words),
     }
 }
 

@@ -18,12 +18,13 @@ pub fn replies_are_lines()
     message_lines();
 }
 
-/// A law: the line of a valid command is read as the command, unless the line is too long.
+/// A law: the line of a valid command is read as the command, unless the line is too long. Words can write what it holds: no id
+/// that is given is a hyphen where that stands for none, a date has eight digits at most, a month six, and an amount 64 bits.
 pub fn commands_read_back()
     ensures { CommandsReadBack }
 {}
 
-/// A law: what a line is read as is a valid command, and the line is that of the command, but for the bytes 0 and LF that
+/// A law: what a line is read as is a valid command that words can write, and the line is that of the command, but for the bytes 0 and LF that
 /// stand in it without their escape. So each word of it counts, none has a bad escape, and lines that differ in anything else are read as
 /// different commands.
 pub fn lines_write_back()
@@ -46,7 +47,10 @@ pub fn first_bad_is_told()
 /// A law: what lines that only read are answered. `value` tells the value of the latest message of the field, escaped, and
 /// `none` where no message is one of the field. `fields` tells the line of the latest message of each field, by
 /// dataset, row and column. `messages` tells the line of each message whose timestamp's text is greater than the text, by
-/// timestamp. `trie` tells a text that is read as the trie of the messages' timestamps, in whichever order they came.
+/// timestamp. `trie` tells a text that is read as the trie of the messages' timestamps, in whichever order they came. `balance`
+/// and `register` tell of a live account, `cell` and `sheet` of a month, what the rows of the messages say: the balance, exactly
+/// the live transactions of the account by day and id, what the cell tells, and the lines of the sheet. Which account, month,
+/// group, category or kind of cell is refused is told, too.
 pub fn answers_tell()
     ensures { AnswersTell }
 {

@@ -1,11 +1,12 @@
 //! The replies to lines, and their texts.
-ghost use Rattle.std.specs.Prelude.{◌≡◌, ◌++◌, codes, string_bytes, IfOk, OnOk, Some};
+ghost use Rattle.std.specs.Prelude.{◌≡◌, ◌++◌, ◌∷◌, [], codes, string_bytes, IfOk, OnOk, Some};
 ghost use Rattle.std.specs.Fmt.{decimal};
 ghost use Rattle.command_lines.specs.declared.reply.Reply.TheVariants.{Done, Refused};
-ghost use Rattle.command_lines.specs.Replies.{wrote, added, faulty, refused, refused_edit, refused_clock, reply_text_of, detail_text};
+ghost use Rattle.command_lines.specs.Replies.{wrote, added, faulty, refused, refused_clock, reply_text_of, detail_text};
 ghost use Rattle.field_merge.specs.Lines.{ended};
 
-use device_core::{EditFault, LineRefusal};
+use crate::refusal::edit_refusal;
+use device_core::LineRefusal;
 use field_merge::push_escaped;
 use field_values::{Items, NoMemory, Txt};
 use hybrid_clock::ClockFault;
@@ -43,8 +44,19 @@ impl Reply {
     }
 }
 
+/// A reply of one line.
+pub(crate) fn one_line(alloc: Global, line: Txt) -> Result<Reply, NoMemory>
+    ensures { IfOk result (λ r. r ≡ Done (line ∷ [])) }
+{
+    let mut lines = Vec::new(alloc);
+    lines.push(line)?;
+    Ok(Reply::Done {
+        lines: Items::new(lines),
+    })
+}
+
 /// A refusal with this code and detail.
-fn refusal(alloc: Global, number: u8, code: &str, detail: Txt) -> Result<Reply, NoMemory>
+pub(crate) fn refusal(alloc: Global, number: u8, code: &str, detail: Txt) -> Result<Reply, NoMemory>
     ensures { IfOk result (λ r. r ≡ Refused number code.now detail) }
 {
     Ok(Reply::Refused {
@@ -55,7 +67,7 @@ fn refusal(alloc: Global, number: u8, code: &str, detail: Txt) -> Result<Reply, 
 }
 
 /// The text of a number.
-fn number_text(alloc: Global, number: u64) -> Result<Txt, NoMemory>
+pub(crate) fn number_text(alloc: Global, number: u64) -> Result<Txt, NoMemory>
     ensures { IfOk result (λ t. t ≡ decimal number) }
 {
     let text = number.to_string(alloc)?;
@@ -91,11 +103,7 @@ pub fn added_reply(alloc: Global, count: u64) -> Result<Reply, NoMemory>
     ensures { IfOk result (λ r. r ≡ added count) }
 {
     let text = format!(in alloc; "added {count}")?;
-    let mut lines = Vec::new(alloc);
-    lines.push(Txt::new(text))?;
-    Ok(Reply::Done {
-        lines: Items::new(lines),
-    })
+    one_line(alloc, Txt::new(text))
 }
 
 /// The reply to a line whose word at the index `word` is the first that is not of its form.
@@ -104,19 +112,6 @@ pub fn faulty_reply(alloc: Global, word: u32) -> Result<Reply, NoMemory>
 {
     let detail = number_text(alloc, word as u64)?;
     refusal(alloc, 30, "bad-command", detail)
-}
-
-/// The reply to an edit that was refused, and not for want of memory.
-fn edit_refusal(alloc: Global, fault: &EditFault) -> Result<Reply, NoMemory>
-    ensures { IfOk result (λ r. refused_edit fault.now ≡ Some r) }
-{
-    match fault {
-        EditFault::BadId { id } => refusal(alloc, 1, "bad-id", id.copy()?),
-        EditFault::TooManyWrites { n } => {
-            refusal(alloc, 18, "too-many-writes", number_text(alloc, *n)?)
-        }
-        EditFault::NoMemory => Err(NoMemory),
-    }
 }
 
 /// The reply to a timestamp that the clock refused.

@@ -1,5 +1,5 @@
 //! The words of a line, read one after the other.
-ghost use Rattle.std.specs.Prelude.{◌≡◌, ◌≢◌, ◌+◌, ◌<◌, ◌^◌, ◌∷◌, [], IfOk, IfErr, OnOk, IfNone, IfSome, List, ℕ, length};
+ghost use Rattle.std.specs.Prelude.{◌≡◌, ◌≢◌, ◌+◌, ◌<◌, ◌^◌, ◌∷◌, [], IfOk, IfErr, OnOk, IfNone, IfSome, List, ℕ, ℤ, length, Bool as Truth, Option as Choice};
 ghost use Rattle.std.specs.Option.{option_copied};
 ghost use Rattle.field_values.specs.Names.{IsName};
 ghost use Rattle.field_merge.specs.Lines.{parts};
@@ -7,10 +7,11 @@ ghost use Rattle.hybrid_clock.specs.Stamp.{IsStamp};
 ghost use Rattle.hybrid_clock.specs.declared.stamp.Stamp.{Stamp};
 ghost use Rattle.command_lines.specs.declared.command.Command.{Command};
 ghost use Rattle.command_lines.specs.Commands.{IsCommandFault};
-ghost use Rattle.command_lines.specs.Forms.{Wanted, word, no_more, stamp_word, name_word};
+ghost use Rattle.command_lines.specs.Forms.{Wanted, word, no_more, stamp_word, name_word, amount_word, flag_word, date_word, month_word, id_word};
 ghost use Rattle.command_lines.specs.Unread.{words_of, command_of_unread, HasText};
 
 use crate::command::CommandFault;
+use crate::forms::{amount_in, date_in, flag_in, month_in};
 use field_merge::{bad_escape, cut_part, unescape};
 use field_values::{NamePart, Txt, check_name};
 use hybrid_clock::Stamp;
@@ -135,6 +136,80 @@ impl<'a> Words<'a> {
             Ok(()) => Ok(name),
             Err(_) => Err(self.at_last()),
         }
+    }
+
+    /// The amount that the next word writes. The word is at fault where it is missing, has a bad escape, or is not the
+    /// decimal text of a number of 64 bits.
+    pub(crate) fn amount(&mut self, alloc: Global) -> Result<i64, CommandFault>
+        ensures ok { IfOk result (λ amount. (next : ℤ → Wanted) → command_of_unread (amount_word next) self.old ≡ command_of_unread (next amount) self.new) }
+        ensures err { IfErr result (λ fault. (next : ℤ → Wanted) → IsCommandFault (command_of_unread (amount_word next) self.old) fault) }
+        ensures there { OnOk result (HasText self.old.words) }
+        ensures memory { IfErr result (λ fault. fault ≡ CommandFault.NoMemory → HasText self.old.words) }
+    {
+        let text = self.text(alloc)?;
+        match amount_in(text.as_str()) {
+            Some(read) => Ok(read),
+            None => Err(self.at_last()),
+        }
+    }
+
+    /// The flag that the next word writes. The word is at fault where it is missing, has a bad escape, or is neither `0` nor `1`.
+    pub(crate) fn flag(&mut self, alloc: Global) -> Result<bool, CommandFault>
+        ensures ok { IfOk result (λ flag. (next : Truth → Wanted) → command_of_unread (flag_word next) self.old ≡ command_of_unread (next flag) self.new) }
+        ensures err { IfErr result (λ fault. (next : Truth → Wanted) → IsCommandFault (command_of_unread (flag_word next) self.old) fault) }
+        ensures there { OnOk result (HasText self.old.words) }
+        ensures memory { IfErr result (λ fault. fault ≡ CommandFault.NoMemory → HasText self.old.words) }
+    {
+        let text = self.text(alloc)?;
+        match flag_in(text.as_str()) {
+            Some(read) => Ok(read),
+            None => Err(self.at_last()),
+        }
+    }
+
+    /// The number YYYYMMDD that the next word writes. The word is at fault where it is missing, has a bad escape, or is not eight
+    /// digits.
+    pub(crate) fn date(&mut self, alloc: Global) -> Result<u32, CommandFault>
+        ensures ok { IfOk result (λ date. (next : ℕ → Wanted) → command_of_unread (date_word next) self.old ≡ command_of_unread (next date) self.new) }
+        ensures err { IfErr result (λ fault. (next : ℕ → Wanted) → IsCommandFault (command_of_unread (date_word next) self.old) fault) }
+        ensures there { OnOk result (HasText self.old.words) }
+        ensures memory { IfErr result (λ fault. fault ≡ CommandFault.NoMemory → HasText self.old.words) }
+    {
+        let text = self.text(alloc)?;
+        match date_in(text.as_str()) {
+            Some(read) => Ok(read),
+            None => Err(self.at_last()),
+        }
+    }
+
+    /// The number YYYYMM that the next word writes. The word is at fault where it is missing, has a bad escape, or is not four
+    /// digits, `-` and two digits.
+    pub(crate) fn month(&mut self, alloc: Global) -> Result<u32, CommandFault>
+        ensures ok { IfOk result (λ month. (next : ℕ → Wanted) → command_of_unread (month_word next) self.old ≡ command_of_unread (next month) self.new) }
+        ensures err { IfErr result (λ fault. (next : ℕ → Wanted) → IsCommandFault (command_of_unread (month_word next) self.old) fault) }
+        ensures there { OnOk result (HasText self.old.words) }
+        ensures memory { IfErr result (λ fault. fault ≡ CommandFault.NoMemory → HasText self.old.words) }
+    {
+        let text = self.text(alloc)?;
+        match month_in(text.as_str()) {
+            Some(read) => Ok(read),
+            None => Err(self.at_last()),
+        }
+    }
+
+    /// The id that the next word is, or none where it is a hyphen. The word is at fault where it is missing or has a bad escape.
+    #[tactic(auto, unfolding(crate::specs::Forms::id_of))]
+    pub(crate) fn id_or_none(&mut self, alloc: Global) -> Result<Option<Txt>, CommandFault>
+        ensures ok { IfOk result (λ id. (next : Choice (List ℕ) → Wanted) → command_of_unread (id_word next) self.old ≡ command_of_unread (next id) self.new) }
+        ensures err { IfErr result (λ fault. (next : Choice (List ℕ) → Wanted) → IsCommandFault (command_of_unread (id_word next) self.old) fault) }
+        ensures there { OnOk result (HasText self.old.words) }
+        ensures memory { IfErr result (λ fault. fault ≡ CommandFault.NoMemory → HasText self.old.words) }
+    {
+        let text = self.text(alloc)?;
+        if text.as_str() == "-" {
+            return Ok(None);
+        }
+        Ok(Some(text))
     }
 
     /// Nothing, where no word is left. The next word is one too many, and at fault.

@@ -13,10 +13,12 @@ use Rattle.hybrid_clock.specs.declared.stamp.Stamp.{Stamp}
 use Rattle.hybrid_clock.specs.declared.clock.ClockFault.{ClockFault}
 use Rattle.hybrid_clock.specs.Clock.{draw, receive}
 use Rattle.field_merge.specs.declared.message.Message.{Message}
-use Rattle.device_core.specs.declared.edit.Write.{Write}
-use Rattle.device_core.specs.declared.edit.EditFault.TheVariants.{BadId}
+use Rattle.book_rows.specs.declared.fault.EditFault.TheVariants.{BadId}
+use Rattle.book_rows.specs.declared.write.RowName.TheVariants.{Given}
+use Rattle.book_rows.specs.declared.write.Write.{Write}
+use Rattle.book_edits.specs.Writing.{write}
+use Rattle.book_edits.specs.Edits.{bad_id, write_unless}
 use Rattle.device_core.specs.declared.edit.LineRefusal.TheVariants.{Edit as OfEdit}
-use Rattle.device_core.specs.Edits.{bad_id, write_unless}
 use Rattle.device_core.specs.Device.{State, written, writing, taken_in, receiving, greatest_of, received}
 use Rattle.device_core.specs.Answering.{IsAcceptedAt, IsFirstBadName, WritesAreAnswered, MessagesAreAnswered}
 
@@ -64,11 +66,11 @@ first_told dataset row column fault h = go (name_fault Dataset dataset) (name_fa
 
 -- ---- writes
 
-no_fault : (names : FieldNames) → AreNames names → names_fault names ≡ None
+pub no_fault : (names : FieldNames) → AreNames names → names_fault names ≡ None
 no_fault names are = rw (name_fault-none Dataset names.dataset are.dataset, name_fault-none Row names.row are.row) (name_fault-none Column names.column are.column)
 
 named : (s : State) (reading : ℕ) (names : FieldNames) (value : Value) → AreNames names
-    → writing s reading (write_unless (names_fault names) names value) ≡ written s (record { field = names; value = value } ∷ []) (draw s.clock reading 1)
+    → writing s reading (write_unless (names_fault names) names value) ≡ written s (write names.dataset (Given names.row) names.column value ∷ []) (draw s.clock reading 1)
 named s reading names value are = ap (λ o. writing s reading (write_unless o names value)) (no_fault names are)
 
 no_bad_id : (s : State) (ws : List Write) (r : Result Stamp ClockFault) (id : List ℕ) → written s ws r ≡ Err (OfEdit (BadId id)) → ⊥
@@ -82,7 +84,7 @@ refused_for s dataset row column value reading fault h = ap (λ o. writing s rea
 pub writes_answered : WritesAreAnswered
 writes_answered s dataset row column value reading =
     let names : FieldNames = field_of dataset row column in
-    let ws : List Write = record { field = names; value = value } ∷ [] in record {
+    let ws : List Write = write dataset (Given row) column value ∷ [] in record {
       accepted = λ clock are drawn. (_, (named s reading names value are ∙ ap (written s ws) drawn, refl));
       no_stamp = λ fault are drawn. named s reading names value are ∙ ap (written s ws) drawn;
       bad_name = λ bad. refused bad (names_fault (field_of dataset row column)) refl;
@@ -98,7 +100,7 @@ writes_answered s dataset row column value reading =
 
     first : (id : List ℕ) (o : Option NameFault) → names_fault (field_of dataset row column) ≡ o
         → writing s reading (write_unless o (field_of dataset row column) value) ≡ Err (OfEdit (BadId id)) → IsFirstBadName dataset row column id
-    first id None is h = absurd (no_bad_id s (record { field = field_of dataset row column; value = value } ∷ []) (draw s.clock reading 1) id h)
+    first id None is h = absurd (no_bad_id s (write dataset (Given row) column value ∷ []) (draw s.clock reading 1) id h)
     first id (Some fault) is h =
         let t = first_told dataset row column fault is in
         let told = t.told in

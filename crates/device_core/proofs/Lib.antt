@@ -1,9 +1,14 @@
+pub mod Books
 pub mod Stamping
+pub mod Ids
+pub mod Drawing
 pub mod Greatest
 pub mod Writing
+pub mod Making
 pub mod ReadBack
 pub mod GreatestTold
 pub mod Received
 pub mod Answering
 pub mod Several
 pub mod Accepting
+pub mod RowsNamed

@@ -20,11 +20,14 @@ use Rattle.field_merge.specs.Log.{has_stamp, has_field, by_stamp, placed, join_o
 use Rattle.field_merge.proofs.Members.{none_from_any}
 use Rattle.field_merge.proofs.Orders.{names_total}
 use Rattle.field_merge.proofs.Latest.{latest-cons}
-use Rattle.device_core.specs.declared.edit.Write.{Write}
+use Rattle.book_rows.specs.declared.write.RowName.TheVariants.{Given}
+use Rattle.book_rows.specs.declared.write.Write.{Write}
+use Rattle.book_edits.specs.Writing.{write}
+use Rattle.book_edits.specs.Edits.{write_unless}
 use Rattle.kept_messages.specs.Records.{record_of}
-use Rattle.device_core.specs.Edits.{write_unless}
 use Rattle.kept_messages.specs.News.{new_in}
-use Rattle.device_core.specs.Device.{State, Accepted, accepted_as, IsUpTo, IsAhead, stamped, first_in_row, with_messages, written, writing}
+use Rattle.device_core.specs.Device.{State, Accepted, accepted_as, IsUpTo, IsAhead, first_in_row, with_writes, written, writing}
+use Rattle.device_core.specs.Placing.{message_at}
 use Rattle.device_core.specs.ReadBack.{IsReadBack, EditsReadBack}
 
 -- ---- a timestamp past a clock is past all that the clock is not behind
@@ -117,20 +120,20 @@ draw_node clock new reading h = go (nat_lt (reading / 60_000) window) h
 -- ---- one write
 
 write_is : (s : State) (reading : ℕ) (w : Write) (a : Accepted) → writing s reading (Ok (w ∷ [])) ≡ Ok a
-    → (clock : Stamp) × ((draw s.clock reading 1 ≡ Ok clock) × (accepted_as (with_messages s.messages (stamped (first_in_row clock 1) (w ∷ [])) clock) 1 ≡ a))
+    → (clock : Stamp) × ((draw s.clock reading 1 ≡ Ok clock) × (accepted_as (with_writes s.messages (first_in_row clock 1) (w ∷ []) clock) 1 ≡ a))
 write_is s reading w a h = go (draw s.clock reading 1) refl h
   where
     go : (d : Result Stamp ClockFault) → draw s.clock reading 1 ≡ d → written s (w ∷ []) d ≡ Ok a
-        → (clock : Stamp) × ((draw s.clock reading 1 ≡ Ok clock) × (accepted_as (with_messages s.messages (stamped (first_in_row clock 1) (w ∷ [])) clock) 1 ≡ a))
+        → (clock : Stamp) × ((draw s.clock reading 1 ≡ Ok clock) × (accepted_as (with_writes s.messages (first_in_row clock 1) (w ∷ []) clock) 1 ≡ a))
     go (Ok clock) is k = (clock, (is, cc))
     go (Err fault) is k = absurd (cc)
 
 read_write : (s : State) (dataset row column : List ℕ) (value : Value) (clock : Stamp) → IsAhead s.clock s.messages → IsLater s.clock clock → clock.node ≡ s.clock.node
-    → IsReadBack s dataset row column value (accepted_as (with_messages s.messages (stamped (first_in_row clock 1) (record { field = field_of dataset row column; value = value } ∷ [])) clock) 1)
+    → IsReadBack s dataset row column value (accepted_as (with_writes s.messages (first_in_row clock 1) (write dataset (Given row) column value ∷ []) clock) 1)
 read_write s dataset row column value clock ahead later own =
     let ms = s.messages in
-    let n : Message = record { stamp = first_in_row clock 1; field = field_of dataset row column; value = value } in
-    let counter : clock.counter ≡ clock.counter - (1 - 1) = omega arith in
+    let n : Message = message_at (first_in_row clock 1) 0 (write dataset (Given row) column value) in
+    let counter : clock.counter ≡ (clock.counter - (1 - 1)) + 0 = omega arith in
     let first : clock ≡ n.stamp = ap (λ (k : ℕ). record clock { counter = k }) counter in
     let low : AllByRecursion (λ m. IsLater m.stamp n.stamp) ms = subst (λ (t : Stamp). AllByRecursion (λ m. IsLater m.stamp t) ms) first (all_past s.clock clock ms ahead later) in
     let unknown : list_any (has_stamp n.stamp) ms ≡ false = is_new ms n low in
@@ -154,5 +157,5 @@ read_back s dataset row column value reading a ahead h = by (names_fault (field_
     by : (o : Option NameFault) → writing s reading (write_unless o (field_of dataset row column) value) ≡ Ok a → IsReadBack s dataset row column value a
     by (Some fault) k = absurd (cc)
     by None k =
-        let w = write_is s reading (record { field = field_of dataset row column; value = value }) a k in
+        let w = write_is s reading (write dataset (Given row) column value) a k in
         subst (IsReadBack s dataset row column value) w.1.1 (read_write s dataset row column value w.0 ahead (draw_later s.clock w.0 reading w.1.0) (draw_node s.clock w.0 reading w.1.0))

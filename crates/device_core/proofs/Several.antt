@@ -21,11 +21,17 @@ use Rattle.field_merge.proofs.Latest.{latest-cons}
 use Rattle.kept_messages.specs.Records.{record_of}
 use Rattle.kept_messages.specs.News.{new_in}
 use Rattle.kept_messages.proofs.Members.{all_join}
-use Rattle.device_core.specs.declared.edit.Write.{Write}
-use Rattle.device_core.specs.declared.edit.EditFault.TheVariants.{TooManyWrites}
+use Rattle.book_rows.specs.declared.fault.EditFault.{EditFault}
+use Rattle.book_rows.specs.declared.fault.EditFault.TheVariants.{TooManyWrites}
+use Rattle.book_rows.specs.declared.write.RowName.TheVariants.{Made}
+use Rattle.book_rows.specs.declared.write.Write.{Write}
 use Rattle.device_core.specs.declared.edit.LineRefusal.TheVariants.{Edit as OfEdit}
-use Rattle.device_core.specs.Device.{State, Accepted, IsUpTo, IsAhead, stamped, first_in_row, with_messages, accepted_as, written, writing}
-use Rattle.device_core.specs.Several.{counted_on, LeaveAlone, AreJoinedWrites, WritesAreJoined}
+use Rattle.device_core.specs.Books.{rows_of}
+use Rattle.device_core.specs.Edits.{writes_of}
+use Rattle.device_core.specs.Placing.{stamp_at, id_at, message_at, messages_from, stamped}
+use Rattle.device_core.specs.Device.{State, Accepted, IsUpTo, IsAhead, first_in_row, with_writes, accepted_as, written, writing}
+use Rattle.device_core.specs.Several.{LeaveAlone, Makes, AreJoinedWrites, WritesAreJoined, IsMade, EditsAreMade}
+use Rattle.device_core.proofs.Ids.{made_makes, makes_made, MakesFrom}
 use Rattle.device_core.proofs.Greatest.{ahead_later}
 use Rattle.device_core.proofs.ReadBack.{all_past, is_new, stands_last, moved_to}
 use Rattle.device_core.proofs.Stamping.{stamped_up_to}
@@ -36,7 +42,7 @@ use Rattle.device_core.proofs.Writing.{writing_many, writing_some, first_is}
 -- the first of n timestamps in a row, of which `new` is the last
 pub record IsDrawn (clock new : Stamp) (n : ℕ) : Type 0 where
   pub first : Stamp
-  pub row : new ≡ counted_on first (n - 1)
+  pub row : new ≡ stamp_at first (n - 1)
   pub later : IsLater clock first
   pub own : first.node ≡ clock.node
 
@@ -60,7 +66,7 @@ is_drawn clock new reading n h = go (nat_lt (reading / 60_000) window) h
     }
     go false k = absurd (cc)
 
-later_on : (clock first new : Stamp) (n : ℕ) → new ≡ counted_on first n → IsLater clock first → IsLater clock new
+later_on : (clock first new : Stamp) (n : ℕ) → new ≡ stamp_at first n → IsLater clock first → IsLater clock new
 later_on clock first new n row (inl p) = subst (IsLater clock) (sym row) (inl p)
 later_on clock first new n row (inr p) = subst (IsLater clock) (sym row) (inr (p.0, (let x = p.1 in omega arith)))
 
@@ -84,33 +90,36 @@ record AreBehind (ms ns : List Message) : Type 0 where
   joined : join ms ns ≡ ms ++ ns
   new : new_in ms ns ≡ ns
 
-join_row : (ms : List Message) (s : Stamp) (ws : List Write) → AreBefore s ms → AreBehind ms (stamped s ws)
-join_row ms s [] low = record { joined = sym (append-nil ms); new = refl }
-join_row ms s (w ∷ ws) low =
-    let n : Message = record { stamp = s; field = w.field; value = w.value } in
-    let next : Stamp = record s { counter = s.counter + 1 } in
-    let ns : List Message = stamped next ws in
-    let unknown : list_any (has_stamp n.stamp) ms ≡ false = is_new ms n low in
-    let one : join_one ms n ≡ ms ++ n ∷ [] = ap (λ b. cond b ms (placed by_stamp ms n)) unknown ∙ stands_last ms n low in
-    let rest = join_row (ms ++ n ∷ []) next ws (before_next ms n next low (inr (refl, omega arith))) in record {
-      joined = ap (λ l. join l ns) one ∙ rest.joined ∙ append_assoc ms (n ∷ []) ns;
-      new = ap (λ b. cond b (new_in ms ns) (n ∷ new_in (join_one ms n) ns)) unknown ∙ ap (λ l. n ∷ new_in l ns) one ∙ ap (λ l. n ∷ l) rest.new;
+join_row : (ms : List Message) (first : Stamp) (n : ℕ) (ws : List Write) → AreBefore (stamp_at first n) ms → AreBehind ms (messages_from first n ws)
+join_row ms first n [] low = record { joined = sym (append-nil ms); new = refl }
+join_row ms first n (w ∷ ws) low =
+    let m : Message = message_at first n w in
+    let ns : List Message = messages_from first (n + 1) ws in
+    let unknown : list_any (has_stamp m.stamp) ms ≡ false = is_new ms m low in
+    let one : join_one ms m ≡ ms ++ m ∷ [] = ap (λ b. cond b ms (placed by_stamp ms m)) unknown ∙ stands_last ms m low in
+    let rest = join_row (ms ++ m ∷ []) first (n + 1) ws (before_next ms m (stamp_at first (n + 1)) low (inr (refl, omega arith))) in record {
+      joined = ap (λ l. join l ns) one ∙ rest.joined ∙ append_assoc ms (m ∷ []) ns;
+      new = ap (λ b. cond b (new_in ms ns) (m ∷ new_in (join_one ms m) ns)) unknown ∙ ap (λ l. m ∷ new_in l ns) one ∙ ap (λ l. m ∷ l) rest.new;
     }
 
-row_length : (s : Stamp) (ws : List Write) → length (stamped s ws) ≡ length ws
-row_length s [] = refl
-row_length s (w ∷ ws) = ap suc (row_length (record s { counter = s.counter + 1 }) ws)
+later_at : (clock first : Stamp) (n : ℕ) → IsLater clock first → IsLater clock (stamp_at first n)
+later_at clock first n (inl p) = inl p
+later_at clock first n (inr p) = inr (p.0, (let x = p.1 in omega arith))
+
+row_length : (first : Stamp) (n : ℕ) (ws : List Write) → length (messages_from first n ws) ≡ length ws
+row_length first n [] = refl
+row_length first n (w ∷ ws) = ap suc (row_length first (n + 1) ws)
 
 -- the message at each place
-row_at : (s : Stamp) (ws : List Write) (i : ℕ) (w : Write) → slice_get ws i ≡ Some w → slice_get (stamped s ws) i ≡ Some (record { stamp = counted_on s i; field = w.field; value = w.value })
-row_at s [] i w is = absurd (cc)
-row_at s (v ∷ ws) zero w is =
+row_at : (first : Stamp) (n : ℕ) (ws : List Write) (i : ℕ) (w : Write) → slice_get ws i ≡ Some w → slice_get (messages_from first n ws) i ≡ Some (message_at first (n + i) w)
+row_at first n [] i w is = absurd (cc)
+row_at first n (v ∷ ws) zero w is =
     let same : v ≡ w = cc in
-    let counter : s.counter ≡ s.counter + 0 = omega arith in
-    ap (λ (u : Write). Some (record { stamp = s; field = u.field; value = u.value })) same ∙ ap (λ (k : ℕ). Some (record { stamp = record s { counter = k }; field = w.field; value = w.value })) counter
-row_at s (v ∷ ws) (suc i) w is =
-    let counter : (s.counter + 1) + i ≡ s.counter + suc i = omega arith in
-    row_at (record s { counter = s.counter + 1 }) ws i w is ∙ ap (λ (k : ℕ). Some (record { stamp = record s { counter = k }; field = w.field; value = w.value })) counter
+    let place : n ≡ n + 0 = omega arith in
+    ap (λ (u : Write). Some (message_at first n u)) same ∙ ap (λ (k : ℕ). Some (message_at first k w)) place
+row_at first n (v ∷ ws) (suc i) w is =
+    let place : (n + 1) + i ≡ n + suc i = omega arith in
+    row_at first (n + 1) ws i w is ∙ ap (λ (k : ℕ). Some (message_at first k w)) place
 
 -- ---- the latest message of a field among messages that others follow
 
@@ -141,19 +150,9 @@ not_of f g other = elim (cases_Bool (is_eq (names_cmp f g))) [
   | inr apart ↦ apart
 ]
 
-are_other : (f : FieldNames) (s : Stamp) (ws : List Write) → LeaveAlone f ws → AreOther f (stamped s ws)
-are_other f s [] alone = tt
-are_other f s (w ∷ ws) alone = (not_of f w.field alone.0, are_other f (record s { counter = s.counter + 1 }) ws alone.1)
-
-last_value : (ms : List Message) (s : Stamp) (front back : List Write) (w : Write) → LeaveAlone w.field back → option_map (λ (m : Message). m.value) (latest (ms ++ stamped s (front ++ w ∷ back)) w.field) ≡ Some w.value
-last_value ms s [] back w alone =
-    let next : Stamp = record s { counter = s.counter + 1 } in
-    ap (option_map (λ (m : Message). m.value)) (latest_is ms (record { stamp = s; field = w.field; value = w.value }) (stamped next back) (are_other w.field next back alone))
-last_value ms s (v ∷ front) back w alone =
-    let n : Message = record { stamp = s; field = v.field; value = v.value } in
-    let next : Stamp = record s { counter = s.counter + 1 } in
-    ap (λ (l : List Message). option_map (λ (m : Message). m.value) (latest l w.field)) (sym (append_assoc ms (n ∷ []) (stamped next (front ++ w ∷ back))))
-    ∙ last_value (ms ++ n ∷ []) next front back w alone
+are_other : (f : FieldNames) (ms : List Message) → LeaveAlone f ms → AreOther f ms
+are_other f [] alone = tt
+are_other f (m ∷ ms) alone = (not_of f m.field alone.0, are_other f ms alone.1)
 
 -- ---- what was written
 
@@ -161,7 +160,7 @@ last_value ms s (v ∷ front) back w alone =
 pub record IsWritten (s : State) (reading : ℕ) (ws : List Write) (accepted : Accepted) : Type 0 where
   pub clock : Stamp
   pub drawn : draw s.clock reading (length ws) ≡ Ok clock
-  pub is : accepted_as (with_messages s.messages (stamped (first_in_row clock (length ws)) ws) clock) (length ws) ≡ accepted
+  pub is : accepted_as (with_writes s.messages (first_in_row clock (length ws)) ws clock) (length ws) ≡ accepted
 
 pub is_written : (s : State) (reading : ℕ) (w : Write) (ws : List Write) (a : Accepted) → writing s reading (Ok (w ∷ ws)) ≡ Ok a → IsWritten s reading (w ∷ ws) a
 is_written s reading w ws a h = by (nat_lt 65_536 (length (w ∷ ws))) h
@@ -182,43 +181,86 @@ written_ahead s clock w ws d ahead =
     let time : d.first.millis ≡ clock.millis = ap (λ (t : Stamp). t.millis) (sym d.row) in
     let counter : clock.counter ≡ d.first.counter + (length (w ∷ ws) - 1) = ap (λ (t : Stamp). t.counter) d.row in
     let old : IsAhead clock s.messages = ahead_later s.clock clock s.messages (later_on s.clock d.first clock (length (w ∷ ws) - 1) d.row d.later) ahead in
-    let new : IsAhead clock (stamped d.first (w ∷ ws)) = stamped_up_to clock d.first (w ∷ ws) time (omega (arith, counter)) in
+    let new : IsAhead clock (stamped d.first (w ∷ ws)) = stamped_up_to clock d.first 0 (w ∷ ws) time (omega (arith, counter)) in
     subst (λ (t : Stamp). IsAhead clock (join s.messages (stamped t (w ∷ ws)))) (sym first) (all_join (λ (m : Message). IsUpTo clock m.stamp) s.messages (stamped d.first (w ∷ ws)) old new)
 
-joined_writes : (s : State) (clock first : Stamp) (ws : List Write) → clock ≡ counted_on first (length ws - 1) → IsLater s.clock first → first.node ≡ s.clock.node → IsAhead s.clock s.messages
-    → AreJoinedWrites s ws (accepted_as (with_messages s.messages (stamped first ws) clock) (length ws))
+not_both : (clock s : Stamp) → IsLater clock s → IsUpTo clock s → ⊥
+not_both clock s (inl p) (inl q) = omega arith
+not_both clock s (inl p) (inr q) = let e = q.0 in omega arith
+not_both clock s (inr p) (inl q) = let e = p.0 in omega arith
+not_both clock s (inr p) (inr q) = let x = p.1 in let y = q.1 in omega arith
+
+from_start : (first : Stamp) (ws : List Write) (id : List ℕ) → MakesFrom first 0 ws id → Makes first ws id
+from_start first ws id m =
+    let place : 0 + m.place ≡ m.place = omega arith in record {
+      place = m.place;
+      write = m.write;
+      there = m.there;
+      own = m.own ∙ ap (λ (k : ℕ). Made k) place;
+      text = ap (id_at first) (sym place) ∙ m.text;
+    }
+
+to_start : (first : Stamp) (ws : List Write) (id : List ℕ) → Makes first ws id → MakesFrom first 0 ws id
+to_start first ws id m =
+    let place : m.place ≡ 0 + m.place = omega arith in record {
+      place = m.place;
+      write = m.write;
+      there = m.there;
+      own = m.own ∙ ap (λ (k : ℕ). Made k) place;
+      text = ap (id_at first) (sym place) ∙ m.text;
+    }
+
+joined_writes : (s : State) (clock first : Stamp) (ws : List Write) → clock ≡ stamp_at first (length ws - 1) → IsLater s.clock first → first.node ≡ s.clock.node → IsAhead s.clock s.messages
+    → AreJoinedWrites s ws (accepted_as (with_writes s.messages first ws clock) (length ws))
 joined_writes s clock first ws row later own ahead =
-    let b = join_row s.messages first ws (all_past s.clock first s.messages ahead later) in record {
+    let b = join_row s.messages first 0 ws (all_past s.clock (stamp_at first 0) s.messages ahead (later_at s.clock first 0 later)) in record {
       messages = stamped first ws;
       first = first;
-      number = row_length first ws;
-      each = row_at first ws;
+      number = row_length first 0 ws;
+      each = λ i w is. let place : 0 + i ≡ i = omega arith in row_at first 0 ws i w is ∙ ap (λ (k : ℕ). Some (message_at first k w)) place;
       own = own;
       later = later;
       at_clock = row;
       joined = refl;
       behind = b.joined;
-      grown = ap length b.joined ∙ length-append s.messages (stamped first ws) ∙ ap (λ (k : ℕ). length s.messages + k) (row_length first ws);
-      written = λ front back w is alone.
-          ap (λ (l : List Message). option_map (λ (m : Message). m.value) (latest l w.field)) (b.joined ∙ ap (λ (l : List Write). s.messages ++ stamped first l) is)
-          ∙ last_value s.messages first front back w alone;
-      not_written = λ f alone. ap (λ (l : List Message). latest l f) b.joined ∙ latest_stays f s.messages (stamped first ws) (are_other f first ws alone);
+      grown = ap length b.joined ∙ length-append s.messages (stamped first ws) ∙ ap (λ (k : ℕ). length s.messages + k) (row_length first 0 ws);
+      written = λ front back m is alone.
+          ap (option_map (λ (m : Message). m.value))
+          (ap (λ (l : List Message). latest l m.field) (b.joined ∙ ap (λ (l : List Message). s.messages ++ l) is ∙ sym (append_assoc s.messages front (m ∷ back)))
+          ∙ latest_is (s.messages ++ front) m back (are_other m.field back alone));
+      not_written = λ f alone. ap (λ (l : List Message). latest l f) b.joined ∙ latest_stays f s.messages (stamped first ws) (are_other f (stamped first ws) alone);
+      made = λ id. (λ c. from_start first ws id (made_makes first 0 ws id c), λ m. makes_made first 0 ws id (to_start first ws id m));
+      made_new = λ id m none c there is.
+          let x = made_makes first 0 ws id c in
+          not_both s.clock (stamp_at first (0 + x.place)) (later_at s.clock first (0 + x.place) later) (none m (stamp_at first (0 + x.place)) there (is ∙ sym x.text));
       pending = ap (map record_of) b.new;
-      none_made = refl;
       counted = refl;
     }
 
+some_joined : (s : State) (reading : ℕ) (w : Write) (ws : List Write) (a : Accepted) → IsAhead s.clock s.messages → writing s reading (Ok (w ∷ ws)) ≡ Ok a → AreJoinedWrites s (w ∷ ws) a
+some_joined s reading w ws a ahead h =
+    let x = is_written s reading w ws a h in
+    let d = is_drawn s.clock x.clock reading (length (w ∷ ws)) x.drawn in
+    let first : d.first ≡ first_in_row x.clock (length (w ∷ ws)) = sym (first_is x.clock d.first (length (w ∷ ws)) d.row) in
+    subst (AreJoinedWrites s (w ∷ ws)) x.is
+    (subst (λ (t : Stamp). AreJoinedWrites s (w ∷ ws) (accepted_as (with_writes s.messages t (w ∷ ws) x.clock) (length (w ∷ ws)))) first
+    (joined_writes s x.clock d.first (w ∷ ws) d.row d.later d.own ahead))
+
 pub writes_joined : WritesAreJoined
 writes_joined = record {
-  joined = λ s reading w ws a ahead h.
-      let x = is_written s reading w ws a h in
-      let d = is_drawn s.clock x.clock reading (length (w ∷ ws)) x.drawn in
-      let first : d.first ≡ first_in_row x.clock (length (w ∷ ws)) = sym (first_is x.clock d.first (length (w ∷ ws)) d.row) in
-      subst (AreJoinedWrites s (w ∷ ws)) x.is
-      (subst (λ (t : Stamp). AreJoinedWrites s (w ∷ ws) (accepted_as (with_messages s.messages (stamped t (w ∷ ws)) x.clock) (length (w ∷ ws)))) first
-      (joined_writes s x.clock d.first (w ∷ ws) d.row d.later d.own ahead));
+  joined = some_joined;
   accepted = λ s reading w ws clock few drawn. (_, (writing_some s reading (w ∷ ws) (omega arith) few ∙ ap (written s (w ∷ ws)) drawn, refl));
   no_stamp = λ s reading w ws fault few drawn. writing_some s reading (w ∷ ws) (omega arith) few ∙ ap (written s (w ∷ ws)) drawn;
   too_many = writing_many;
   none = λ s reading. refl;
 }
+
+-- ---- an edit
+
+pub edits_made : EditsAreMade
+edits_made s edit reading a ahead h = by (writes_of (rows_of s.messages) edit) refl h
+  where
+    by : (o : Result (List Write) EditFault) → writes_of (rows_of s.messages) edit ≡ o → writing s reading o ≡ Ok a → IsMade s edit a
+    by (Err fault) e k = absurd (cc)
+    by (Ok []) e k = record { writes = []; meant = e; some = λ w ws is. absurd (cc); none = λ is. cc }
+    by (Ok (w ∷ ws)) e k = record { writes = w ∷ ws; meant = e; some = λ v vs is. some_joined s reading w ws a ahead k; none = λ is. absurd (cc) }

@@ -1,18 +1,12 @@
 -- What writes and edits come to, by the number of writes.
-use Rattle.std.proofs.Common.{◌≡◌, ◌≢◌, ℕ, ◌+◌, ◌-◌, ◌<◌, ◌≤◌, true, false, List, [], ◌∷◌, length, Some, Ok, Err, refl, ap, ◌∙◌, arith}
+use Rattle.std.proofs.Common.{◌≡◌, ℕ, ◌+◌, ◌-◌, ◌<◌, ◌≤◌, true, false, List, [], ◌∷◌, length, Ok, Err, refl, ap, ◌∙◌, arith}
 use Rattle.std.specs.Prelude.{nat_lt}
 use Rattle.std.proofs.lemmas.Bool.Decides.{nat_tests}
-use Rattle.field_values.specs.declared.name.NameFault.{NameFault}
-use Rattle.field_values.specs.declared.name.NameFault.TheVariants.{NoMemory as NoNameMemory}
-use Rattle.field_values.specs.declared.value.Value.{Value}
-use Rattle.field_values.specs.Names.{FieldNames, names_fault}
 use Rattle.hybrid_clock.specs.declared.stamp.Stamp.{Stamp}
 use Rattle.hybrid_clock.specs.Clock.{draw}
-use Rattle.device_core.specs.declared.edit.Write.{Write}
-use Rattle.device_core.specs.declared.edit.EditFault.{EditFault}
-use Rattle.device_core.specs.declared.edit.EditFault.TheVariants.{BadId, TooManyWrites, NoMemory as OutOfMemory}
+use Rattle.book_rows.specs.declared.fault.EditFault.TheVariants.{TooManyWrites}
+use Rattle.book_rows.specs.declared.write.Write.{Write}
 use Rattle.device_core.specs.declared.edit.LineRefusal.TheVariants.{Edit as OfEdit}
-use Rattle.device_core.specs.Edits.{bad_id, write_unless, set_writes, IsEditFault}
 use Rattle.device_core.specs.Device.{State, at_rest, accepted_as, written, writing, first_in_row}
 
 pub writing_none : (s : State) (reading : ℕ) (ws : List Write) → length ws ≡ 0 → writing s reading (Ok ws) ≡ Ok (accepted_as (at_rest s) 0)
@@ -36,12 +30,3 @@ pub first_is : (clock first : Stamp) (n : ℕ) → clock ≡ record first { coun
 first_is clock first n row =
     let back : (first.counter + (n - 1)) - (n - 1) ≡ first.counter = omega arith in
     ap (λ (c : Stamp). record c { counter = c.counter - (n - 1) }) row ∙ ap (λ (k : ℕ). record first { counter = k }) back
-
--- a fault of the names is the fault of the edit, of which the name is told
-pub bad_id_told : (field : FieldNames) (value : Value) (fault : NameFault) (told : EditFault) → (fault ≢ NoNameMemory → names_fault field ≡ Some fault)
-    → IsEditFault (Err (bad_id field fault)) told → IsEditFault (set_writes field value) told
-bad_id_told field value fault OutOfMemory bad is = tt
-bad_id_told field value fault (BadId id) bad is =
-    let other : fault ≢ NoNameMemory = λ e. absurd (let no = ap (bad_id field) e in cc) in ap (λ o. write_unless o field value) (bad other) ∙ is
-bad_id_told field value fault (TooManyWrites n) bad is =
-    let other : fault ≢ NoNameMemory = λ e. absurd (let no = ap (bad_id field) e in cc) in ap (λ o. write_unless o field value) (bad other) ∙ is

@@ -1,6 +1,7 @@
 -- What every accepted line leaves.
 use Rattle.std.specs.Prelude.{◌≡◌, ◌≢◌, ℕ, List, map, All, false, Ok}
 use Rattle.std.specs.List.{AllByRecursion}
+use Rattle.hybrid_clock.specs.Stamp.{IsStamp}
 use Rattle.field_merge.specs.declared.message.Message.{Message}
 use Rattle.field_merge.specs.Log.{join}
 use Rattle.kept_messages.specs.Records.{record_of}
@@ -27,7 +28,7 @@ pub record IsJoined (before : State) (accepted : Accepted) : Type 0 where
   -- some messages have joined, and the records of the new ones are pending, and no others
   pub brings : Brings before.messages (left_by accepted)
   -- no id that was made has a line feed
-  pub lines : AllByRecursion IsLine accepted.made
+  pub lines : IsStamp before.clock → AllByRecursion IsLine accepted.made
   -- the clock keeps its node
   pub own : accepted.state.clock.node ≡ before.clock.node
   -- and is not behind a message, where it was not before

@@ -7,8 +7,8 @@ use Rattle.hybrid_clock.specs.declared.clock.ClockFault.{ClockFault}
 use Rattle.hybrid_clock.specs.Clock.{draw, receive}
 use Rattle.field_merge.specs.declared.message.Message.{Message}
 use Rattle.device_core.specs.declared.edit.Edit.TheVariants.{Book}
-use Rattle.device_core.specs.declared.edit.BookEdit.TheVariants.{Set}
-use Rattle.device_core.specs.declared.edit.EditFault.TheVariants.{BadId}
+use Rattle.book_edits.specs.declared.edit.BookEdit.TheVariants.{Set}
+use Rattle.book_rows.specs.declared.fault.EditFault.TheVariants.{BadId}
 use Rattle.device_core.specs.declared.edit.LineRefusal.{LineRefusal}
 use Rattle.device_core.specs.declared.edit.LineRefusal.TheVariants.{Edit as OfEdit, Clock as OfClock}
 use Rattle.device_core.specs.Device.{State, Accepted, edited, greatest_of, received}

@@ -1,5 +1,5 @@
 -- A device: its state, and what an edit and received messages make of it.
-use Rattle.std.specs.Prelude.{◌≡◌, ◌⊎◌, ℕ, ◌+◌, ◌-◌, ◌<◌, ◌≤◌, List, [], ◌∷◌, length, map, Bool, true, false, nat_lt, if◌then◌else◌, Option, None, Some, Result, Ok, Err}
+use Rattle.std.specs.Prelude.{◌≡◌, ◌⊎◌, ℕ, ◌-◌, ◌<◌, ◌≤◌, List, [], ◌∷◌, length, map, Bool, true, false, nat_lt, if◌then◌else◌, Option, None, Some, Result, Ok, Err}
 use Rattle.std.specs.List.{AllByRecursion}
 use Rattle.std.specs.Ordering.{is_lt}
 use Rattle.hybrid_clock.specs.declared.stamp.Stamp.{Stamp}
@@ -9,20 +9,20 @@ use Rattle.hybrid_clock.specs.Clock.{clock_after, draw, receive}
 use Rattle.budget_ports.specs.declared.keeper.Record.{Record}
 use Rattle.field_merge.specs.declared.message.Message.{Message}
 use Rattle.budget_ports.specs.Keeper.{HaveKeys}
-use Rattle.field_merge.specs.Messages.{AreMessages}
-use Rattle.field_merge.specs.Log.{LogState, join, last_stamp}
-use Rattle.minute_trie.specs.declared.trie.Trie.{Trie}
-use Rattle.minute_trie.specs.Trie.{is_spent, IsTrieOf}
+use Rattle.field_merge.specs.Log.{join, last_stamp}
 use Rattle.kept_messages.specs.Records.{record_of}
 use Rattle.kept_messages.specs.News.{new_in}
-use Rattle.kept_messages.specs.Pairs.{pairs_of}
 use Rattle.device_core.specs.declared.edit.Edit.{Edit}
-use Rattle.device_core.specs.declared.edit.Write.{Write}
-use Rattle.device_core.specs.declared.edit.EditFault.{EditFault}
-use Rattle.device_core.specs.declared.edit.EditFault.TheVariants.{TooManyWrites}
+use Rattle.book_rows.specs.declared.write.Write.{Write}
+use Rattle.book_rows.specs.declared.fault.EditFault.{EditFault}
+use Rattle.book_rows.specs.declared.fault.EditFault.TheVariants.{TooManyWrites}
 use Rattle.device_core.specs.declared.edit.LineRefusal.{LineRefusal}
 use Rattle.device_core.specs.declared.edit.LineRefusal.TheVariants.{Edit as OfEdit, Clock as OfClock, NoMemory}
+use Rattle.device_core.specs.declared.known.Known.{Known}
 use Rattle.device_core.specs.Edits.{writes_of}
+use Rattle.device_core.specs.Books.{rows_of}
+use Rattle.device_core.specs.Known.{IsKnown}
+use Rattle.device_core.specs.Placing.{stamped, made_ids}
 
 -- the message set, and the timestamp at which the clock stands, with the device's own node
 pub record State : Type 0 where
@@ -44,10 +44,14 @@ at_rest s = record { state = s; batch = []; made = []; spent = false }
 abbrev pub begun : List ℕ → List Message → State
 begun node ms = record { messages = ms; clock = clock_after node (last_stamp ms) }
 
--- the messages joined, with the clock where it now stands, and the new ones pending
-abbrev pub with_messages : List Message → List Message → Stamp → DeviceState
-with_messages ms ns clock = record
-    { state = record { messages = join ms ns; clock = clock }; batch = map record_of (new_in ms ns); made = []; spent = false }
+-- the messages joined, with the clock where it now stands, the new ones pending, and the ids that were made
+abbrev pub with_messages : List Message → List Message → Stamp → List (List ℕ) → DeviceState
+with_messages ms ns clock made = record
+    { state = record { messages = join ms ns; clock = clock }; batch = map record_of (new_in ms ns); made = made; spent = false }
+
+-- the messages of writes joined, the first of which has this timestamp, with the clock where it now stands
+abbrev pub with_writes : List Message → Stamp → List Write → Stamp → DeviceState
+with_writes ms first ws clock = with_messages ms (stamped first ws) clock (made_ids first ws)
 
 -- what an accepted line leaves: the state, the records that are not kept yet and the ids that it made for rows; and how many writes or new messages it was
 pub record Accepted : Type 0 where
@@ -60,11 +64,6 @@ pub record Accepted : Type 0 where
 abbrev pub accepted_as : DeviceState → ℕ → Accepted
 accepted_as device count = record { state = device.state; batch = device.batch; made = device.made; count = count }
 
--- the messages of writes, under timestamps with counters in a row
-abbrev pub stamped : Stamp → List Write → List Message
-stamped s [] = []
-stamped s (w ∷ ws) = record { stamp = s; field = w.field; value = w.value } ∷ stamped (record s { counter = s.counter + 1 }) ws
-
 -- the first of n timestamps in a row, at the last of which the clock stands
 abbrev pub first_in_row : Stamp → ℕ → Stamp
 first_in_row clock n = record clock { counter = clock.counter - (n - 1) }
@@ -72,7 +71,7 @@ first_in_row clock n = record clock { counter = clock.counter - (n - 1) }
 -- writes under the timestamp that the clock drew, or its refusal
 abbrev pub written : State → List Write → Result Stamp ClockFault → Result Accepted LineRefusal
 written s ws (Err fault) = Err (OfClock fault)
-written s ws (Ok clock) = Ok (accepted_as (with_messages s.messages (stamped (first_in_row clock (length ws)) ws) clock) (length ws))
+written s ws (Ok clock) = Ok (accepted_as (with_writes s.messages (first_in_row clock (length ws)) ws clock) (length ws))
 
 -- writes are made at a reading of the wall clock: none need no timestamp, and 65,536 are the most
 abbrev pub writing : State → ℕ → Result (List Write) EditFault → Result Accepted LineRefusal
@@ -82,9 +81,9 @@ writing s reading (Ok (w ∷ ws)) =
     if nat_lt 65_536 (length (w ∷ ws)) then Err (OfEdit (TooManyWrites (length (w ∷ ws))))
     else written s (w ∷ ws) (draw s.clock reading (length (w ∷ ws)))
 
--- an edit is made: first its own checks, then the number of its writes, then the clock
+-- an edit is made in the book of the messages: first its own checks, then the number of its writes, then the clock
 abbrev pub edited : State → Edit → ℕ → Result Accepted LineRefusal
-edited s edit reading = writing s reading (writes_of edit)
+edited s edit reading = writing s reading (writes_of (rows_of s.messages) edit)
 
 -- the later of two timestamps
 abbrev pub later_of : Stamp → Stamp → Stamp
@@ -103,7 +102,7 @@ greatest_of (m ∷ ms) = Some (greatest m.stamp ms)
 -- messages joined where the clock took their greatest timestamp, or its refusal
 abbrev pub taken_in : State → List Message → Result Stamp ClockFault → Result Accepted LineRefusal
 taken_in s ns (Err fault) = Err (OfClock fault)
-taken_in s ns (Ok clock) = Ok (accepted_as (with_messages s.messages ns clock) (length (new_in s.messages ns)))
+taken_in s ns (Ok clock) = Ok (accepted_as (with_messages s.messages ns clock []) (length (new_in s.messages ns)))
 
 -- messages with this greatest timestamp are received; where there are none, the clock stays as it is
 abbrev pub receiving : State → List Message → ℕ → Option Stamp → Result Accepted LineRefusal
@@ -132,10 +131,7 @@ IsRefused meant old new NoMemory = new.spent ≡ true
 IsRefused meant old new refusal = (meant ≡ Err refusal) × (new ≡ old)
 
 -- what holds of a device that is not spent
-pub record Stands (log : LogState) (trie : Trie) (clock : Stamp) (batch : List Record) : Type 0 where
-  pub live : log.spent ≡ false
-  pub valid : AreMessages log.messages
-  pub trie_live : is_spent trie ≡ false
-  pub trie_right : IsTrieOf (pairs_of log.messages) trie
-  pub ahead : IsAhead clock log.messages
+pub record Stands (known : Known) (clock : Stamp) (batch : List Record) : Type 0 where
+  pub right : IsKnown known
+  pub ahead : IsAhead clock known.log.messages
   pub keys : HaveKeys batch

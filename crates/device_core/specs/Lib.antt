@@ -1,4 +1,7 @@
+pub mod Books
+pub mod Known
 pub mod Edits
+pub mod Placing
 pub mod Device
 pub mod Beginning
 pub mod Greatest

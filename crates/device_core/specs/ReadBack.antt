@@ -7,7 +7,7 @@ use Rattle.hybrid_clock.specs.Clock.{receive}
 use Rattle.field_merge.specs.declared.message.Message.{Message}
 use Rattle.field_merge.specs.Log.{at_stamp, join, latest}
 use Rattle.device_core.specs.declared.edit.Edit.TheVariants.{Book}
-use Rattle.device_core.specs.declared.edit.BookEdit.TheVariants.{Set}
+use Rattle.book_edits.specs.declared.edit.BookEdit.TheVariants.{Set}
 use Rattle.kept_messages.specs.Records.{record_of}
 use Rattle.kept_messages.specs.News.{new_in}
 use Rattle.device_core.specs.Device.{State, Accepted, IsAhead, edited, greatest_of, received}

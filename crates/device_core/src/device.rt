@@ -10,15 +10,21 @@ ghost use Rattle.kept_messages.specs.Records.{kept_set, IsStartFault, HasFirstSt
 ghost use Rattle.kept_messages.specs.declared.join.StartFault.TheVariants.{NoMemory as NoMemoryToStart};
 ghost use Rattle.kept_messages.specs.Pairs.{pairs_of};
 ghost use Rattle.device_core.specs.declared.edit.LineRefusal.TheVariants.{Edit as OfEdit};
-ghost use Rattle.device_core.specs.Edits.{IsEdit, AreWrites};
-ghost use Rattle.device_core.specs.Device.{at_rest, begun, with_messages, stamped, writing, edited, later_of, greatest_of, received, IsAhead, IsAccepted, IsRefused};
+ghost use Rattle.device_core.specs.Books.{rows_of};
+ghost use Rattle.book_rows.specs.Writes.{AreWrites};
+ghost use Rattle.book_edits.specs.Faults.{IsEditFault};
+ghost use Rattle.device_core.specs.Edits.{IsEdit, MayWantMemory, writes_of};
+ghost use Rattle.device_core.specs.Device.{at_rest, begun, with_messages, with_writes, writing, edited, later_of, greatest_of, received, IsAhead, IsAccepted, IsRefused};
 
-use crate::edit::{Edit, EditFault, LineRefusal, Write, edit_writes};
+use crate::edit::{Edit, LineRefusal, edit_writes};
+use crate::known::{Known, join_all, read_all};
+use crate::placing::place_writes;
+use book_rows::{Book, EditFault, Write};
 use budget_ports::Record;
 use field_merge::{Log, Message};
 use field_values::{Items, NoMemory, Steps, Txt};
 use hybrid_clock::{HybridClock, Node, Stamp};
-use kept_messages::{StartFault, join_all, read_log};
+use kept_messages::StartFault;
 use minute_trie::{Trie, tries_are_maps};
 use std::alloc::Global;
 use std::marker::Model;
@@ -36,8 +42,7 @@ const MOST_WRITES: usize = 65_536;
 #[derive(Drop)]
 pub struct Device {
     alloc: Global,
-    log: Log,
-    trie: Trie,
+    known: Known,
     clock: HybridClock,
     batch: Vec<Record>,
     made: Items<Txt>,
@@ -50,9 +55,9 @@ impl Model for Device {
 
     ghost Value = { DeviceState };
 
-    ghost view = { λ d. record { state = record { messages = d.log.messages; clock = d.clock }; batch = d.batch.items; made = d.made; spent = d.spent } };
+    ghost view = { λ d. record { state = record { messages = d.known.log.messages; clock = d.clock }; batch = d.batch.items; made = d.made; spent = d.spent } };
 
-    ghost invariant = { λ d. d.spent ≡ false → Stands d.log d.trie d.clock d.batch.items };
+    ghost invariant = { λ d. d.spent ≡ false → Stands d.known d.clock d.batch.items };
 }
 
 impl Device {
@@ -72,12 +77,11 @@ impl Device {
         ensures err { IfErr result (IsStartFault (kept_set records.now)) }
         ensures memory { result ≡ Err NoMemoryToStart → HasFirstStamp records.now }
     {
-        let (log, trie) = read_log(alloc, records)?;
-        let clock = HybridClock::new(node, log.last());
+        let known = read_all(alloc, records)?;
+        let clock = HybridClock::new(node, known.log.last());
         Ok(Device {
             alloc,
-            log,
-            trie,
+            known,
             clock,
             batch: Vec::new(alloc),
             made: Items::new(Vec::new(alloc)),
@@ -88,13 +92,13 @@ impl Device {
     /// Makes an edit at a reading of the wall clock, in milliseconds since 1970, and answers how many
     /// writes it was. What was pending has to be kept before (`commit`).
     ///
-    /// The writes become messages under timestamps in a row, whose records are then pending. An edit
-    /// without writes draws no timestamp. The counter of steps counts nothing yet.
+    /// The writes become messages under timestamps in a row, whose records are then pending; the id of a row
+    /// that is made is the text of its first write's timestamp. An edit without writes draws no timestamp. The counter of steps counts nothing yet.
     ///
     /// # Errors
     ///
-    /// Tested in this order: the edit's own checks, `TooManyWrites`, the clock. An empty name is told
-    /// before memory is taken. After a refusal the device is as it was, and after `NoMemory` it is spent.
+    /// Tested in this order: the edit's own checks, in the book of the messages, `TooManyWrites`, the clock.
+    /// That a field with an empty name can't be set is told before memory is taken. After a refusal the device is as it was, and after `NoMemory` it is spent.
     pub fn prepare<G: Ledger>(
         &mut self,
         edit: &Edit,
@@ -108,10 +112,10 @@ impl Device {
         ensures refused { IfErr result (IsRefused (edited self.old.state edit.now reading) self.old self.new) }
         ensures live { OnOk result (self.new.spent ≡ false) }
         ensures memory { result ≢ Err (OfEdit EditFault.NoMemory) }
-        ensures empty { result ≡ Err LineRefusal.NoMemory → edited self.old.state edit.now reading ≢ Err (OfEdit (EditFault.BadId [])) }
+        ensures empty { result ≡ Err LineRefusal.NoMemory → MayWantMemory edit.now }
         ensures steps { steps.new ≡ steps.old }
     {
-        match edit_writes(self.alloc, edit) {
+        match self.writes(edit) {
             Ok(writes) => self.write(writes.as_slice(), reading),
             Err(EditFault::NoMemory) => {
                 self.spent = true;
@@ -119,6 +123,18 @@ impl Device {
             }
             Err(fault) => Err(LineRefusal::Edit(fault)),
         }
+    }
+
+    /// The writes of an edit in the book of the messages.
+    fn writes(&self, edit: &Edit) -> Result<Vec<Write>, EditFault>
+        requires live { self.now.spent ≡ false }
+        requires valid { IsEdit edit.now }
+        ensures ok { IfOk result (λ ws. writes_of (rows_of self.now.state.messages) edit.now ≡ Ok ws.items) }
+        ensures valid { IfOk result (λ ws. AreWrites ws.items) }
+        ensures err { IfErr result (IsEditFault (writes_of (rows_of self.now.state.messages) edit.now)) }
+        ensures memory { result ≡ Err EditFault.NoMemory → MayWantMemory edit.now }
+    {
+        edit_writes(self.alloc, self.book(), edit)
     }
 
     /// Makes writes at a reading of the wall clock.
@@ -165,11 +181,11 @@ impl Device {
         requires stamp { IsStamp first }
         requires row { self.old.state.clock ≡ record first { counter = first.counter + (length writes.now - 1) } }
         requires room { first.counter + length writes.now ≤ 65_536 }
-        ensures ok { OnOk result (self.new ≡ with_messages self.old.state.messages (stamped first writes.now) self.old.state.clock) }
+        ensures ok { OnOk result (self.new ≡ with_writes self.old.state.messages first writes.now self.old.state.clock) }
         ensures err { OnErr result (self.new.spent ≡ true) }
     {
-        match stamp_writes(self.alloc, first, writes) {
-            Ok(messages) => self.join(messages.as_slice()),
+        match place_writes(self.alloc, &first, writes) {
+            Ok((messages, made)) => self.join(messages.as_slice(), made),
             Err(fault) => {
                 self.spent = true;
                 Err(fault)
@@ -177,24 +193,18 @@ impl Device {
         }
     }
 
-    /// Joins messages, the records of the new ones of which are then pending.
-    fn join(&mut self, messages: &[Message]) -> Result<(), NoMemory>
+    /// Joins messages, the records of the new ones of which are then pending, by a line that made these ids.
+    fn join(&mut self, messages: &[Message], made: Items<Txt>) -> Result<(), NoMemory>
         requires live { self.old.spent ≡ false }
         requires idle { self.old.batch ≡ [] }
         requires valid { AreMessages messages.now }
         requires ahead { IsAhead self.old.state.clock messages.now }
-        ensures ok { OnOk result (self.new ≡ with_messages self.old.state.messages messages.now self.old.state.clock) }
+        ensures ok { OnOk result (self.new ≡ with_messages self.old.state.messages messages.now self.old.state.clock made) }
         ensures err { OnErr result (self.new.spent ≡ true) }
     {
-        self.forget_made();
+        self.made = made;
         self.spent = true;
-        join_all(
-            self.alloc,
-            &mut self.log,
-            &mut self.trie,
-            messages,
-            &mut self.batch,
-        )?;
+        join_all(self.alloc, &mut self.known, messages, &mut self.batch)?;
         self.spent = false;
         Ok(())
     }
@@ -231,7 +241,8 @@ impl Device {
         if let Err(fault) = self.clock.receive(reading, &stamp) {
             return Err(LineRefusal::Clock(fault));
         }
-        match self.join(batch) {
+        let made = Items::new(Vec::new(self.alloc));
+        match self.join(batch, made) {
             Ok(()) => Ok(self.batch.len() as u64),
             Err(NoMemory) => Err(LineRefusal::NoMemory),
         }
@@ -246,7 +257,7 @@ impl Device {
         self.batch.as_slice()
     }
 
-    /// The ids that were made for rows: `prepare` and `incoming` say which. No edit makes one yet.
+    /// The ids that were made for rows: `prepare` and `incoming` say which.
     pub fn made(&self) -> &Items<Txt>
         requires { self.now.spent ≡ false }
         ensures { result.now ≡ self.now.made }
@@ -268,7 +279,7 @@ impl Device {
         ensures messages { IfOk result (λ ms. ms ≡ messages_after since.now self.now.state.messages) }
         ensures valid { IfOk result AreMessages }
     {
-        self.log.since(since)
+        self.known.log.since(since)
     }
 
     /// The messages.
@@ -277,7 +288,7 @@ impl Device {
         ensures log { result.now ≡ record { messages = self.now.state.messages; spent = false } }
         ensures valid { AreMessages self.now.state.messages }
     {
-        &self.log
+        &self.known.log
     }
 
     /// The trie of the messages' timestamps, by which two devices find from when on they exchange messages.
@@ -292,7 +303,17 @@ impl Device {
     {
         // Each timestamp has a minute of the trie.
         tries_are_maps();
-        &self.trie
+        &self.known.trie
+    }
+
+    /// The rows that the values of the fields make.
+    ///
+    /// They depend on the messages alone, as the trie does.
+    pub fn book(&self) -> &Book
+        requires { self.now.spent ≡ false }
+        ensures { result.now ≡ record { rows = rows_of self.now.state.messages; spent = false } }
+    {
+        &self.known.book
     }
 
     /// The timestamp at which the clock stands. No message has a greater time and counter.
@@ -311,34 +332,6 @@ impl Device {
     {
         self.spent
     }
-}
-
-/// The message of a write under a timestamp that has another counter.
-fn stamp_write(first: Stamp, counter: u16, write: &Write) -> Result<Message, NoMemory>
-    ensures { IfOk result (λ m. m ≡ record { stamp = record first { counter = counter }; field = write.now.field; value = write.now.value }) }
-{
-    Ok(Message {
-        stamp: Stamp {
-            millis: first.millis,
-            counter,
-            node: first.node,
-        },
-        field: write.field.copy()?,
-        value: write.value.copy()?,
-    })
-}
-
-/// The messages of writes under timestamps in a row.
-fn stamp_writes(alloc: Global, first: Stamp, writes: &[Write]) -> Result<Vec<Message>, NoMemory>
-    requires room { first.counter + length writes.now ≤ 65_536 }
-    ensures { IfOk result (λ ms. ms.items ≡ stamped first writes.now) }
-{
-    let mut messages = Vec::new(alloc);
-    for (index, write) in writes.iter().enumerate() {
-        let counter = first.counter as usize + index;
-        messages.push(stamp_write(first, counter as u16, write)?)?;
-    }
-    Ok(messages)
 }
 
 /// The greatest timestamp of messages.

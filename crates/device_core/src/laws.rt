@@ -2,9 +2,10 @@
 ghost use Rattle.device_core.specs.Accepting.{AcceptedAreJoined};
 ghost use Rattle.device_core.specs.Answering.{WritesAreAnswered, MessagesAreAnswered};
 ghost use Rattle.device_core.specs.Beginning.{DevicesBegin};
+ghost use Rattle.device_core.specs.Books.{BooksFollowMessages};
 ghost use Rattle.device_core.specs.Greatest.{GreatestIsTold};
 ghost use Rattle.device_core.specs.ReadBack.{EditsReadBack, ReceivedAreJoined};
-ghost use Rattle.device_core.specs.Several.{WritesAreJoined};
+ghost use Rattle.device_core.specs.Several.{EditsAreMade, WritesAreJoined};
 
 /// A law: a device begins with the messages that it is given, and a clock of its node at the time and the
 /// counter of the last of them, or at the start of 1970 where there are none.
@@ -12,8 +13,16 @@ pub fn devices_begin()
     ensures { DevicesBegin }
 {}
 
+/// A law: the rows of messages are those that the values of the fields make, and no others are. So devices
+/// whose fields have the same values have the same books, and where equal timestamps mean equal messages,
+/// the order and the number in which messages came do not matter.
+pub fn books_follow_messages()
+    ensures { BooksFollowMessages }
+{}
+
 /// A law: of every accepted line some messages have joined, and the records of the new ones, and no
-/// others, are pending; no id that it made has a line feed. The clock keeps its node, and is behind no
+/// others, are pending; no id that it made has a line feed, where the
+/// clock stood at a valid timestamp. The clock keeps its node, and is behind no
 /// message where it was behind none before.
 pub fn accepted_are_joined()
     ensures { AcceptedAreJoined }
@@ -32,11 +41,19 @@ pub fn edits_read_back()
 /// timestamps of the device's own node with counters in a row, all later than where the clock stood; the
 /// clock stands at the last. They stand behind the messages of before, so that the set has grown by their
 /// number, and their records alone are pending. A field has the value of its last write, and one that is
-/// not written keeps its latest message. At most 65,536 writes are accepted, where the clock draws their
-/// timestamps; more are refused for their number, else they are refused for the fault of the clock. No
-/// writes are accepted and leave all as it was.
+/// not written keeps its latest message. The ids that were made are those of the rows that the writes make,
+/// each the text of the timestamp of the row's first write; no message of before was of such a row, where none
+/// was of a row with the id of a timestamp past the clock. At most 65,536 writes are accepted, where the clock
+/// draws their timestamps; more are refused for their number, else they are refused for the fault of the clock.
+/// No writes are accepted and leave all as it was.
 pub fn writes_are_joined()
     ensures { WritesAreJoined }
+{}
+
+/// A law: where the clock is not behind a message, an edit that is accepted has made the writes that it makes in
+/// the book of the messages, as `writes_are_joined` says; where these are none, all is as it was.
+pub fn edits_are_made()
+    ensures { EditsAreMade }
 {}
 
 /// A law: a write is accepted where its three names are names and the clock draws a timestamp, at

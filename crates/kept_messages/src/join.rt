@@ -35,8 +35,9 @@ impl From<NoMemory> for StartFault {
 }
 
 /// Joins a message, and adds its timestamp to the log's trie where it is new. Says whether it is, and
-/// whether the message is now the latest of its field.
-fn enter(log: &mut Log, trie: &mut Trie, message: Message) -> Result<Entered, NoMemory>
+/// whether the message is now the latest of its field. After want of memory the log or the trie may have
+/// the message.
+pub fn enter(log: &mut Log, trie: &mut Trie, message: Message) -> Result<Entered, NoMemory>
     requires live { log.old.spent ≡ false }
     requires trie_live { is_spent trie.old ≡ false }
     requires right { IsTrieOf (pairs_of log.old.messages) trie.old }
@@ -85,14 +86,15 @@ pub fn read_log(alloc: Global, records: &[Record]) -> Result<(Log, Trie), StartF
     Ok((log, trie))
 }
 
-/// Joins a message, and adds its record to a batch where it is new.
-fn join_message(
+/// Joins a message to a log and its trie, and adds its record to a batch where it is new. Says what `enter`
+/// says. After want of memory the log or the trie may have the message.
+pub fn join_message(
     alloc: Global,
     log: &mut Log,
     trie: &mut Trie,
     message: &Message,
     batch: &mut Vec<Record>,
-) -> Result<(), NoMemory>
+) -> Result<Entered, NoMemory>
     requires live { log.old.spent ≡ false }
     requires trie_live { is_spent trie.old ≡ false }
     requires right { IsTrieOf (pairs_of log.old.messages) trie.old }
@@ -102,10 +104,12 @@ fn join_message(
     ensures right { OnOk result (IsTrieOf (pairs_of log.new.messages) trie.new) }
     ensures joined { OnOk result (log.new.messages ≡ join_one log.old.messages message.now) }
     ensures batch { OnOk result (batch.new.items ≡ batch.old.items ++ map record_of (new_in log.old.messages (message.now ∷ []))) }
+    ensures latest { IfOk result (λ entered. (f : FieldNames) → latest log.new.messages f ≡ (if entered.latest && has_field f message.now then Some message.now else latest log.old.messages f)) }
 {
     let kept = write_record(alloc, message)?;
-    let entered = enter(log, trie, message.copy()?)?;
-    push_if(entered.fresh, batch, kept)
+    let told = enter(log, trie, message.copy()?)?;
+    push_if(told.fresh, batch, kept)?;
+    Ok(told)
 }
 
 /// Adds a record where it is new.

@@ -6,8 +6,8 @@ mod join;
 mod laws;
 mod record;
 
-pub use join::{StartFault, join_all, read_log};
+pub use join::{StartFault, enter, join_all, join_message, read_log};
 pub use laws::{
     batches_are_kept, groups_are_read, new_ones_are_added, records_are_read, records_read_back,
 };
-pub use record::{read_record, write_record};
+pub use record::{read_record, stamp_text, write_record};

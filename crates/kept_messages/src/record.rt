@@ -15,8 +15,8 @@ use field_values::{NoMemory, Txt};
 use hybrid_clock::Stamp;
 use std::alloc::Global;
 
-/// The text of a timestamp.
-fn stamp_text(alloc: Global, stamp: &Stamp) -> Result<Txt, NoMemory>
+/// The text of a timestamp, in memory of its own.
+pub fn stamp_text(alloc: Global, stamp: &Stamp) -> Result<Txt, NoMemory>
     requires { IsStamp stamp.now }
     ensures { IfOk result (λ t. t ≡ stamp_text stamp.now) }
 {

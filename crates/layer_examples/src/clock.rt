@@ -4,14 +4,18 @@ use std::test::Fail;
 
 #[test]
 fn reads_texts(rt: HostRuntime) -> Result<(), Fail> {
-    let cases: [(&[u8], Result<u64, StampFault>); 9] = [
+    let cases: [(&[u8], Result<(u64, u32), StampFault>); 10] = [
         (
             b"2024-01-05T10:00:00.000Z-0000-00000000000000aa",
-            Ok(1_704_448_800_000),
+            Ok((1_704_448_800_000, 28_407_480)),
+        ),
+        (
+            b"2051-11-05T13:20:59.999Z-0000-00000000000000aa",
+            Ok((2_582_803_259_999, 43_046_720)),
         ),
         (
             b"2051-11-05T13:20:59.999Z-FFFF-zzzzzzzzzzzzzzzz",
-            Ok(2_582_803_259_999),
+            Ok((2_582_803_259_999, 43_046_720)),
         ),
         (
             b"2051-11-05T13:21:00.000Z-0000-00000000000000aa",
@@ -45,12 +49,14 @@ fn reads_texts(rt: HostRuntime) -> Result<(), Fail> {
         ),
     ];
     for (text, expected) in cases {
-        assert_eq!(rt; Stamp::parse(text).map(|s| s.millis), expected);
-        if let Ok(stamp) = Stamp::parse(text) {
-            let mut written = [0u8; 46];
-            stamp.write_text(&mut written);
-            assert_eq!(rt; &written[..], text);
-            assert_eq!(rt; stamp.minute() as u64, stamp.millis / 60_000);
+        match Stamp::parse(text) {
+            Ok(stamp) => {
+                assert_eq!(rt; expected, Ok((stamp.millis, stamp.minute())));
+                let mut written = [0u8; 46];
+                stamp.write_text(&mut written);
+                assert_eq!(rt; &written[..], text);
+            }
+            Err(fault) => assert_eq!(rt; expected, Err(fault)),
         }
     }
     // the hour of a day is 0 to 23, and a moment's node is no device's

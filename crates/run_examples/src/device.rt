@@ -5,9 +5,11 @@ ghost use Rattle.field_merge.specs.Messages.{AreMessages};
 ghost use Rattle.device_core.specs.Edits.{IsEdit};
 
 use budget_ports::Record;
-use device_core::{BookEdit, Device, Edit, EditFault, LineRefusal, StartFault, Write};
+use device_core::{
+    BookEdit, Device, Edit, EditFault, LineRefusal, RowName, StartFault, Write, WriteValue,
+};
 use field_merge::{Message, read_line, write_line};
-use field_values::{Field, Steps, Txt, Value};
+use field_values::{Steps, Txt, Value};
 use hybrid_clock::{ClockFault, Node};
 use std::alloc::Global;
 use std::marker::Brand;
@@ -279,11 +281,48 @@ fn refuses_edits(rt: HostRuntime) -> Result<(), Fail> {
 fn writes_are_copied(rt: HostRuntime) -> Result<(), Fail> {
     let alloc = rt.alloc();
     let write = Write {
-        field: Field::make(alloc, "categories", "food", "name")?,
-        value: Value::Number(-7),
+        dataset: Txt::from_text(alloc, "categories")?,
+        row: RowName::Given(Txt::from_text(alloc, "food")?),
+        column: Txt::from_text(alloc, "name")?,
+        value: WriteValue::Plain(Value::Number(-7)),
     };
     let copy = write.copy()?;
-    assert_eq!(rt; copy.field.row(), "food");
-    assert_eq!(rt; copy.value, Value::Number(-7));
+    assert_eq!(rt; copy.column.as_str(), "name");
+    assert_eq!(rt; copy.value, WriteValue::Plain(Value::Number(-7)));
+    Ok(())
+}
+
+/// The body of each record that is pending, one behind the other, each with a line feed.
+fn pending(alloc: Global, device: &Device) -> Result<String, Fail>
+    requires { device.now.spent ≡ false }
+{
+    let mut text = String::new(alloc);
+    for record in device.batch() {
+        text.push_str(record.body.as_str())?;
+        text.push('\n')?;
+    }
+    Ok(text)
+}
+
+#[test]
+fn makes_rows(rt: HostRuntime) -> Result<(), Fail> {
+    let alloc = rt.alloc();
+    let mut device = device_of(alloc, &[])?;
+    let edit = Edit::Book(BookEdit::GroupAdd {
+        id: None,
+        name: Txt::from_text(alloc, "Usual")?,
+        income: false,
+    });
+    let count = prepare::<Brand>(Blank::new(1), &mut device, &edit, 1_704_448_800_000)?;
+    assert_eq!(rt; count, 2);
+    for id in device.made().as_slice() {
+        assert_eq!(rt; id.as_str(), FIRST);
+    }
+    let text = pending(alloc, &device)?;
+    assert_eq!(rt;
+        text.as_str(),
+        "category_groups\t2024-01-05T10:00:00.000Z-0000-00000000000000aa\tname\tS:Usual\ncategory_groups\t2024-01-05T10:00:00.000Z-0000-00000000000000aa\tis_income\tN:0\n"
+    );
+    assert_eq!(rt; device.book().groups().len(), 1);
     Ok(())
 }

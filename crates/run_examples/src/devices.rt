@@ -13,17 +13,17 @@ const WROTE: &str = "ok 1\nwrites 1\n";
 /// A run: the parts of its input, the calls of the source, the sink and the keeper that fail, the
 /// status, and the parts of its output.
 #[derive(Drop)]
-struct Row<'a> {
+pub(crate) struct Row<'a> {
     input: &'a [&'a str],
     source_fails: &'a [u64],
     sink_fails: &'a [u64],
     keeper_fails: &'a [u64],
-    status: u8,
-    output: &'a [&'a str],
+    pub(crate) status: u8,
+    pub(crate) output: &'a [&'a str],
 }
 
 /// A run in which nothing fails.
-fn answered<'a>(input: &'a [&'a str], status: u8, output: &'a [&'a str]) -> Row<'a> {
+pub(crate) fn answered<'a>(input: &'a [&'a str], status: u8, output: &'a [&'a str]) -> Row<'a> {
     Row {
         input,
         source_fails: &[],
@@ -62,7 +62,7 @@ fn words(alloc: Global) -> Result<Items<Txt>, Fail> {
 
 /// The status and the output of a run over a keeper, each reading of whose clock is
 /// 2024-01-05T10:00:00.000Z.
-fn outcome(
+pub(crate) fn outcome(
     rt: &HostRuntime,
     keeper: &mut MemoryKeeper,
     row: &Row<'_>,

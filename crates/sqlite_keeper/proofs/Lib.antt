@@ -12,3 +12,5 @@ pub mod Layouts
 pub mod MakeLemmas
 pub mod OrderLemmas
 pub mod Relisted
+pub mod AdoptLemmas
+pub mod CauseLemmas

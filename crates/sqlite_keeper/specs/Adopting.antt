@@ -1,11 +1,17 @@
 -- A store that is taken by a keeper, or is not.
-use Rattle.std.specs.Prelude.{◌≡◌, ◌≢◌, ◌⊎◌, true, false, [], Some, codes, IsTrue, ⊤}
+use Rattle.std.specs.Prelude.{◌≡◌, ◌≢◌, ◌⊎◌, true, false, List, [], ◌∷◌, ℕ, Some, IsSome, codes, IsTrue, ⊤}
 use Rattle.std.specs.FinMap.{get}
 use Rattle.sqlite.specs.Store.{Ghosts}
-use Rattle.sqlite.specs.State.{HasCleanDisk}
+use Rattle.sqlite_disk.specs.Disk.{MoreFaults}
+use Rattle.sqlite_value.specs.Order.{Row}
+use Rattle.sqlite_value.specs.declared.value.Value.TheVariants.{Text as Words}
+use Rattle.sqlite.specs.declared.error.ErrorCode.TheVariants as code
+use Rattle.sqlite.specs.declared.error.Error.{Error}
+use Rattle.sqlite.specs.declared.error.Error.TheVariants.{SqliteFailure}
+use Rattle.sqlite.specs.State.{HasCleanDisk, State}
 use Rattle.sqlite.specs.Held.{Held, state}
 use Rattle.budget_ports.specs.Contents.{nothing}
-use Rattle.sqlite_keeper.specs.Contents.{Contents, Text, with_text, contents_now, Inside, Rises}
+use Rattle.sqlite_keeper.specs.Contents.{Contents, Text, with_text, contents_now, MayLeave, Inside, Rises}
 use Rattle.sqlite_keeper.specs.Tables.{keeper_schema, no_schema}
 use Rattle.sqlite_keeper.specs.declared.keeper.AdoptFault.{AdoptFault}
 use Rattle.sqlite_keeper.specs.declared.keeper.AdoptFault.TheVariants.{Version, NoMemory}
@@ -53,6 +59,33 @@ pub record Makes {S : Type 0} (g : Ghosts S) (old new : Held S) : Type 0 where
 -- while it is open and clean, nothing is listed
 abbrev pub IsNew : {S : Type 0} → Ghosts S → Held S → Type 0
 IsNew g h = HasCleanDisk (state g h) → IsTrue (state g h).is_open → h.schema ≡ no_schema
+
+-- the first statement, and what is given to it
+abbrev pub version_query : List ℕ
+version_query = codes "SELECT body FROM named WHERE name = ?1"
+
+abbrev pub version_row : Row
+version_row = Words version_name ∷ []
+
+-- the disk failed meanwhile, or there was a limit on the steps of a query
+abbrev pub HasReason : State → State → Type 0
+HasReason old new = MoreFaults old.faults new.faults ⊎ IsSome old.step_limit
+
+-- memory was wanting, or there was such a reason
+abbrev pub IsReason : State → State → Error → Type 0
+IsReason old new e = (e ≡ SqliteFailure code.OutOfMemory) ⊎ HasReason old new
+
+-- the tables are the keeper's; or nothing is listed, and the connection is open afterwards
+abbrev pub IsToTake : {S : Type 0} → Ghosts S → Held S → Held S → Type 0
+IsToTake g old new = (old.schema ≡ keeper_schema) ⊎ ((old.schema ≡ no_schema) × IsTrue (state g new).is_open)
+
+-- a stop leaves what it could leave before, or a new store
+abbrev pub LeavesOrMakes : {S : Type 0} → Ghosts S → Held S → Held S → Type 0
+LeavesOrMakes g old new = (k : Contents) → MayLeave g new k → MayLeave g old k ⊎ (k ≡ new_contents)
+
+-- and a new store only where nothing was listed
+abbrev pub LeavesOrBegins : {S : Type 0} → Ghosts S → Held S → Held S → Type 0
+LeavesOrBegins g old new = (k : Contents) → MayLeave g new k → MayLeave g old k ⊎ ((old.schema ≡ no_schema) × (k ≡ new_contents))
 
 -- the fault tells another version than this one
 abbrev pub TellsVersion : Contents → AdoptFault → Type 0

@@ -1,5 +1,5 @@
 //! The version of a store, and the making of a new one.
-ghost use Rattle.std.specs.Prelude.{◌≡◌, ◌↔◌, ◌≤◌, ◌⊎◌, ℕ, false, Ok, IsTrue, IfOk, OnOk, OnErr};
+ghost use Rattle.std.specs.Prelude.{◌≡◌, ◌↔◌, ◌≤◌, ◌⊎◌, ℕ, false, Ok, IsTrue, IfOk, IfErr, OnOk, OnErr};
 ghost use Rattle.sqlite.specs.State.{HasCleanDisk, Survives, ExecutesInside};
 ghost use Rattle.sqlite.specs.Held.{state};
 ghost use Rattle.sqlite.specs.Values.{bound};
@@ -7,7 +7,7 @@ ghost use Rattle.sqlite_trees.specs.View.{doubt};
 ghost use Rattle.sqlite_keeper.specs.Contents.{Contents, Sound, Stands, Fell, contents_now, MayLeave};
 ghost use Rattle.sqlite_keeper.specs.Queries.{ShowsText, LeavesAll};
 ghost use Rattle.sqlite_keeper.specs.Tables.{no_schema};
-ghost use Rattle.sqlite_keeper.specs.Adopting.{IsBlank, Begins, Makes, new_contents, version_name, IsVersion};
+ghost use Rattle.sqlite_keeper.specs.Adopting.{IsBlank, Begins, Makes, new_contents, version_name, IsVersion, IsReason};
 
 use crate::asking::ask;
 use field_values::Txt;
@@ -24,7 +24,8 @@ pub(crate) fn is_memory(error: &Error) -> bool
 
 /// The text that the rows show, empty where they show none.
 fn version_in(alloc: Global, rows: &[Row]) -> Result<Txt, Error>
-    ensures { IfOk result (λ t. (k : Contents) → ShowsText k version_name rows.now → IsVersion k t) }
+    ensures version { IfOk result (λ t. (k : Contents) → ShowsText k version_name rows.now → IsVersion k t) }
+    ensures memory { IfErr result (λ e. e ≡ Error.SqliteFailure ErrorCode.OutOfMemory) }
 {
     match rows {
         [] => Ok(Txt::new(String::new(alloc))),
@@ -48,6 +49,7 @@ pub(crate) fn try_version<S: Alter>(alloc: Global, conn: &mut Connection<S>) -> 
     ensures same { HasCleanDisk (state S.Store conn.new) → Sound S.Store conn.old → IsTrue (state S.Store conn.new).is_open → contents_now S.Store conn.new ≡ contents_now S.Store conn.old }
     ensures known { HasCleanDisk (state S.Store conn.new) → Sound S.Store conn.old → OnOk result (IsTrue (state S.Store conn.new).is_open) }
     ensures left { HasCleanDisk (state S.Store conn.new) → Sound S.Store conn.old → (k : Contents) → MayLeave S.Store conn.new k → MayLeave S.Store conn.old k }
+    ensures reason { HasCleanDisk (state S.Store conn.new) → Sound S.Store conn.old → IsTrue (state S.Store conn.old).is_open → IfErr result (IsReason (state S.Store conn.old) (state S.Store conn.new)) }
     ensures blank { HasCleanDisk (state S.Store conn.new) → conn.old.schema ≡ no_schema → LeavesAll S.Store conn.old conn.new × OnOk result ⊥ }
     ensures idle { conn.old.in_transaction ≡ false → conn.new.in_transaction ≡ false }
     ensures clean { doubt (state S.Store conn.old).is_clean ≤ doubt (state S.Store conn.new).is_clean }

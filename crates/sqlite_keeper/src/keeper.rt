@@ -9,7 +9,7 @@ ghost use Rattle.budget_ports.specs.Keeper.{has_failed, IsAlone};
 ghost use Rattle.sqlite_keeper.specs.Contents.{contents_now};
 ghost use Rattle.sqlite_keeper.specs.Keeping.{TellsAll, MayBeLeft};
 ghost use Rattle.sqlite_keeper.specs.Tables.{keeper_schema, no_schema};
-ghost use Rattle.sqlite_keeper.specs.Adopting.{IsInOrder, IsNew, TellsVersion, new_contents, version_name, version_one};
+ghost use Rattle.sqlite_keeper.specs.Adopting.{IsInOrder, IsNew, TellsVersion, IsToTake, HasReason, LeavesOrMakes, LeavesOrBegins, new_contents, version_name, version_one};
 
 use crate::adopting::{is_memory, make, try_version};
 use crate::layout::{is_blank, is_ours};
@@ -85,8 +85,8 @@ impl<S: Alter> SqliteKeeper<S> {
     ///
     /// The first statement asks for the text `version`. Where it is `1` the store is taken, and where it
     /// is another the fault tells it. Where the connection refuses the statement, the tables and the
-    /// version are made in one commit; where it refuses that as well, the keeper is shut, and its count
-    /// is 1. What `in_order` gives is what `ordered` asks.
+    /// version are made in one commit; where it refuses that as well, the keeper is shut, its count is 1,
+    /// and the contents are as before. What `in_order` gives is what `ordered` asks.
     pub fn adopt(alloc: Global, connection: Connection<S>) -> Result<SqliteKeeper<S>, Unadopted<S>>
         requires idle { connection.in_transaction ≡ false }
         requires ordered { IsInOrder S.Store connection }
@@ -98,6 +98,10 @@ impl<S: Alter> SqliteKeeper<S> {
         ensures clean { IfOk result (λ k. doubt (state S.Store connection).is_clean ≤ doubt (state S.Store k.conn).is_clean) }
         ensures version { IfErr result (λ u. connection.schema ≡ keeper_schema → HasCleanDisk (state S.Store u.connection) → TellsVersion (contents_now S.Store connection) u.fault) }
         ensures new { IfErr result (λ u. connection.schema ≡ no_schema → HasCleanDisk (state S.Store u.connection) → u.fault ≡ AdoptFault.NoMemory) }
+        ensures reason { IfOk result (λ k. k.is_shut ≡ true → connection.schema ≡ keeper_schema → IsTrue (state S.Store connection).is_open → HasCleanDisk (state S.Store k.conn) → HasReason (state S.Store connection) (state S.Store k.conn)) }
+        ensures shut { IfOk result (λ k. k.is_shut ≡ true → (connection.schema ≡ keeper_schema) ⊎ (connection.schema ≡ no_schema) → HasCleanDisk (state S.Store k.conn) → IsTrue (state S.Store k.conn).is_open → contents_now S.Store k.conn ≡ contents_now S.Store connection) }
+        ensures left { IfOk result (λ k. IsToTake S.Store connection k.conn → HasCleanDisk (state S.Store k.conn) → LeavesOrBegins S.Store connection k.conn) }
+        ensures left_back { IfErr result (λ u. IsToTake S.Store connection u.connection → HasCleanDisk (state S.Store u.connection) → LeavesOrBegins S.Store connection u.connection) }
         ensures idle { IfErr result (λ u. u.connection.in_transaction ≡ false) }
         ensures same { IfErr result (λ u. connection.schema ≡ keeper_schema ⊎ connection.schema ≡ no_schema → HasCleanDisk (state S.Store u.connection) → IsTrue (state S.Store u.connection).is_open → contents_now S.Store u.connection ≡ contents_now S.Store connection) }
     {
@@ -157,6 +161,9 @@ impl<S: Alter> SqliteKeeper<S> {
         ensures made { IfOk result (λ k. IsTrue is_new → k.is_shut ≡ false → HasCleanDisk (state S.Store k.conn) → TellsAll S.Store k × (contents_now S.Store k.conn ≡ new_contents)) }
         ensures alone { IfOk result (λ k. IsAlone (TellsAll S.Store k) (contents_now S.Store k.conn) (MayBeLeft S.Store k)) }
         ensures ours { IfOk result (λ k. k.is_ours ≡ true → IsTrue is_new) }
+        ensures shut { IfOk result (λ k. k.is_shut ≡ true → IsTrue is_new → HasCleanDisk (state S.Store k.conn) → IsTrue (state S.Store k.conn).is_open → ((state S.Store k.conn).now ≡ (state S.Store connection).now) × IsTrue (state S.Store connection).is_open) }
+        ensures left { IfOk result (λ k. IsTrue is_new → HasCleanDisk (state S.Store k.conn) → IsTrue (state S.Store k.conn).is_open → LeavesOrMakes S.Store connection k.conn) }
+        ensures left_back { IfErr result (λ u. IsTrue is_new → HasCleanDisk (state S.Store u.connection) → IsTrue (state S.Store u.connection).is_open → LeavesOrMakes S.Store connection u.connection) }
         ensures fault { IfErr result (λ u. u.fault ≡ AdoptFault.NoMemory) }
         ensures idle { IfErr result (λ u. u.connection.in_transaction ≡ false) }
         ensures same { IfErr result (λ u. IsTrue is_new → HasCleanDisk (state S.Store u.connection) → IsTrue (state S.Store u.connection).is_open → (state S.Store u.connection).now ≡ (state S.Store connection).now) }

@@ -1,1 +1,11 @@
 pub mod Answers
+mod Elsewhere
+mod Faults
+mod Fronts
+mod Lengths
+mod Requests
+mod Sets
+mod Tens
+mod Texts
+mod Visits
+mod Pieces

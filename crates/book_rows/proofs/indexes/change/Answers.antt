@@ -1,4 +1,4 @@
-use Rattle.std.proofs.Common.{◌≡◌, ap, sym, ◌∙◌}
+use Rattle.std.proofs.Common.{ap, sym, ◌∙◌}
 use Rattle.book_rows.specs.Parts.{is_text}
 use Rattle.book_rows.specs.Book.{holds}
 use Rattle.book_rows.proofs.Pairs.{stays, none_left, moved, on_ok, same_option}

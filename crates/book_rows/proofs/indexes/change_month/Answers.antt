@@ -1,8 +1,7 @@
-use Rattle.std.proofs.Common.{◌≡◌, ℕ, Option, Some, None, true, refl, ap, sym, ◌∙◌, nat_eq, ◌==◌}
+use Rattle.std.proofs.Common.{◌≡◌, ℕ, Option, Some, None, true, refl, ap, sym, ◌∙◌, ◌==◌}
 use Rattle.std.specs.Option.{option_eq}
 use Rattle.std.specs.BTreeSet as set
-use Rattle.std.proofs.lemmas.Grind.{common_steps}
-use Rattle.std.proofs.Common.{arith, rules}
+use Rattle.std.proofs.Common.{arith}
 use Rattle.book_rows.specs.Book.{dated_cmp, is_month_of}
 use Rattle.book_rows.proofs.Pairs.{stays, none_left, moved, on_ok}
 use Rattle.book_rows.proofs.indexes.change_month.Goals as goal

@@ -1,5 +1,4 @@
-use Rattle.std.proofs.Common.{arith, pos}
-use Rattle.std.specs.Prelude.{◌<ℤ◌}
+use Rattle.std.proofs.Common.{arith}
 use Rattle.std.proofs.lemmas.Int.{ints}
 use Rattle.book_rows.proofs.Days.{no_day-low, no_day-high}
 use Rattle.book_rows.proofs.kind.day_in.Goals as goal

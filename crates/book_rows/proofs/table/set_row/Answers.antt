@@ -1,12 +1,33 @@
-use Rattle.std.proofs.Common.{◌≡◌, Option, Some, None, IsSome, OnOk, cond, Result, Ok, Err, refl, ap, sym, ◌∙◌, rules, subst}
+use Rattle.std.proofs.Common.{◌≡◌, Some, None, IsSome, OnOk, cond, Result, Ok, Err, refl, ap, sym, ◌∙◌, rules, subst}
 use Rattle.std.specs.Prelude.{unwrap_or}
 use Rattle.std.specs.FinMap as map
 use Rattle.std.specs.BTreeMap as tree
 use Rattle.std.specs.BTreeMap.{is_at}
 use Rattle.finite_sums.specs.Maps.{text_cmp, map_of}
 use Rattle.finite_sums.proofs.Texts.{get-map_of, map_of-insert}
-use Rattle.book_rows.specs.Tables.{blank_row}
+use Rattle.field_values.specs.Names.{IsName}
+use Rattle.book_rows.specs.Tables.{blank_row, AreNamed}
+use Rattle.book_rows.proofs.RowNames.{named-insert}
 use Rattle.book_rows.proofs.table.set_row.Goals as goal
+
+pub returns-clause-named : goal.returns-clause-named
+returns-clause-named g c = λ name named.
+    let rows = c.args.rows.now in
+    let e = c.in_ok-insert.ensures in
+    let same = c.get_mut.follows.holds-at-none in
+    let id : c.in_ok-copy-2.field-0 ≡ c.args.id.now = c.in_ok-copy-2.ensures in
+    let put = map_of-insert rows c.insert.new.self c.in_ok-copy-2.field-0 c.set-2.new.self (λ q. e.updates.0 q ∙ ap (λ m. cond (is_at (text_cmp c.in_ok-copy-2.field-0) q) (Some c.set-2.new.self) (tree.get text_cmp m q)) same) in
+    subst AreNamed (sym put) (named-insert (map_of rows) c.in_ok-copy-2.field-0 c.set-2.new.self (subst IsName (sym id) name) named)
+
+pub returns-in-Some-clause-named : goal.returns-in-Some-clause-named
+returns-in-Some-clause-named g c = λ name named.
+    let rows = c.args.rows.now in
+    let id = c.args.id.now in
+    let h = c.get_mut.follows.holds c.set.new.self in
+    let there : tree.get text_cmp rows id ≡ Some c.in-Some.row.now = search rules in
+    let updates = h.3 (subst IsSome (sym there) refl) in
+    let put = map_of-insert rows (c.get_mut.follows.lender c.set.new.self) id c.set.new.self updates.0 in
+    subst AreNamed (sym put) (named-insert (map_of rows) id c.set.new.self name named)
 
 pub returns-clause-row : goal.returns-clause-row
 returns-clause-row g c =

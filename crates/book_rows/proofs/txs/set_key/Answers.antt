@@ -1,5 +1,4 @@
-use Rattle.std.proofs.Common.{◌≡◌, ap, sym, ◌∙◌, subst}
-use Rattle.std.specs.FinMap as map
+use Rattle.std.proofs.Common.{ap, ◌∙◌, subst}
 use Rattle.book_rows.specs.declared.txs.Keys.{Keys}
 use Rattle.book_rows.specs.Book.{MovesKeys, keys_of}
 use Rattle.book_rows.proofs.Pairs.{on_ok}
@@ -8,5 +7,5 @@ use Rattle.book_rows.proofs.txs.set_key.Goals as goal
 
 pub returns-clause-index : goal.returns-clause-index
 returns-clause-index c = on_ok c.change_keys.result (λ e.
-    keyed c.args.index.now c.change_keys.new.index c.args.txs.now c.set.new.self c.args.id.now c.args.column c.args.value.now c.requires c.in_ok-set.ensures
+    keyed c.args.index.now c.change_keys.new.index c.args.txs.now c.set.new.self c.args.id.now c.args.column c.args.value.now c.requires.index c.in_ok-set.ensures
     (subst (λ (keys : Keys). MovesKeys c.args.index.now c.change_keys.new.index c.args.id.now keys) (c.in_ok-after.ensures ∙ ap keys_of c.get-2.ensures) e)) c.change_keys.ensures

@@ -30,4 +30,4 @@ returns-clause-version g c clean sound =
     let new = state g.S.Store c.ask.new.conn in
     let shown : Shown get_text (Text version_name ∷ []) old new c.deref.result.now = rw (c.deref.ensures.value) (rw c.params-to_sql.ensures at h.2) in
     let sound_rows = rules_of old.now.trees (subst (λ s. IsDatabase (record { schema = s; trees = old.now.trees })) h.0.schema h.1) in
-    version_is c.version_in.result (contents_now g.S.Store c.args.conn.now) c.deref.result.now c.version_in.ensures (shows_text old new version_name c.deref.result.now h.0.schema sound_rows h.0.named shown)
+    version_is c.version_in.result (contents_now g.S.Store c.args.conn.now) c.deref.result.now c.version_in.ensures.version (shows_text old new version_name c.deref.result.now h.0.schema sound_rows h.0.named shown)

@@ -1,10 +1,13 @@
-use Rattle.std.proofs.Common.{rules, [], inl, inr, arith, ◌∙◌, subst, sym, OnOk}
-use Rattle.sqlite.specs.State.{HasCleanDisk}
+use Rattle.std.proofs.Common.{rules, [], inl, inr, arith, ◌∙◌, subst, subst₂, sym, OnOk}
+use Rattle.sqlite.specs.State.{HasCleanDisk, IsNotRun, FailsToQuery}
 use Rattle.sqlite.specs.Held.{state}
 use Rattle.sqlite.specs.Listing.{understood}
 use Rattle.sqlite.specs.Given.{IsPlain}
 use Rattle.sqlite_keeper.proofs.Calls.{not_run, refused, ready}
+use Rattle.sqlite_keeper.specs.Adopting.{version_row, IsReason}
 use Rattle.sqlite_keeper.proofs.GetLemmas.{shown_first}
+use Rattle.sqlite_keeper.proofs.AdoptLemmas.{if_err}
+use Rattle.sqlite_keeper.proofs.CauseLemmas.{not_run_reason, query_reason, reason_after}
 use Rattle.sqlite_keeper.proofs.asking.ask.Goals as goal
 
 pub returns-in_err-_ready-clause-sound : goal.returns-in_err-_ready-clause-sound
@@ -73,3 +76,22 @@ pub returns-clause-unread : goal.returns-clause-unread
 returns-clause-unread g c clean unread =
     let early : HasCleanDisk (state g.S.Store c.prepare.new.self) = omega (arith, c.show.ensures.clean) in
     absurd (rw unread.1 at (c.in_ok-_ready.ensures.shape early))
+
+pub returns-in_err-_ready-clause-reason : goal.returns-in_err-_ready-clause-reason
+returns-in_err-_ready-clause-reason g c clean sound is_open asks given =
+    let old = state g.S.Store c.args.conn.now in
+    let new = state g.S.Store c.prepare.new.self in
+    let first : HasCleanDisk old = omega (arith, c.prepare.ensures.survives.clean) in
+    let not_run : IsNotRun old new _ version_row c.in_err-_ready.field-0.0 = subst (λ t. IsNotRun old new t version_row c.in_err-_ready.field-0.0) asks (c.in_err-_ready.ensures.err clean version_row) in
+    let reason : IsReason old new c.in_err-_ready.field-0.0 = not_run_reason old new _ (sound first is_open).schema is_open not_run in
+    search (rules, reason)
+
+pub returns-clause-reason : goal.returns-clause-reason
+returns-clause-reason g c clean sound is_open asks given =
+    let mid = state g.S.Store c.prepare.new.self in
+    let new = state g.S.Store c.show.new.conn in
+    let early : HasCleanDisk mid = omega (arith, c.show.ensures.clean) in
+    let same = (c.in_ok-_ready.ensures.ok early).1 in
+    let was = ready g.S.Store c.args.conn.now c.prepare.new.self sound same c.prepare.ensures.survives.clean early in
+    reason_after c.show.result (state g.S.Store c.args.conn.now) mid new c.prepare.ensures.survives.counts c.prepare.ensures.survives.limit
+    (if_err c.show.result (λ e failed. query_reason mid new e was.0.schema same.0.is_open (subst₂ (λ t ps. FailsToQuery t ps mid new e) asks given failed)) (c.show.ensures.err clean))

@@ -1,4 +1,4 @@
-use Rattle.std.proofs.Common.{◌≡◌, false, ap, sym, ◌∙◌, subst, IfOk, List}
+use Rattle.std.proofs.Common.{◌≡◌, false, ap, ◌∙◌, subst, IfOk, List}
 use Rattle.finite_sums.specs.Maps.{Text}
 use Rattle.book_rows.specs.declared.rows.Rows.{Rows}
 use Rattle.book_rows.specs.Parts.{account_txs}

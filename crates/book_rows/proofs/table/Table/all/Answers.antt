@@ -4,4 +4,4 @@ use Rattle.finite_sums.proofs.Texts.{entries-map_of}
 use Rattle.book_rows.proofs.table.Table.all.Goals as goal
 
 pub returns : goal.returns
-returns g c = sym (entries-map_of c.self.inside.rows c.self.invariant) ∙ ap map.entries c.self.view_is
+returns g c = sym (entries-map_of c.self.inside.rows c.self.invariant.0) ∙ ap map.entries c.self.view_is

@@ -8,11 +8,8 @@ receive-requires g c = of_valid c.in-Some.stamp c.args.batch.now (sym c.in-Some.
 pub invariant_of-self-2 : goal.invariant_of-self-2
 invariant_of-self-2 g c = λ live.
     let stands = c.self.invariant live in record {
-      live = stands.live;
-      trie_live = stands.trie_live;
-      trie_right = stands.trie_right;
-      valid = stands.valid;
-      ahead = ahead_later c.self.inside.clock c.receive.new.self c.self.inside.log.messages c.in_default-receive.ensures.later.0 stands.ahead;
+      right = stands.right;
+      ahead = ahead_later c.self.inside.clock c.receive.new.self c.self.inside.known.log.messages c.in_default-receive.ensures.later.0 stands.ahead;
       keys = stands.keys;
     }
 

@@ -11,14 +11,11 @@ use Rattle.device_core.proofs.device.Device.start.Goals as goal
 
 pub invariant_of-result : goal.invariant_of-result
 invariant_of-result c = λ _.
-    let ms = c.in_ok-log.log.messages in record {
-      live = c.in_ok-log.ensures.live;
-      trie_live = c.in_ok-log.ensures.trie_live;
-      trie_right = c.in_ok-log.ensures.right;
-      valid = c.in_ok-log.ensures.valid;
-      ahead = subst (λ (s : Stamp). IsAhead s ms) (sym (c.new-clock.ensures ∙ ap (clock_after c.args.node) c.last.ensures)) (after_ahead c.args.node ms (rising_set c.args.records.now ms c.in_ok-log.ensures.messages));
+    let ms = c.in_ok-known.known.log.messages in record {
+      right = c.in_ok-known.ensures.known;
+      ahead = subst (λ (s : Stamp). IsAhead s ms) (sym (c.new-clock.ensures ∙ ap (clock_after c.args.node) c.last.ensures)) (after_ahead c.args.node ms (rising_set c.args.records.now ms c.in_ok-known.ensures.messages));
       keys = subst HaveKeys (sym c.new.ensures.items) tt;
     }
 
 pub new-clock-requires-clause-last : goal.new-clock-requires-clause-last
-new-clock-requires-clause-last c = subst (λ (o : Option Stamp). ForSome o IsStamp) (sym c.last.ensures) (last_valid c.in_ok-log.log.messages c.in_ok-log.ensures.valid)
+new-clock-requires-clause-last c = subst (λ (o : Option Stamp). ForSome o IsStamp) (sym c.last.ensures) (last_valid c.in_ok-known.known.log.messages c.in_ok-known.ensures.known.valid)

@@ -1,0 +1,7 @@
+pub mod Least
+pub mod Lists
+pub mod Passing
+pub mod Valid
+pub mod ValidWrites
+pub mod Amounts
+pub mod Told

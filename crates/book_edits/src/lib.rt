@@ -1,0 +1,22 @@
+//! The plain edits of a household's books: what each writes, or the first reason why it is refused.
+//!
+//! An edit ([`BookEdit`]) is checked against the rows of a book in a fixed order, and gives its writes in a fixed order
+//! ([`writes`]). It changes nothing itself.
+#![tactic(auto)]
+
+mod accounts;
+mod budgets;
+mod categories;
+mod checks;
+mod edit;
+mod given;
+mod laws;
+mod making;
+mod names;
+mod set;
+mod transactions;
+mod writing;
+
+pub use edit::BookEdit;
+pub use laws::{ids_alone_choose, moves_keep_money, names_are_told};
+pub use making::writes;

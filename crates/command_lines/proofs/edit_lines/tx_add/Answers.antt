@@ -1,0 +1,48 @@
+use Rattle.std.proofs.Common.{◌∙◌}
+use Rattle.command_lines.proofs.WordLemmas.{at_exit, at_later_exit}
+use Rattle.command_lines.proofs.edit_lines.tx_add.Goals as goal
+
+pub returns-in_err-id-clause-read : goal.returns-in_err-id-clause-read
+returns-in_err-id-clause-read c = at_exit _ c.from_residual.result c.in_err-id.field-0.0 c.from_residual.ensures.1 (c.in_err-id.ensures.err _)
+
+pub returns-in_err-account-clause-read : goal.returns-in_err-account-clause-read
+returns-in_err-account-clause-read c =
+    at_later_exit _ _ c.from_residual-in_err-account.result c.in_err-account.field-0.0
+    (c.in_ok-id.ensures.ok _)
+    c.from_residual-in_err-account.ensures.1 (c.in_err-account.ensures.err _)
+
+pub returns-in_err-date-clause-read : goal.returns-in_err-date-clause-read
+returns-in_err-date-clause-read c =
+    at_later_exit _ _ c.from_residual-in_err-date.result c.in_err-date.field-0.0
+    (c.in_ok-id.ensures.ok _ ∙ c.in_ok-account.ensures.ok _)
+    c.from_residual-in_err-date.ensures.1 (c.in_err-date.ensures.err _)
+
+pub returns-in_err-amount-clause-read : goal.returns-in_err-amount-clause-read
+returns-in_err-amount-clause-read c =
+    at_later_exit _ _ c.from_residual-in_err-amount.result c.in_err-amount.field-0.0
+    (c.in_ok-id.ensures.ok _ ∙ c.in_ok-account.ensures.ok _ ∙ c.in_ok-date.ensures.ok _)
+    c.from_residual-in_err-amount.ensures.1 (c.in_err-amount.ensures.err _)
+
+pub returns-in_err-payee-clause-read : goal.returns-in_err-payee-clause-read
+returns-in_err-payee-clause-read c =
+    at_later_exit _ _ c.from_residual-in_err-payee.result c.in_err-payee.field-0.0
+    (c.in_ok-id.ensures.ok _ ∙ c.in_ok-account.ensures.ok _ ∙ c.in_ok-date.ensures.ok _ ∙ c.in_ok-amount.ensures.ok _)
+    c.from_residual-in_err-payee.ensures.1 (c.in_err-payee.ensures.err _)
+
+pub returns-in_err-category-clause-read : goal.returns-in_err-category-clause-read
+returns-in_err-category-clause-read c =
+    at_later_exit _ _ c.from_residual-in_err-category.result c.in_err-category.field-0.0
+    (c.in_ok-id.ensures.ok _ ∙ c.in_ok-account.ensures.ok _ ∙ c.in_ok-date.ensures.ok _ ∙ c.in_ok-amount.ensures.ok _ ∙ c.in_ok-payee.ensures.ok _)
+    c.from_residual-in_err-category.ensures.1 (c.in_err-category.ensures.err _)
+
+pub returns-in_err-notes-clause-read : goal.returns-in_err-notes-clause-read
+returns-in_err-notes-clause-read c =
+    at_later_exit _ _ c.from_residual-in_err-notes.result c.in_err-notes.field-0.0
+    (c.in_ok-id.ensures.ok _ ∙ c.in_ok-account.ensures.ok _ ∙ c.in_ok-date.ensures.ok _ ∙ c.in_ok-amount.ensures.ok _ ∙ c.in_ok-payee.ensures.ok _ ∙ c.in_ok-category.ensures.ok _)
+    c.from_residual-in_err-notes.ensures.1 (c.in_err-notes.ensures.err _)
+
+pub returns-in_err-end-clause-read : goal.returns-in_err-end-clause-read
+returns-in_err-end-clause-read c =
+    at_later_exit _ _ c.from_residual-in_err-end.result c.in_err-end.field-0.0
+    (c.in_ok-id.ensures.ok _ ∙ c.in_ok-account.ensures.ok _ ∙ c.in_ok-date.ensures.ok _ ∙ c.in_ok-amount.ensures.ok _ ∙ c.in_ok-payee.ensures.ok _ ∙ c.in_ok-category.ensures.ok _ ∙ c.in_ok-notes.ensures.ok _)
+    c.from_residual-in_err-end.ensures.1 (c.in_err-end.ensures.err _)

@@ -1,0 +1,51 @@
+-- What the lines that ask of the books are answered, of a book's rows.
+use Rattle.std.specs.Prelude.{ℕ, ℤ, List, [], ◌∷◌, ◌++◌, map as list_map, Option, None, Some, if◌then◌else◌}
+use Rattle.std.specs.Fmt.{signed_decimal}
+use Rattle.finite_sums.specs.Maps.{Text}
+use Rattle.book_rows.specs.declared.rows.Rows.{Rows}
+use Rattle.book_rows.specs.Live.{is_live_account}
+use Rattle.book_rows.specs.Balances.{balance_of}
+use Rattle.book_rows.specs.Months.{is_month}
+use Rattle.envelope_cells.specs.declared.name.Cell.{Cell}
+use Rattle.envelope_cells.specs.declared.name.CellName.{CellName}
+use Rattle.envelope_cells.specs.BudgetOf.{budget_of}
+use Rattle.envelope_cells.specs.CellOf.{cell_of}
+use Rattle.envelope_cells.specs.SheetOf.{sheet_of}
+use Rattle.envelope_cells.specs.Text.{kind_text}
+use Rattle.command_lines.specs.declared.reply.Reply.{Reply}
+use Rattle.command_lines.specs.declared.reply.Reply.TheVariants.{Done}
+use Rattle.command_lines.specs.Refusals.{no_such_account, no_such_group, no_such_category, bad_month}
+use Rattle.command_lines.specs.Replies.{faulty}
+use Rattle.command_lines.specs.Register.{register_lines}
+use Rattle.command_lines.specs.CellNames.{is_of_group, cell_named}
+
+-- `balance`: the balance of a live account
+abbrev pub balance_answer : Rows → Text → Reply
+balance_answer rows account =
+    if is_live_account rows account then Done (signed_decimal (balance_of rows account) ∷ []) else no_such_account account
+
+-- `register`: the live transactions of a live account
+abbrev pub register_answer : Rows → Text → Reply
+register_answer rows account = if is_live_account rows account then Done (register_lines rows account) else no_such_account account
+
+-- what a cell tells, or that there is no such group or category
+abbrev pub told_cell : CellName → Option ℤ → Reply
+told_cell name (Some z) = Done (signed_decimal z ∷ [])
+told_cell name None = if is_of_group name.kind then no_such_group name.id else no_such_category name.id
+
+-- a name of no kind is no word of the line
+abbrev pub cell_or_faulty : Rows → Option CellName → Reply
+cell_or_faulty rows None = faulty 2
+cell_or_faulty rows (Some name) = told_cell name (cell_of (budget_of rows) name)
+
+-- `cell`: what a cell of a month tells. The month is judged first
+abbrev pub cell_answer : Rows → ℕ → Text → Reply
+cell_answer rows month name = if is_month month then cell_or_faulty rows (cell_named month name) else bad_month month
+
+-- the line of a cell: its name, a blank and its number
+abbrev pub cell_text : Cell → Text
+cell_text c = kind_text c.name.kind ++ c.name.id ++ 32 ∷ signed_decimal c.value
+
+-- `sheet`: all cells of a month
+abbrev pub sheet_answer : Rows → ℕ → Reply
+sheet_answer rows month = if is_month month then Done (list_map cell_text (sheet_of (budget_of rows) month)) else bad_month month

@@ -1,0 +1,181 @@
+//! The answers of the lines that ask of the books.
+ghost use Rattle.std.specs.Prelude.{◌≡◌, false, IsTrue, IfOk, map};
+ghost use Rattle.std.specs.Fmt.{signed_decimal};
+ghost use Rattle.book_rows.specs.Live.{is_live_account};
+ghost use Rattle.book_rows.specs.Months.{is_month};
+ghost use Rattle.envelope_cells.specs.BudgetOf.{budget_of};
+ghost use Rattle.envelope_cells.specs.CellOf.{cell_of};
+ghost use Rattle.envelope_cells.specs.SheetOf.{sheet_of};
+ghost use Rattle.command_lines.specs.declared.reply.Reply.TheVariants.{Done};
+ghost use Rattle.command_lines.specs.BookAnswers.{balance_answer, register_answer, told_cell, cell_or_faulty, cell_answer, cell_text, sheet_answer};
+
+use crate::cell_names::{cell_named, is_of_group};
+use crate::refusal::{bad_month, no_account, no_category, no_group};
+use crate::register::register_lines;
+use crate::reply::{Reply, faulty_reply, one_line};
+use book_rows::{Book, is_month};
+use envelope_cells::{Cell, CellName, sheet, sheets_tell_cells};
+use field_values::{Items, NoMemory, Steps, Txt};
+use itoa::Buffer;
+use std::alloc::Global;
+use std::sync::ledger::Ledger;
+
+/// Whether an account is there and was not deleted.
+fn is_live(book: &Book, account: &Txt) -> bool
+    ensures { result ≡ is_live_account book.now.rows account.now }
+{
+    match book.account(account) {
+        Some(row) => !row.tombstone,
+        None => false,
+    }
+}
+
+/// The decimal text of a number.
+fn signed_text(alloc: Global, number: i128) -> Result<Txt, NoMemory>
+    ensures { IfOk result (λ t. t ≡ signed_decimal number) }
+{
+    let text = format!(in alloc; "{number}")?;
+    Ok(Txt::new(text))
+}
+
+/// The reply to `balance`: the balance of a live account.
+pub(crate) fn balance_reply(alloc: Global, book: &Book, account: &Txt) -> Result<Reply, NoMemory>
+    requires live { book.now.spent ≡ false }
+    ensures { IfOk result (λ r. r ≡ balance_answer book.now.rows account.now) }
+{
+    if !is_live(book, account) {
+        return no_account(alloc, account);
+    }
+    let balance = signed_text(alloc, book.balance(account))?;
+    one_line(alloc, balance)
+}
+
+/// The reply to `register`: the live transactions of a live account.
+pub(crate) fn register_reply<G: Ledger>(
+    alloc: Global,
+    book: &Book,
+    account: &Txt,
+    steps: &mut Steps<G>,
+) -> Result<Reply, NoMemory>
+    requires live { book.now.spent ≡ false }
+    ensures { IfOk result (λ r. r ≡ register_answer book.now.rows account.now) }
+{
+    if !is_live(book, account) {
+        return no_account(alloc, account);
+    }
+    let lines = register_lines(alloc, book, account, steps)?;
+    Ok(Reply::Done { lines })
+}
+
+/// What a cell tells.
+fn cell_value<G: Ledger>(
+    alloc: Global,
+    book: &Book,
+    name: &CellName,
+    steps: &mut Steps<G>,
+) -> Result<Option<i128>, NoMemory>
+    requires live { book.now.spent ≡ false }
+    requires month { IsTrue (is_month name.now.month) }
+    ensures { IfOk result (λ value. value ≡ cell_of (budget_of book.now.rows) name.now) }
+{
+    // The sheet of the month has exactly its cells.
+    sheets_tell_cells();
+    let sheet = sheet(alloc, book, name.month, steps)?;
+    Ok(sheet.cell(name))
+}
+
+/// The reply that tells of a cell, or that there is no such group or category.
+fn told_reply(alloc: Global, name: &CellName, value: Option<i128>) -> Result<Reply, NoMemory>
+    ensures { IfOk result (λ r. r ≡ told_cell name.now value) }
+{
+    match value {
+        Some(value) => {
+            let text = signed_text(alloc, value)?;
+            one_line(alloc, text)
+        }
+        None => {
+            if is_of_group(name.kind) {
+                no_group(alloc, &name.id)
+            } else {
+                no_category(alloc, &name.id)
+            }
+        }
+    }
+}
+
+/// The reply that tells of a cell of a month, or that the name is of no kind.
+fn named_reply<G: Ledger>(
+    alloc: Global,
+    book: &Book,
+    name: &CellName,
+    steps: &mut Steps<G>,
+) -> Result<Reply, NoMemory>
+    requires live { book.now.spent ≡ false }
+    requires month { IsTrue (is_month name.now.month) }
+    ensures { IfOk result (λ r. r ≡ told_cell name.now (cell_of (budget_of book.now.rows) name.now)) }
+{
+    let value = cell_value(alloc, book, name, steps)?;
+    told_reply(alloc, name, value)
+}
+
+/// The reply to `cell`: what a cell of a month tells. The month is judged first, then the name.
+pub(crate) fn cell_reply<G: Ledger>(
+    alloc: Global,
+    book: &Book,
+    month: u32,
+    name: &Txt,
+    steps: &mut Steps<G>,
+) -> Result<Reply, NoMemory>
+    requires live { book.now.spent ≡ false }
+    ensures { IfOk result (λ r. r ≡ cell_answer book.now.rows month name.now) }
+{
+    if !is_month(month) {
+        return bad_month(alloc, month);
+    }
+    match cell_named(alloc, month, name)? {
+        Some(name) => named_reply(alloc, book, &name, steps),
+        None => faulty_reply(alloc, 2),
+    }
+}
+
+/// The line of a cell: its name, a blank and its number.
+fn cell_line(alloc: Global, cell: &Cell) -> Result<Txt, NoMemory>
+    ensures { IfOk result (λ t. t ≡ cell_text cell.now) }
+{
+    let mut buffer = Buffer::new();
+    let mut text = String::new(alloc);
+    text.push_str(cell.name.kind.text())?;
+    text.push_str(cell.name.id.as_str())?;
+    text.push(' ')?;
+    text.push_str(buffer.format(cell.value))?;
+    Ok(Txt::new(text))
+}
+
+/// The lines of cells.
+fn cell_lines(alloc: Global, cells: &[Cell]) -> Result<Items<Txt>, NoMemory>
+    ensures { IfOk result (λ lines. lines ≡ map cell_text cells.now) }
+{
+    let mut lines = Vec::new(alloc);
+    for cell in cells {
+        lines.push(cell_line(alloc, cell)?)?;
+    }
+    Ok(Items::new(lines))
+}
+
+/// The reply to `sheet`: all cells of a month.
+pub(crate) fn sheet_reply<G: Ledger>(
+    alloc: Global,
+    book: &Book,
+    month: u32,
+    steps: &mut Steps<G>,
+) -> Result<Reply, NoMemory>
+    requires live { book.now.spent ≡ false }
+    ensures { IfOk result (λ r. r ≡ sheet_answer book.now.rows month) }
+{
+    if !is_month(month) {
+        return bad_month(alloc, month);
+    }
+    let sheet = sheet(alloc, book, month, steps)?;
+    let lines = cell_lines(alloc, sheet.cells.as_slice())?;
+    Ok(Reply::Done { lines })
+}

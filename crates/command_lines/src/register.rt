@@ -1,0 +1,136 @@
+//! The register of an account: its live transactions, by day and id.
+ghost use Rattle.std.specs.Prelude.{◌≡◌, ◌++◌, ◌∷◌, [], List, map, false, OnOk, IfOk, string_bytes};
+ghost use Rattle.std.specs.List.{flat_map};
+ghost use Rattle.std.specs.Fmt.{signed_decimal};
+ghost use Rattle.finite_sums.specs.Maps.{Text};
+ghost use Rattle.command_lines.specs.Register.{day_text, day_or_first, shown_id, register_line, entry_of, placed, register_of, register_lines};
+
+use book_rows::{Book, TxRow};
+use field_merge::push_escaped;
+use field_values::{Items, NoMemory, Steps, Txt};
+use itoa::Buffer;
+use std::alloc::Global;
+use std::collections::BTreeMap;
+use std::sync::ledger::Ledger;
+
+/// Where a transaction stands in a register: its day, or 0 where it has none, and its id.
+type Place = (u32, Txt);
+
+/// Puts a TAB and a day, or a hyphen for none, behind a text.
+fn push_day(text: &mut String, date: Option<u32>) -> Result<(), NoMemory>
+    ensures { OnOk result (string_bytes text.new ≡ string_bytes text.old ++ 9 ∷ day_text date) }
+{
+    text.push('\t')?;
+    match date {
+        Some(day) => {
+            let mut buffer = Buffer::new();
+            text.push_str(buffer.format(day))?;
+        }
+        None => text.push('-')?,
+    }
+    Ok(())
+}
+
+/// Puts a TAB and an amount behind a text.
+fn push_amount(text: &mut String, amount: i64) -> Result<(), NoMemory>
+    ensures { OnOk result (string_bytes text.new ≡ string_bytes text.old ++ 9 ∷ signed_decimal amount) }
+{
+    let mut buffer = Buffer::new();
+    text.push('\t')?;
+    text.push_str(buffer.format(amount))?;
+    Ok(())
+}
+
+/// Puts a TAB and an id, escaped, or a hyphen for none, behind a text.
+fn push_id(text: &mut String, id: &Option<Txt>) -> Result<(), NoMemory>
+    ensures { OnOk result (string_bytes text.new ≡ string_bytes text.old ++ 9 ∷ shown_id id.now) }
+{
+    text.push('\t')?;
+    match id {
+        Some(id) => push_escaped(text, id.as_str()),
+        None => {
+            text.push('-')?;
+            Ok(())
+        }
+    }
+}
+
+/// The line of a transaction: its id, day, amount, category and payee, with a TAB between them.
+fn line_of(alloc: Global, book: &Book, id: &Txt, row: &TxRow) -> Result<Txt, NoMemory>
+    ensures { IfOk result (λ t. t ≡ register_line book.now.rows id.now row.now) }
+{
+    let _ = book;
+    let mut text = String::new(alloc);
+    text.push_str(id.as_str())?;
+    push_day(&mut text, row.date)?;
+    push_amount(&mut text, row.amount)?;
+    push_id(&mut text, &row.category)?;
+    push_id(&mut text, &row.description)?;
+    Ok(Txt::new(text))
+}
+
+/// Where a transaction stands in a register.
+fn place_of(id: &Txt, date: Option<u32>) -> Result<Place, NoMemory>
+    ensures { IfOk result (λ p. p ≡ (day_or_first date, id.now)) }
+{
+    Ok((date.unwrap_or(0), id.copy()?))
+}
+
+/// Puts the line of a transaction in its place, if it is live.
+fn place_tx<G: Ledger>(
+    alloc: Global,
+    book: &Book,
+    id: &Txt,
+    found: &mut BTreeMap<Place, Txt>,
+    steps: &mut Steps<G>,
+) -> Result<(), NoMemory>
+    ensures { OnOk result ((rest : List Text) → placed (flat_map (entry_of book.now.rows) rest) found.new.entries ≡ placed (flat_map (entry_of book.now.rows) (id.now ∷ rest)) found.old.entries) }
+{
+    let Some(row) = book.tx(id, steps) else {
+        return Ok(());
+    };
+    if !book.alive(id) {
+        return Ok(());
+    }
+    let line = line_of(alloc, book, id, row)?;
+    found.insert(place_of(id, row.date)?, line)?;
+    Ok(())
+}
+
+/// The lines of the live transactions of an account, by place.
+fn placed_lines<G: Ledger>(
+    alloc: Global,
+    book: &Book,
+    account: &Txt,
+    steps: &mut Steps<G>,
+) -> Result<BTreeMap<Place, Txt>, NoMemory>
+    requires live { book.now.spent ≡ false }
+    ensures { IfOk result (λ found. found.entries ≡ register_of book.now.rows account.now) }
+{
+    let ids = book.of_account(account, steps)?;
+    let list = ids.as_slice();
+    let mut found = BTreeMap::new(alloc);
+    for id in list {
+        place_tx(alloc, book, id, &mut found, steps)?;
+    }
+    Ok(found)
+}
+
+/// The lines of an account's live transactions, by day, those without one first, and then by id. It looks at this account's
+/// transactions alone.
+pub(crate) fn register_lines<G: Ledger>(
+    alloc: Global,
+    book: &Book,
+    account: &Txt,
+    steps: &mut Steps<G>,
+) -> Result<Items<Txt>, NoMemory>
+    requires live { book.now.spent ≡ false }
+    ensures { IfOk result (λ lines. lines ≡ register_lines book.now.rows account.now) }
+{
+    let found = placed_lines(alloc, book, account, steps)?;
+    let mut lines = Vec::new(alloc);
+    for (_, line) in &found {
+        lines.push(line.copy()?)?;
+    }
+    Ok(Items::new(lines))
+}

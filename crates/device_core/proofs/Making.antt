@@ -1,0 +1,40 @@
+-- An edit that makes writes, and that they are valid.
+use Rattle.std.proofs.Common.{◌≡◌, List, Ok, sym, ◌∙◌}
+use Rattle.book_rows.specs.declared.rows.Rows.{Rows}
+use Rattle.book_rows.specs.Named.{HasNames}
+use Rattle.book_rows.specs.declared.write.Write.{Write}
+use Rattle.book_rows.specs.Writes.{AreWrites}
+use Rattle.book_edits.proofs.ValidWrites as books
+use Rattle.book_edits.specs.declared.edit.BookEdit.TheVariants.{Set, AccountAdd, AccountRename, AccountOffbudget, AccountReopen, AccountClose, GroupAdd, GroupRename, GroupDelete, CategoryAdd, CategoryRename, CategoryMove, CategoryDelete, PayeeAdd, PayeeRename, PayeeDelete, TxAdd, Budget, Carryover, Hold, Move, Note}
+use Rattle.device_core.specs.declared.edit.Edit.{Edit}
+use Rattle.device_core.specs.declared.edit.Edit.TheVariants.{Book}
+use Rattle.device_core.specs.Edits.{writes_of, IsEdit, MayWantMemory}
+
+-- memory may have been wanted
+pub made_may : (rows : Rows) (edit : Edit) (ws : List Write) → writes_of rows edit ≡ Ok ws → MayWantMemory edit
+made_may rows (Book (Set dataset row column value)) ws made = λ refused. let no = sym made ∙ refused in cc
+made_may rows (Book (AccountAdd id name offbudget)) ws made = tt
+made_may rows (Book (AccountRename id name)) ws made = tt
+made_may rows (Book (AccountOffbudget id offbudget)) ws made = tt
+made_may rows (Book (AccountReopen id)) ws made = tt
+made_may rows (Book (AccountClose id)) ws made = tt
+made_may rows (Book (GroupAdd id name income)) ws made = tt
+made_may rows (Book (GroupRename id name)) ws made = tt
+made_may rows (Book (GroupDelete id)) ws made = tt
+made_may rows (Book (CategoryAdd id group name)) ws made = tt
+made_may rows (Book (CategoryRename id name)) ws made = tt
+made_may rows (Book (CategoryMove id group)) ws made = tt
+made_may rows (Book (CategoryDelete id)) ws made = tt
+made_may rows (Book (PayeeAdd id name)) ws made = tt
+made_may rows (Book (PayeeRename id name)) ws made = tt
+made_may rows (Book (PayeeDelete id)) ws made = tt
+made_may rows (Book (TxAdd id account date amount payee category notes)) ws made = tt
+made_may rows (Book (Budget month category amount)) ws made = tt
+made_may rows (Book (Carryover month category carries)) ws made = tt
+made_may rows (Book (Hold month amount)) ws made = tt
+made_may rows (Book (Move month from to amount)) ws made = tt
+made_may rows (Book (Note id text)) ws made = tt
+
+-- the writes of an edit in a book whose ids are names
+pub writes_valid : (rows : Rows) (edit : Edit) (ws : List Write) → HasNames rows → IsEdit edit → writes_of rows edit ≡ Ok ws → AreWrites ws
+writes_valid rows (Book edit) ws names is h = books.writes_valid rows names edit ws is h
