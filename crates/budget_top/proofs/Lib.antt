@@ -32,3 +32,10 @@ pub mod CutLines
 pub mod Judged
 pub mod Merging
 pub mod Asking
+pub mod Telling
+pub mod Requests
+pub mod Growing
+pub mod Visits
+pub mod Behind
+pub mod ServeEnds
+pub mod Staying
