@@ -2,6 +2,7 @@ pub mod Answers
 mod Elsewhere
 mod Faults
 mod Fronts
+mod Judged
 mod Lengths
 mod Requests
 mod Sets

@@ -1,8 +1,10 @@
 -- What the laws say.
-use Rattle.std.specs.Prelude.{◌≡◌, ◌↔◌, List, [], None, true}
-use Rattle.std.specs.List.{Contains}
+use Rattle.std.specs.Prelude.{◌≡◌, ◌≢◌, ◌↔◌, ◌⊎◌, ◌<◌, ◌≤◌, ℕ, List, [], ◌∷◌, ◌++◌, take, map, Option, Some, None, Result, Ok, Err, codes, true}
+use Rattle.std.specs.List.{Contains, AllByRecursion}
 use Rattle.std.specs.Ordering.{is_gt, nat_cmp}
 use Rattle.std.specs.Cmp.Lexicographic.{slice_cmp}
+use Rattle.httparse.specs.Grammar.{RequestHead}
+use Rattle.httparse.specs.Spans.{name_and_value}
 use Rattle.hybrid_clock.specs.Stamp.{stamp_text}
 use Rattle.field_merge.specs.declared.message.Message.{Message}
 use Rattle.field_merge.specs.Log.{IsRising, at_stamp, join}
@@ -11,9 +13,13 @@ use Rattle.minute_trie.specs.Trie.{held, IsTrieOf}
 use Rattle.minute_trie.specs.Json.{trie_text}
 use Rattle.kept_messages.specs.Pairs.{pairs_of}
 use Rattle.sync_wire.specs.declared.request.SyncRequest.{SyncRequest}
+use Rattle.sync_server.specs.declared.refusal.Refusal.{Refusal}
+use Rattle.sync_server.specs.declared.refusal.Refusal.TheVariants.{NotFound, MethodNotAllowed, LengthRequired, BadRequest, TooLarge, TokenNotFound}
 use Rattle.sync_server.specs.Answer.{answer_of}
+use Rattle.sync_server.specs.Heads.{path_of, values_under, length_in, judge_head}
 
--- what is answered
+-- ---- what is answered
+
 pub record AnswersTell : Type 0 where
   -- those that the group had, with a timestamp whose text is greater than the one asked for
   pub exactly : (ms : List Message) (q : SyncRequest) (m : Message) → Contains (answer_of ms q).messages m ↔ (Contains ms m × (is_gt (slice_cmp nat_cmp (stamp_text m.stamp) q.since) ≡ true))
@@ -25,3 +31,41 @@ pub record AnswersTell : Type 0 where
   pub trie : (ms : List Message) (q : SyncRequest) (t : Trie) → IsTrieOf (pairs_of (join ms q.messages)) t → (answer_of ms q).merkle ≡ trie_text (held t)
   -- so a request without messages that follows is told the same text
   pub trie_after : (ms : List Message) (q r : SyncRequest) → r.messages ≡ [] → (answer_of (join ms q.messages) r).merkle ≡ (answer_of ms q).merkle
+
+-- ---- what a head decides
+
+-- the values of the fields of a head that have this name
+abbrev pub values_in : List ℕ → RequestHead → List (List ℕ)
+values_in name h = values_under name (map name_and_value h.fields)
+
+-- a request to the path of a sync, with the method of a sync
+pub record IsSync (h : RequestHead) : Type 0 where
+  pub path : path_of h.target ≡ codes "/sync/sync"
+  pub method : h.method ≡ codes "POST"
+
+-- nothing tells how long the body is, or it comes in pieces
+abbrev pub LacksLength : RequestHead → Type 0
+LacksLength h = (values_in (codes "transfer-encoding") h ≢ []) ⊎ (values_in (codes "content-length") h ≡ [])
+
+-- the length is told, by each field of its name this one
+pub record TellsLength (h : RequestHead) (n : ℕ) : Type 0 where
+  pub plain : values_in (codes "transfer-encoding") h ≡ []
+  pub some : values_in (codes "content-length") h ≢ []
+  pub each : AllByRecursion (λ text. length_in text ≡ Some n) (values_in (codes "content-length") h)
+
+-- the first field of its name has the token as its value, all of it
+abbrev pub HasToken : List ℕ → RequestHead → Type 0
+HasToken token h = (others : List (List ℕ)) × (values_in (codes "x-actual-token") h ≡ token ∷ others)
+
+-- the first row that holds of a head; where none does, a body is taken
+pub data IsJudged (token : List ℕ) (h : RequestHead) (r : Result ℕ Refusal) : Type 0 where
+  other_path : path_of h.target ≢ codes "/sync/sync" → r ≡ Err NotFound → IsJudged token h r
+  other_method : path_of h.target ≡ codes "/sync/sync" → h.method ≢ codes "POST" → r ≡ Err MethodNotAllowed → IsJudged token h r
+  no_length : IsSync h → LacksLength h → r ≡ Err LengthRequired → IsJudged token h r
+  bad_length : IsSync h → (LacksLength h → ⊥) → ((n : ℕ) → TellsLength h n → ⊥) → r ≡ Err BadRequest → IsJudged token h r
+  too_long : (n : ℕ) → IsSync h → TellsLength h n → 67108864 < n → r ≡ Err TooLarge → IsJudged token h r
+  other_token : (n : ℕ) → IsSync h → TellsLength h n → n ≤ 67108864 → (HasToken token h → ⊥) → r ≡ Err TokenNotFound → IsJudged token h r
+  takes : (n : ℕ) → IsSync h → TellsLength h n → n ≤ 67108864 → HasToken token h → r ≡ Ok n → IsJudged token h r
+
+abbrev pub HeadsAreJudged : Type 0
+HeadsAreJudged = (token : List ℕ) (h : RequestHead) (r : Result ℕ Refusal) → (judge_head token h ≡ r) ↔ IsJudged token h r
