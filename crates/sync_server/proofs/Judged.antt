@@ -1,13 +1,13 @@
 -- What a head decides, by the first row that holds.
-use Rattle.std.proofs.Common.{◌≡◌, ◌≢◌, ◌⊎◌, ◌∙◌, ◌<◌, ◌≤◌, ◌==◌, ◌&&◌, ◌||◌, ℕ, List, [], ◌∷◌, map, Bool, true, false, cond, Option, Some, None, Result, Ok, Err, refl, sym, ap, subst, codes, inl, inr, arith, nat_lt}
+use Rattle.std.proofs.Common.{◌≡◌, ◌≢◌, ◌∙◌, ◌<◌, ◌≤◌, ◌==◌, ◌&&◌, ◌||◌, ℕ, List, [], ◌∷◌, map, Bool, true, false, cond, Option, Some, None, Result, Ok, Err, refl, sym, ap, subst, codes, inl, inr, arith, nat_lt}
 use Rattle.std.proofs.lemmas.Slice.Eq.{bytes_eq-Decides}
-use Rattle.std.specs.List.{AllByRecursion, list_all, list_any, filter_map, cons_option}
+use Rattle.std.specs.List.{AllByRecursion, list_all, list_any, cons_option}
 use Rattle.std.specs.Str.{bytes_eq}
 use Rattle.httparse.specs.Grammar.{RequestHead}
 use Rattle.httparse.specs.Spans.{name_and_value}
 use Rattle.sync_server.specs.declared.refusal.Refusal.{Refusal}
 use Rattle.sync_server.specs.declared.refusal.Refusal.TheVariants.{NotFound, MethodNotAllowed, LengthRequired, BadRequest, TooLarge, TokenNotFound}
-use Rattle.sync_server.specs.Heads.{Pair, has_name, value_under, values_under, length_in, is_number, tells, told_by_all, length_told, not_too_long, body_length, is_token, path_of, with_token, judged, judge_head}
+use Rattle.sync_server.specs.Heads.{Pair, has_name, values_under, length_in, is_number, tells, told_by_all, length_told, not_too_long, body_length, is_token, path_of, with_token, judge_head}
 use Rattle.sync_server.specs.Laws.{values_in, IsSync, LacksLength, TellsLength, HasToken, IsJudged, other_path, other_method, no_length, bad_length, too_long, other_token, takes}
 
 true_is : {P : Type 0} → true ≡ false → P

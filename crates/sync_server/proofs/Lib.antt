@@ -1,4 +1,5 @@
 pub mod Answers
+mod Decided
 mod Elsewhere
 mod Faults
 mod Fronts

@@ -1,22 +1,30 @@
 -- What the laws say.
-use Rattle.std.specs.Prelude.{◌≡◌, ◌≢◌, ◌↔◌, ◌⊎◌, ◌<◌, ◌≤◌, ℕ, List, [], ◌∷◌, ◌++◌, take, map, Option, Some, None, Result, Ok, Err, codes, true}
+use Rattle.std.specs.Prelude.{◌≡◌, ◌≢◌, ◌↔◌, ◌⊎◌, ◌<◌, ◌≤◌, ℕ, List, [], ◌∷◌, ◌++◌, length, take, map, Some, None, Result, Ok, Err, codes, true}
 use Rattle.std.specs.List.{Contains, AllByRecursion}
 use Rattle.std.specs.Ordering.{is_gt, nat_cmp}
 use Rattle.std.specs.Cmp.Lexicographic.{slice_cmp}
 use Rattle.httparse.specs.Grammar.{RequestHead}
 use Rattle.httparse.specs.Spans.{name_and_value}
+use Rattle.budget_ports.specs.Contents.{Contents, Text, records_after}
 use Rattle.hybrid_clock.specs.Stamp.{stamp_text}
 use Rattle.field_merge.specs.declared.message.Message.{Message}
+use Rattle.field_merge.specs.Messages.{AreMessages}
 use Rattle.field_merge.specs.Log.{IsRising, at_stamp, join}
 use Rattle.minute_trie.specs.declared.trie.Trie.{Trie}
 use Rattle.minute_trie.specs.Trie.{held, IsTrieOf}
 use Rattle.minute_trie.specs.Json.{trie_text}
 use Rattle.kept_messages.specs.Pairs.{pairs_of}
+use Rattle.kept_messages.specs.Records.{kept_set}
 use Rattle.sync_wire.specs.declared.request.SyncRequest.{SyncRequest}
+use Rattle.sync_wire.specs.Canon.{response_bytes}
 use Rattle.sync_server.specs.declared.refusal.Refusal.{Refusal}
 use Rattle.sync_server.specs.declared.refusal.Refusal.TheVariants.{NotFound, MethodNotAllowed, LengthRequired, BadRequest, TooLarge, TokenNotFound}
+use Rattle.sync_server.specs.declared.served.Served.TheVariants as served
 use Rattle.sync_server.specs.Answer.{answer_of}
-use Rattle.sync_server.specs.Heads.{path_of, values_under, length_in, judge_head}
+use Rattle.sync_server.specs.Heads.{path_of, values_under, length_in, judge_head, HasHead}
+use Rattle.sync_server.specs.Outside.{HasFound}
+use Rattle.sync_server.specs.Replies.{accepted_bytes}
+use Rattle.sync_server.specs.Serving.{found_in, Verdict, Accepts, Refuses, Decides, Visit, IsServed, kept_after}
 
 -- ---- what is answered
 
@@ -69,3 +77,34 @@ pub data IsJudged (token : List ℕ) (h : RequestHead) (r : Result ℕ Refusal) 
 
 abbrev pub HeadsAreJudged : Type 0
 HeadsAreJudged = (token : List ℕ) (h : RequestHead) (r : Result ℕ Refusal) → (judge_head token h ≡ r) ↔ IsJudged token h r
+
+-- ---- what a connection decides
+
+-- over these contents one verdict is decided, and no other
+abbrev pub HasOneVerdict : Text → Contents → List ℕ → Type 0
+HasOneVerdict token k came = (v : Verdict) × ((w : Verdict) → Decides token (HasFound k) came w ↔ (w ≡ v))
+
+pub record ConnectionsAreDecided : Type 0 where
+  -- bytes have one head in front at most
+  pub one_head : (bytes : List ℕ) (head other : RequestHead) (rest left : List ℕ) → HasHead bytes head rest → HasHead bytes other left → (head ≡ other) × (rest ≡ left)
+  -- where it is whole within 65,536 bytes, there is one verdict
+  pub one_verdict : (token : Text) (k : Contents) (came : List ℕ) (head : RequestHead) (more : List ℕ) → HasHead (take 65536 came) head more → HasOneVerdict token k came
+  -- where it is refused, this is the verdict, whatever follows and whatever the keeper has
+  pub by_head : (token : Text) (k : Contents) (front back : List ℕ) (head : RequestHead) (rest : List ℕ) (refusal : Refusal) (v : Verdict) → length front ≤ 65536 → HasHead front head rest
+      → judge_head token head ≡ Err refusal → Decides token (HasFound k) (front ++ back) v ↔ (v ≡ Refuses refusal)
+
+-- ---- what is kept
+
+pub record AcceptedAreKept : Type 0 where
+  -- nothing changes unless a request is accepted
+  pub alone : (v : Verdict) (k : Contents) → ((ms : List Message) (q : SyncRequest) → v ≢ Accepts ms q) → kept_after v k ≡ k
+  -- then the set of its group is joined with its messages
+  pub joined : (k : Contents) (q : SyncRequest) (ms : List Message) → AreMessages q.messages → (found_in k q).set ≡ Ok ms
+      → kept_set (records_after (kept_after (Accepts ms q) k) q.group []) ≡ Ok (join ms q.messages)
+  -- each other group has the records that it had
+  pub others : (k : Contents) (q : SyncRequest) (ms : List Message) (group : Text) → group ≢ q.group → records_after (kept_after (Accepts ms q) k) group [] ≡ records_after k group []
+  -- and each file the group that it had
+  pub texts : (k : Contents) (q : SyncRequest) (ms : List Message) → (kept_after (Accepts ms q) k).texts ≡ k.texts
+  -- the status 200 is replied to a request that was accepted alone, with the answer to it
+  pub answered : (token : Text) (k : Contents) (visit : Visit) → IsServed token (HasFound k) visit (served.Answered 200)
+      → (ms : List Message) × (q : SyncRequest) × (visit.verdict ≡ Accepts ms q) × Decides token (HasFound k) visit.came (Accepts ms q) × (visit.wrote ≡ accepted_bytes (response_bytes (answer_of ms q)))
