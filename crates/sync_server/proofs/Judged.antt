@@ -16,13 +16,13 @@ true_is e = absurd (the_same e)
     the_same : true ≡ false → ⊥
     the_same e = cc
 
-same_bytes : (xs ys : List ℕ) → bytes_eq xs ys ≡ true → xs ≡ ys
+pub same_bytes : (xs ys : List ℕ) → bytes_eq xs ys ≡ true → xs ≡ ys
 same_bytes xs ys e = (bytes_eq-Decides xs ys).0 e
 
-other_bytes : (xs ys : List ℕ) → bytes_eq xs ys ≡ false → xs ≢ ys
+pub other_bytes : (xs ys : List ℕ) → bytes_eq xs ys ≡ false → xs ≢ ys
 other_bytes xs ys e s = true_is (sym ((bytes_eq-Decides xs ys).1 s) ∙ e)
 
-no_bytes : (xs ys : List ℕ) → xs ≢ ys → bytes_eq xs ys ≡ false
+pub no_bytes : (xs ys : List ℕ) → xs ≢ ys → bytes_eq xs ys ≡ false
 no_bytes xs ys n = elim (bytes_eq xs ys) as (λ b. bytes_eq xs ys ≡ b → b ≡ false) [ true ↦ λ e. absurd (n (same_bytes xs ys e)) | false ↦ λ e. refl ] refl
 
 -- ---- whether there is a field of a name

@@ -9,5 +9,6 @@ mod Requests
 mod Sets
 mod Tens
 mod Texts
+mod Verdicts
 mod Visits
 mod Pieces

@@ -1,5 +1,5 @@
 -- What the laws say.
-use Rattle.std.specs.Prelude.{◌≡◌, ◌≢◌, ◌↔◌, ◌⊎◌, ◌<◌, ◌≤◌, ℕ, List, [], ◌∷◌, ◌++◌, length, take, map, Some, None, Result, Ok, Err, codes, true}
+use Rattle.std.specs.Prelude.{◌≡◌, ◌≢◌, ◌↔◌, ◌⊎◌, ◌<◌, ◌≤◌, ℕ, List, [], ◌∷◌, ◌++◌, length, take, map, Some, None, Result, Ok, Err, codes, true, false}
 use Rattle.std.specs.List.{Contains, AllByRecursion}
 use Rattle.std.specs.Ordering.{is_gt, nat_cmp}
 use Rattle.std.specs.Cmp.Lexicographic.{slice_cmp}
@@ -18,13 +18,13 @@ use Rattle.kept_messages.specs.Records.{kept_set}
 use Rattle.sync_wire.specs.declared.request.SyncRequest.{SyncRequest}
 use Rattle.sync_wire.specs.Canon.{response_bytes}
 use Rattle.sync_server.specs.declared.refusal.Refusal.{Refusal}
-use Rattle.sync_server.specs.declared.refusal.Refusal.TheVariants.{NotFound, MethodNotAllowed, LengthRequired, BadRequest, TooLarge, TokenNotFound}
+use Rattle.sync_server.specs.declared.refusal.Refusal.TheVariants.{NotFound, MethodNotAllowed, LengthRequired, BadRequest, TooLarge, TokenNotFound, EncryptedMessage, SinceRequired, FileNotFound, FileHasReset, BadRecord}
 use Rattle.sync_server.specs.declared.served.Served.TheVariants as served
 use Rattle.sync_server.specs.Answer.{answer_of}
 use Rattle.sync_server.specs.Heads.{path_of, values_under, length_in, judge_head, HasHead}
 use Rattle.sync_server.specs.Outside.{HasFound}
 use Rattle.sync_server.specs.Replies.{accepted_bytes}
-use Rattle.sync_server.specs.Serving.{found_in, Verdict, Accepts, Refuses, Decides, Visit, IsServed, kept_after}
+use Rattle.sync_server.specs.Serving.{Found, found_in, judge_request, Verdict, Accepts, Refuses, Decides, Visit, IsServed, kept_after}
 
 -- ---- what is answered
 
@@ -77,6 +77,24 @@ pub data IsJudged (token : List ℕ) (h : RequestHead) (r : Result ℕ Refusal) 
 
 abbrev pub HeadsAreJudged : Type 0
 HeadsAreJudged = (token : List ℕ) (h : RequestHead) (r : Result ℕ Refusal) → (judge_head token h ≡ r) ↔ IsJudged token h r
+
+-- ---- what a request decides
+
+-- a request with a timestamp to ask from, none of whose envelopes is encrypted
+abbrev pub IsFair : SyncRequest → Type 0
+IsFair q = (q.encrypted ≡ false) × (q.since ≢ [])
+
+-- the first row that holds of a request and of what the keeper has for it; where none does, it is accepted
+pub data IsDecided (q : SyncRequest) (found : Found) (v : Verdict) : Type 0 where
+  encrypted : q.encrypted ≡ true → v ≡ Refuses EncryptedMessage → IsDecided q found v
+  no_since : q.encrypted ≡ false → q.since ≡ [] → v ≡ Refuses SinceRequired → IsDecided q found v
+  no_file : IsFair q → found.group ≡ None → v ≡ Refuses FileNotFound → IsDecided q found v
+  other_group : (group : Text) → IsFair q → found.group ≡ Some group → group ≢ q.group → v ≡ Refuses FileHasReset → IsDecided q found v
+  bad_record : (index : ℕ) → IsFair q → found.group ≡ Some q.group → found.set ≡ Err index → v ≡ Refuses BadRecord → IsDecided q found v
+  accepted : (ms : List Message) → IsFair q → found.group ≡ Some q.group → found.set ≡ Ok ms → v ≡ Accepts ms q → IsDecided q found v
+
+abbrev pub RequestsAreJudged : Type 0
+RequestsAreJudged = (q : SyncRequest) (found : Found) (v : Verdict) → (judge_request q found ≡ v) ↔ IsDecided q found v
 
 -- ---- what a connection decides
 
