@@ -1,6 +1,5 @@
 -- Faults that are free.
-use Rattle.std.proofs.Common.{◌≡◌, ◌≢◌, ℕ, List, Result, Ok, Err, refl, inl, inr, sym, subst}
-use Rattle.std.specs.Result.{IsErrAnd}
+use Rattle.std.proofs.Common.{◌≡◌, ◌≢◌, ℕ, List, refl, inl, inr, sym, subst}
 use Rattle.budget_ports.specs.declared.keeper.PortFault.{PortFault}
 use Rattle.budget_ports.specs.declared.keeper.PortFault.TheVariants as faults
 use Rattle.sync_server.specs.declared.refusal.Refusal.{Refusal}

@@ -1,9 +1,9 @@
 -- The bytes that were taken, beside all bytes of the connection.
-use Rattle.std.proofs.Common.{◌≡◌, ℕ, zero, suc, ◌-◌, ◌<◌, ◌≤◌, List, [], ◌∷◌, ◌++◌, length, take, drop, map, Option, Some, None, refl, sym, ap, subst, ◌∙◌, append_assoc, length-append, length-take, length-drop, arith, min, inl, inr, ◌+◌, ◌⊎◌, ap₂, slice_range}
-use Rattle.std.proofs.lemmas.List.{append-nil, take_at, drop_at, length-map, take-append-le, drop-append-le}
+use Rattle.std.proofs.Common.{◌≡◌, ℕ, zero, suc, ◌-◌, ◌<◌, ◌≤◌, List, [], ◌∷◌, ◌++◌, length, take, drop, Option, Some, None, refl, sym, ap, subst, ◌∙◌, append_assoc, length-append, length-take, length-drop, arith, min, inl, inr, ◌+◌, ◌⊎◌, ap₂, slice_range}
+use Rattle.std.proofs.lemmas.List.{append-nil, take_at, length-map, take-append-le, drop-append-le}
 use Rattle.std.specs.Io.KnownBytes.{Consumes, IsAtEnd}
-use Rattle.httparse.specs.Grammar.{RequestHead, ReadsRequest, HasNoRequest, Field, print_request}
-use Rattle.httparse.specs.Spans.{RequestOverflows, AreFieldsAt, header_bytes, name_and_value}
+use Rattle.httparse.specs.Grammar.{RequestHead, ReadsRequest, HasNoRequest, Field}
+use Rattle.httparse.specs.Spans.{AreFieldsAt, header_bytes, name_and_value}
 use Rattle.httparse.specs.declared.spans.HeaderSpan.{HeaderSpan}
 use Rattle.httparse.proofs.GrammarLemmas.{ReadsRequest-append}
 use Rattle.budget_ports.specs.Contents.{Contents}
@@ -21,7 +21,7 @@ use Rattle.sync_server.specs.Outside.{HasFound, IsAll}
 pub few_fields : (bytes : List ℕ) (headers : List HeaderSpan) (count : ℕ) (fields : List Field) → AreFieldsAt bytes headers count fields → length headers ≤ 64 → length fields ≤ 64
 few_fields bytes headers count fields same room =
     let long : length fields ≡ min count (length headers) =
-      sym (length-map fields name_and_value) ∙ sym (ap length same) ∙ length-map (take count headers) (header_bytes bytes) ∙ length-take count headers in
+    sym (length-map fields name_and_value) ∙ sym (ap length same) ∙ length-map (take count headers) (header_bytes bytes) ∙ length-take count headers in
     omega (arith, long)
 
 take_past : (n : ℕ) (taken rest : List ℕ) → length taken ≤ n → take n (taken ++ rest) ≡ taken ++ take (n - length taken) rest
@@ -139,21 +139,23 @@ module _ (token : List ℕ) where
     pub asks_at : (back body : List ℕ) (q : SyncRequest) → start + count ≤ length (taken ++ more) → body ≡ take count (drop start (taken ++ more)) → IsRequest body q → IsPlain q
         → (asks : AsksKeeper token ((taken ++ more) ++ back)) × (asks.request ≡ q)
     asks_at back body q enough e b p =
-        let same : taken ++ (more ++ back) ≡ (taken ++ more) ++ back = sym (append_assoc taken more back) in
-        (record {
-          head = takes.0;
-          more = drop start taken ++ take (65536 - length taken) (more ++ back);
-          rest = rest ++ back;
-          in_front = subst (λ (x : List ℕ). HasHead (take 65536 x) takes.0 (drop start taken ++ take (65536 - length taken) (more ++ back))) same (in_front taken (more ++ back) takes.0 (drop start taken) few takes.1);
-          has = head_grows (taken ++ more) takes.0 rest back (head_grows taken takes.0 (drop start taken) more takes.1);
-          n = count;
-          takes = takes.3;
-          whole = omega (arith, long, enough, length-append rest back);
-          request = q;
-          means = subst (λ (x : List ℕ). IsRequest x q) (sym (body_is back body enough e)) b;
-          plain = p.plain;
-          since = p.since;
-        }, refl)
+        let same : taken ++ (more ++ back) ≡ (taken ++ more) ++ back = sym (append_assoc taken more back) in (
+          record {
+            head = takes.0;
+            more = drop start taken ++ take (65536 - length taken) (more ++ back);
+            rest = rest ++ back;
+            in_front = subst (λ (x : List ℕ). HasHead (take 65536 x) takes.0 (drop start taken ++ take (65536 - length taken) (more ++ back))) same (in_front taken (more ++ back) takes.0 (drop start taken) few takes.1);
+            has = head_grows (taken ++ more) takes.0 rest back (head_grows taken takes.0 (drop start taken) more takes.1);
+            n = count;
+            takes = takes.3;
+            whole = omega (arith, long, enough, length-append rest back);
+            request = q;
+            means = subst (λ (x : List ℕ). IsRequest x q) (sym (body_is back body enough e)) b;
+            plain = p.plain;
+            since = p.since;
+          },
+          refl,
+        )
 
 pub body_range : (xs ys : List ℕ) (start count : ℕ) → xs ≡ ys → slice_range xs start (start + count) ≡ take count (drop start ys)
 body_range xs ys start count e =

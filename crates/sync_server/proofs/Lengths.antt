@@ -1,9 +1,9 @@
 -- The length that all fields of its name tell.
 use Rattle.std.proofs.Common.{◌≡◌, ℕ, List, [], ◌∷◌, Bool, true, false, cond, ◌==◌, ◌&&◌, Option, Some, None, Result, Ok, Err, refl, codes}
-use Rattle.std.specs.List.{list_all, filter_map, cons_option}
+use Rattle.std.specs.List.{list_all, cons_option}
 use Rattle.sync_server.specs.declared.refusal.Refusal.{Refusal}
 use Rattle.sync_server.specs.declared.refusal.Refusal.TheVariants.{BadRequest}
-use Rattle.sync_server.specs.Heads.{Pair, has_name, length_in, is_number, tells, value_under, values_under, told_by_all, length_told}
+use Rattle.sync_server.specs.Heads.{Pair, has_name, length_in, is_number, tells, values_under, told_by_all, length_told}
 use Rattle.sync_server.specs.Headers.{agree, agree_at, agreed, ◌>>=◌}
 
 abbrev name : List ℕ
@@ -28,7 +28,7 @@ told_again : (n : ℕ) (fs : List Pair) → agreed (Some n) fs ≡ all_tell n (l
 told_again n [] = refl
 told_again n (f ∷ fs) =
     elim (has_name name f) as (λ b. ((cond b (agree (Some n) (length_in f.1)) (Ok (Some n))) >>= λ now. agreed now fs)
-        ≡ all_tell n (list_all (tells n) (cons_option (cond b (Some f.1) None) (values_under name fs)))) [
+    ≡ all_tell n (list_all (tells n) (cons_option (cond b (Some f.1) None) (values_under name fs)))) [
       | true ↦ one_more n (length_in f.1) fs (values_under name fs) (told_again n fs)
       | false ↦ told_again n fs
     ]
@@ -41,7 +41,7 @@ pub all_agree : (fs : List Pair) → agreed None fs ≡ length_told (values_unde
 all_agree [] = refl
 all_agree (f ∷ fs) =
     elim (has_name name f) as (λ b. ((cond b (agree None (length_in f.1)) (Ok None)) >>= λ now. agreed now fs)
-        ≡ length_told (cons_option (cond b (Some f.1) None) (values_under name fs))) [
+    ≡ length_told (cons_option (cond b (Some f.1) None) (values_under name fs))) [
       | true ↦ first_told (length_in f.1) fs
       | false ↦ all_agree fs
     ]

@@ -1,26 +1,25 @@
 -- What a request does to what is kept, step by step.
-use Rattle.std.proofs.Common.{◌≡◌, ◌≢◌, ◌⊎◌, ◌∙◌, ℕ, List, [], Bool, true, false, cond, Option, None, Some, Result, Ok, Err, inl, inr, refl, sym, ap, ap₂, subst, map}
+use Rattle.std.proofs.Common.{◌≡◌, ◌≢◌, ◌⊎◌, ◌∙◌, ℕ, List, [], true, Option, None, Some, Result, Ok, Err, inl, inr, refl, sym, ap, ap₂, subst}
 use Rattle.std.specs.FinMap as finite
 use Rattle.std.specs.Str.{bytes_eq}
 use Rattle.std.proofs.lemmas.Slice.Eq.{bytes_eq-Decides}
 use Rattle.budget_ports.specs.Contents.{Contents, Text, records_after, appended}
-use Rattle.budget_ports.specs.Keeper.{LeavesNoMore, IsKnown, IsAlone, Commits}
+use Rattle.budget_ports.specs.Keeper.{IsKnown, IsAlone, Commits}
 use Rattle.budget_ports.specs.declared.keeper.Record.{Record}
 use Rattle.field_merge.specs.declared.message.Message.{Message}
 use Rattle.field_merge.specs.Messages.{AreMessages}
 use Rattle.field_merge.specs.Log.{join}
-use Rattle.kept_messages.specs.Records.{record_of, kept_set}
-use Rattle.kept_messages.specs.News.{new_in}
+use Rattle.kept_messages.specs.Records.{kept_set}
 use Rattle.kept_messages.specs.Holding.{Holds}
 use Rattle.kept_messages.proofs.KeptSets.{batches_kept}
 use Rattle.sync_wire.specs.declared.request.SyncRequest.{SyncRequest}
 use Rattle.sync_server.specs.declared.refusal.Refusal.{Refusal}
-use Rattle.sync_server.specs.declared.refusal.Refusal.TheVariants.{BadRecord, FileNotFound, FileHasReset}
+use Rattle.sync_server.specs.declared.refusal.Refusal.TheVariants.{BadRecord}
 use Rattle.sync_server.specs.declared.state.ServerState.{ServerState}
-use Rattle.sync_server.specs.Serving.{Found, found_in, file_name, Verdict, Accepts, Refuses, judge_found, judge_set, kept_after, batch_of, reply_of}
+use Rattle.sync_server.specs.Serving.{Found, found_in, file_name, Accepts, Refuses, judge_found, judge_set, kept_after, batch_of, reply_of}
 use Rattle.sync_server.specs.State.{set_of, Agrees}
-use Rattle.sync_server.specs.Keeping.{OnlyReads, IsFree, is_fault, Puts, Shrinks, HasKept, HasRefused}
-use Rattle.sync_server.proofs.Sets.{same_or, by_group}
+use Rattle.sync_server.specs.Keeping.{OnlyReads, IsFree, Puts, Shrinks, HasKept}
+use Rattle.sync_server.proofs.Sets.{same_or}
 use Rattle.sync_server.proofs.Elsewhere.{elsewhere}
 
 itself : (b : List ℕ) → bytes_eq b b ≡ true
@@ -85,12 +84,15 @@ module _ (q : SyncRequest) (r : Refusal) (s0 : ServerState) (t0 t1 : Type 0) (k0
   -- it is refused for its group
   pub refused_first : ((set : Result (List Message) ℕ) → judge_found q group set ≡ Refuses r) ⊎ IsFree r → (found : Found) × HasKept q found s0 s0 t0 t1 k0 k1 l0 l1 (Err r)
   unfolding set0
-  refused_first j = (found_with group set0, record {
-    told = reads.told;
-    finds = λ t. finds k0 q group set0 (fg t) refl;
-    by_result = record { why = by j; token = refl; same = reads.same };
-    stops = λ k h. inl (reads.stops k h);
-  })
+  refused_first j = (
+    found_with group set0,
+    record {
+      told = reads.told;
+      finds = λ t. finds k0 q group set0 (fg t) refl;
+      by_result = record { why = by j; token = refl; same = reads.same };
+      stops = λ k h. inl (reads.stops k h);
+    },
+  )
     where
       by : ((set : Result (List Message) ℕ) → judge_found q group set ≡ Refuses r) ⊎ IsFree r → (judge_found q group set0 ≡ Refuses r) ⊎ IsFree r
       by (inl h) = inl (h set0)
@@ -107,12 +109,15 @@ module _ (q : SyncRequest) (r : Refusal) (s0 : ServerState) (t0 t1 : Type 0) (k0
         finds k0 q (Some q.group) set (sym g ∙ fg before) (fs t ∙ ap (λ (k : Contents). kept_set (records_after k q.group [])) (reads.same before))
 
     pub refused_next : (s2 : ServerState) → (((index : ℕ) × (set ≡ Err index) × (r ≡ BadRecord)) ⊎ IsFree r) × Shrinks s0 s2 → (found : Found) × HasKept q found s0 s2 t0 t2 k0 k2 l0 l2 (Err r)
-    refused_next s2 j = (found_with (Some q.group) set, record {
-      told = both.told;
-      finds = found_here;
-      by_result = record { why = by j.0; token = j.1.0; same = both.same };
-      stops = λ k h. inl (both.stops k h);
-    })
+    refused_next s2 j = (
+      found_with (Some q.group) set,
+      record {
+        told = both.told;
+        finds = found_here;
+        by_result = record { why = by j.0; token = j.1.0; same = both.same };
+        stops = λ k h. inl (both.stops k h);
+      },
+    )
       where
         by : ((index : ℕ) × (set ≡ Err index) × (r ≡ BadRecord)) ⊎ IsFree r → (judge_found q (Some q.group) set ≡ Refuses r) ⊎ IsFree r
         by (inl h) = inl (set_bad q set h.0 h.1 ∙ ap Refuses (sym h.2))
@@ -135,25 +140,34 @@ module _ (q : SyncRequest) (r : Refusal) (s0 : ServerState) (t0 t1 : Type 0) (k0
           by (inr x) = inr (both.told x.0, ms, ap (λ (f : Found). judge_found q f.group f.set) (sym (found_here x.0)) ∙ set_is q set ms is, x.1 ∙ added x.0)
 
       pub refused_last : IsFree r → (t3 → k3 ≡ k2) → s3.token ≡ s0.token → (found : Found) × HasKept q found s0 s3 t0 t3 k0 k3 l0 l3 (Err r)
-      refused_last free same token = (found_with (Some q.group) set, record {
-        told = λ t. both.told (told_on t);
-        finds = λ t. found_here (told_on t);
-        by_result = record { why = inr free; token = token; same = λ t. same t ∙ both.same (told_on t) };
-        stops = left_by;
-      })
+      refused_last free same token = (
+        found_with (Some q.group) set,
+        record {
+          told = λ t. both.told (told_on t);
+          finds = λ t. found_here (told_on t);
+          by_result = record { why = inr free; token = token; same = λ t. same t ∙ both.same (told_on t) };
+          stops = left_by;
+        },
+      )
 
       pub accepted_all : (reply : List ℕ) → reply ≡ reply_of (Accepts ms q) → Puts s0 s3 q.group (Some (join ms q.messages)) → (t3 → k3 ≡ appended k2 q.group batch) → IsKnown t3 l3 → (batch ≢ [] → IsAlone t3 k3 l3)
           → (found : Found) × HasKept q found s0 s3 t0 t3 k0 k3 l0 l3 (Ok reply)
-      accepted_all reply er puts keeps known alone = (found_with (Some q.group) set, record {
-        told = λ t. both.told (told_on t);
-        finds = λ t. found_here (told_on t);
-        by_result = (ms, record {
-          judged = set_is q set ms is;
-          reply_is = er;
-          state = puts;
-          keeps = λ t. keeps t ∙ added (told_on t);
-          known = known;
-          alone = λ some. alone (λ none. some (sym same_batch ∙ none));
-        });
-        stops = left_by;
-      })
+      accepted_all reply er puts keeps known alone = (
+        found_with (Some q.group) set,
+        record {
+          told = λ t. both.told (told_on t);
+          finds = λ t. found_here (told_on t);
+          by_result = (
+            ms,
+            record {
+              judged = set_is q set ms is;
+              reply_is = er;
+              state = puts;
+              keeps = λ t. keeps t ∙ added (told_on t);
+              known = known;
+              alone = λ some. alone (λ none. some (sym same_batch ∙ none));
+            },
+          );
+          stops = left_by;
+        },
+      )

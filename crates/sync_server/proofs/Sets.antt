@@ -1,9 +1,9 @@
 -- What the state keeps of groups.
-use Rattle.std.proofs.Common.{◌≡◌, ◌≢◌, ◌⊎◌, ◌∙◌, List, Bool, true, false, Option, None, Some, Ok, inl, inr, refl, sym, ap, subst, Less, Equal, Greater}
-use Rattle.std.specs.BTreeMap.{BTreeMap, UpdatesBy, Updates, is_at, get}
+use Rattle.std.proofs.Common.{◌≡◌, ◌≢◌, ◌⊎◌, ◌∙◌, List, true, false, Option, None, Some, inl, inr, refl, sym, ap, subst, Less, Equal, Greater}
+use Rattle.std.specs.BTreeMap.{BTreeMap, Updates, is_at}
 use Rattle.std.specs.Ordering.{is_eq}
 use Rattle.std.specs.Cmp.{tied_itself}
-use Rattle.budget_ports.specs.Contents.{Contents, Text, text_cmp, records_after}
+use Rattle.budget_ports.specs.Contents.{Contents, Text, text_cmp}
 use Rattle.budget_ports.proofs.Places.{text_total, text_same}
 use Rattle.field_merge.specs.declared.message.Message.{Message}
 use Rattle.std.specs.declared.cmp.Ordering.{Ordering}
@@ -24,18 +24,18 @@ itself k = ap is_eq (tied_itself text_total k)
 
 pub same_or : (k q : Text) → (q ≡ k) ⊎ (q ≢ k)
 same_or k q = elim (is_eq (text_cmp k q)) as (λ b. is_eq (text_cmp k q) ≡ b → (q ≡ k) ⊎ (q ≢ k)) [
-    | true ↦ λ e. inl (sym (text_same k q (equal_is _ e)))
-    | false ↦ λ e. inr (λ s. true_is (sym (itself k) ∙ ap (λ (x : Text). is_eq (text_cmp k x)) (sym s) ∙ e))
-  ] refl
+  | true ↦ λ e. inl (sym (text_same k q (equal_is _ e)))
+  | false ↦ λ e. inr (λ s. true_is (sym (itself k) ∙ ap (λ (x : Text). is_eq (text_cmp k x)) (sym s) ∙ e))
+] refl
   where
     true_is : true ≡ false → ⊥
     true_is e = cc
 
 pub not_at : (k q : Text) → q ≢ k → is_at (text_cmp k) q ≡ false
 not_at k q n = elim (is_eq (text_cmp k q)) as (λ b. is_eq (text_cmp k q) ≡ b → is_eq (text_cmp k q) ≡ false) [
-    | true ↦ λ e. absurd (n (sym (text_same k q (equal_is _ e))))
-    | false ↦ λ e. e
-  ] refl
+  | true ↦ λ e. absurd (n (sym (text_same k q (equal_is _ e))))
+  | false ↦ λ e. e
+] refl
 
 pub by_group : (old new : ServerState) (group : Text) (set : Option (List Message)) → Puts old new group set → (q : Text) (ms : List Message)
     → set_of new q ≡ Some ms → ((q ≡ group) × (set ≡ Some ms)) ⊎ (set_of old q ≡ Some ms)

@@ -31,5 +31,5 @@ pub head_then : (head body : List ℕ) (n : ℕ) → head ≡ head_of n → n �
 head_then head body n e long =
     ap (λ (x : List ℕ). x ++ body) (e ∙ ap head_of long)
     ∙ ap (λ (x : List ℕ). codes "HTTP/1.1 " ++ x)
-        (append_assoc (decimal 200) (codes " OK\r\nContent-Type: application/actual-sync\r\nContent-Length: " ++ (decimal (length body) ++ codes "\r\nConnection: close\r\n\r\n")) body
-        ∙ ap (λ (x : List ℕ). decimal 200 ++ (codes " OK\r\nContent-Type: application/actual-sync\r\nContent-Length: " ++ x)) (append_assoc (decimal (length body)) (codes "\r\nConnection: close\r\n\r\n") body))
+    (append_assoc (decimal 200) (codes " OK\r\nContent-Type: application/actual-sync\r\nContent-Length: " ++ (decimal (length body) ++ codes "\r\nConnection: close\r\n\r\n")) body
+    ∙ ap (λ (x : List ℕ). decimal 200 ++ (codes " OK\r\nContent-Type: application/actual-sync\r\nContent-Length: " ++ x)) (append_assoc (decimal (length body)) (codes "\r\nConnection: close\r\n\r\n") body))

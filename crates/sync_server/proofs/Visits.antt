@@ -1,21 +1,24 @@
 -- What becomes of a connection.
-use Rattle.std.proofs.Common.{◌≡◌, ◌≢◌, ◌⊎◌, ◌∙◌, ◌<◌, ◌==◌, ℕ, suc, List, [], ◌∷◌, length, Bool, true, false, Option, None, Some, Result, Ok, Err, inl, inr, refl, sym, ap, ap₂, subst, take, cond, arith, eqb-true}
+use Rattle.std.proofs.Common.{◌≡◌, ◌⊎◌, ◌∙◌, ◌<◌, ◌==◌, ℕ, List, [], ◌∷◌, ◌++◌, length, Bool, true, false, Option, None, Some, Result, Ok, Err, inl, inr, refl, sym, ap, ap₂, subst, take, cond, arith, eqb-true}
 use Rattle.budget_ports.specs.Contents.{Contents, Text}
+use Rattle.budget_ports.specs.Connections.{Stays, LetsIn, Opens, Begins}
 use Rattle.budget_ports.specs.Faults.{count_after}
 use Rattle.field_merge.specs.declared.message.Message.{Message}
 use Rattle.field_merge.specs.Log.{join}
 use Rattle.sync_wire.specs.declared.request.SyncRequest.{SyncRequest}
 use Rattle.sync_server.specs.declared.refusal.Refusal.{Refusal}
-use Rattle.sync_server.specs.declared.refusal.Refusal.TheVariants.{KeeperFault, NoMemory, FileHasReset}
+use Rattle.sync_server.specs.declared.refusal.Refusal.TheVariants.{NoMemory, FileHasReset}
 use Rattle.sync_server.specs.declared.state.ServerState.{ServerState}
 use Rattle.sync_server.specs.declared.served.Served.{Served}
 use Rattle.sync_server.specs.declared.served.Served.TheVariants as served
-use Rattle.sync_server.specs.Serving.{Found, found_in, Verdict, Accepts, Refuses, Ends, judge_found, judge_set, judge_request, Decides, DecidesRest, DecidesBody, by_head, too_large, no_head, bytes_end, refused, short, whole, no_request, request, AsksKeeper, Means, decided, keeper_fault, no_memory, reply_of, HasStatus, Visit, IsServed, answered, unwritten, kept_after, batch_of}
+use Rattle.sync_server.specs.Serving.{Found, found_in, Verdict, Accepts, Refuses, Ends, judge_found, judge_set, judge_request, Decides, DecidesRest, DecidesBody, by_head, too_large, no_head, bytes_end, refused, short, whole, no_request, request, AsksKeeper, Means, decided, keeper_fault, no_memory, reply_of, HasStatus, Visit, IsServed, answered, ended, unread, unwritten, kept_after, batch_of}
 use Rattle.sync_server.specs.State.{set_of, Remembers}
 use Rattle.std.specs.Str.{bytes_eq}
-use Rattle.sync_server.specs.Heads.{judge_head}
+use Rattle.sync_server.specs.Heads.{judge_head, IsUndecided}
 use Rattle.sync_server.specs.Keeping.{Puts, IsFree, is_fault, HasKept}
-use Rattle.sync_server.specs.Outside.{HasFound, IsAll, IsSent, is_cut, ServesOpen, UsesKeeper}
+use Rattle.sync_server.specs.Outside.{HasFound, HasServed, Gains, IsAll, IsNext, IsSent, is_cut, ServesOpen, UsesKeeper}
+use Rattle.sync_server.specs.Written.{WritesTo}
+use Rattle.sync_server.proofs.Pieces.{stays_to}
 use Rattle.sync_server.specs.Replies.{refusal_bytes, status_of}
 
 some_length : (xs : List ℕ) → 0 < length xs → (length xs == 0) ≡ false
@@ -146,30 +149,157 @@ module _ (token : Text) (tells new_tells : Type 0) (old new : Contents) (left ne
       let ms = k.by_result.0 in
       let h = k.by_result.1 in
       replied token tells new_tells old new left new_left faults new_faults s0 s1 came bytes outs new_outs df ndf (Accepts ms asks.request) false reply 200 result all
-          (decided refl (asks_decide token came (λ q found. new_tells → HasFound old q found) asks found (Accepts ms asks.request) k.finds h.judged)) refl (sym h.reply_is) sent count
-          (remembers s0 s1 ms asks.request h.state) (λ wrote cut. record {
-            told = k.told;
-            keeps = h.keeps;
-            stops = left_by asks k.stops;
-            known = λ ns r e. h.known;
-            alone = λ ns r e some. (let same = accepted_is ms ns asks.request r e in h.alone (λ none. some (sym (ap₂ batch_of same.0 same.1) ∙ none)));
-            count = still;
-          })
+      (decided refl (asks_decide token came (λ q found. new_tells → HasFound old q found) asks found (Accepts ms asks.request) k.finds h.judged)) refl (sym h.reply_is) sent count
+      (remembers s0 s1 ms asks.request h.state) (λ wrote cut. record {
+        told = k.told;
+        keeps = h.keeps;
+        stops = left_by asks k.stops;
+        known = λ ns r e. h.known;
+        alone = λ ns r e some. (let same = accepted_is ms ns asks.request r e in h.alone (λ none. some (sym (ap₂ batch_of same.0 same.1) ∙ none)));
+        count = still;
+      })
 
   pub refused_visit : (asks : AsksKeeper token came) (found : Found) (r : Refusal) → HasKept asks.request found s0 s1 tells new_tells old new left new_left (Err r) → new_faults ≡ count_after (is_fault r) faults
       → IsSent (refusal_bytes r) (status_of r) outs new_outs result → Final
   refused_visit asks found r k rose sent =
       let h = k.by_result in
       replied token tells new_tells old new left new_left faults new_faults s0 s1 came bytes outs new_outs df ndf (Refuses r) (is_fault r) (refusal_bytes r) (status_of r) result all
-          (means_refused token came (λ q found. new_tells → HasFound old q found) asks found r k.finds h.why) refl refl sent count
-          (remembers_token s0 s1 r h.token) (λ wrote cut. record {
-            told = k.told;
-            keeps = h.same;
-            stops = left_by asks k.stops;
-            known = λ ns q e. absurd (no ns q e);
-            alone = λ ns q e. absurd (no ns q e);
-            count = rose;
-          })
+      (means_refused token came (λ q found. new_tells → HasFound old q found) asks found r k.finds h.why) refl refl sent count
+      (remembers_token s0 s1 r h.token) (λ wrote cut. record {
+        told = k.told;
+        keeps = h.same;
+        stops = left_by asks k.stops;
+        known = λ ns q e. absurd (no ns q e);
+        alone = λ ns q e. absurd (no ns q e);
+        count = rose;
+      })
     where
       no : (ns : List Message) (q : SyncRequest) → Refuses r ≡ Accepts ns q → ⊥
       no ns q f = cc
+
+-- ---- nothing is asked of the keeper
+
+remembers_end : (s : ServerState) → Remembers s s Ends
+remembers_end s = record { token = refl; group = λ ns q f. absurd (no ns q f); others = λ ns q g f n. absurd (no ns q f) }
+  where
+    no : (ns : List Message) (q : SyncRequest) → Ends ≡ Accepts ns q → ⊥
+    no ns q f = cc
+
+module _ (token : Text) (tells : Type 0) (old : Contents) (left : Contents → Type 0) (faults : ℕ) (s : ServerState) (came : List ℕ)
+    (bytes : Option (List ℕ)) (outs new_outs : Option (List (List ℕ))) (df ndf : ℕ) (all : IsAll bytes came) where
+  abbrev Alone : Served → Type 0
+  Alone result = (x : Visit) × Remembers s s x.verdict × ServesOpen token x result bytes outs new_outs df ndf tells tells old old left left faults faults
+
+  abbrev Told : SyncRequest → Found → Type 0
+  Told q found = tells → HasFound old q found
+
+  told_of : (v : Verdict) → ((k : Contents) → Decides token (HasFound k) came v) → Decides token Told came v
+  told_of v d = widened token came (HasFound old) Told (λ q f h _. h) v (d old)
+
+  -- what is refused is so whatever the keeper has, or memory ran out
+  pub early_visit : (result : Served) → ndf ≡ count_after (is_cut result) df → (r : Refusal) → ((k : Contents) → Decides token (HasFound k) came (Refuses r)) ⊎ (r ≡ NoMemory)
+      → IsSent (refusal_bytes r) (status_of r) outs new_outs result → Alone result
+  early_visit result count r why sent =
+      replied token tells tells old old left left faults faults s s came bytes outs new_outs df ndf (Refuses r) false (refusal_bytes r) (status_of r) result all (means why) refl refl sent count
+      (remembers_token s s r refl) (untouched token tells tells old old left left faults faults s s came (Refuses r) refl no (λ t. t) (λ t. refl) (λ k h. h) refl)
+    where
+      means : ((k : Contents) → Decides token (HasFound k) came (Refuses r)) ⊎ (r ≡ NoMemory) → Means token Told came false (Refuses r)
+      means (inl d) = decided refl (told_of (Refuses r) d)
+      means (inr e) = no_memory refl (ap Refuses e)
+
+      no : (ns : List Message) (q : SyncRequest) → Refuses r ≡ Accepts ns q → ⊥
+      no ns q f = cc
+
+  ends_no : (ns : List Message) (q : SyncRequest) → Ends ≡ Accepts ns q → ⊥
+  ends_no ns q f = cc
+
+  -- the bytes ended
+  pub ended_visit : ndf ≡ df → ((k : Contents) → Decides token (HasFound k) came Ends) → Stays outs new_outs → Alone served.Cut
+  ended_visit count d stays = (
+    record { came = came; wrote = []; verdict = Ends; keeper_failed = false; door_failed = false; close_failed = false },
+    remembers_end s,
+    record {
+      open_still = refl;
+      came = all;
+      wrote = stays_to outs new_outs stays;
+      count = count;
+      served = ended refl (told_of Ends d) refl refl refl;
+      keeper = untouched token tells tells old old left left faults faults s s came Ends refl ends_no (λ t. t) (λ t. refl) (λ k h. h) refl [] false;
+    },
+  )
+
+  -- a read failed
+  pub unread_visit : ndf ≡ count_after true df → (front back : List ℕ) → came ≡ front ++ back → IsUndecided token front → Stays outs new_outs → Alone served.Cut
+  unread_visit count front back e un stays = (
+    record { came = came; wrote = []; verdict = Ends; keeper_failed = false; door_failed = true; close_failed = false },
+    remembers_end s,
+    record {
+      open_still = refl;
+      came = all;
+      wrote = stays_to outs new_outs stays;
+      count = count;
+      served = unread refl front back e un refl refl refl;
+      keeper = untouched token tells tells old old left left faults faults s s came Ends refl ends_no (λ t. t) (λ t. refl) (λ k h. h) refl [] true;
+    },
+  )
+
+-- ---- the connection is let in before, and closed then
+
+lets_on : (a b c : Option (List (List ℕ))) → LetsIn a b → Stays b c → LetsIn a c
+lets_on None b c l s = tt
+lets_on (Some x) None c l s = absurd l
+lets_on (Some x) (Some y) None l s = absurd s
+lets_on (Some x) (Some y) (Some z) l s = s ∙ l
+
+is_next : (waited : Option (List (List ℕ))) (left : Option (List ℕ)) (came : List ℕ) → Opens waited left → IsAll left came → IsNext waited came
+is_next None left came o a = tt
+is_next (Some w) None came o a = cc
+is_next (Some w) (Some l) came o a = a ∙ cc
+
+some_same : (x y : List (List ℕ)) → Some x ≡ Some y → x ≡ y
+some_same x y e = cc
+
+gains : (a b c d : Option (List (List ℕ))) (wrote : List ℕ) → Begins a b → WritesTo b c wrote → Stays c d → Gains a d wrote
+gains None b c d wrote g w s = tt
+gains (Some x) None c d wrote g w s = absurd g
+gains (Some x) (Some y) c d wrote g w s = by c d (w x [] (ap Some g)) s
+  where
+    by : (c d : Option (List (List ℕ))) → c ≡ Some (x ++ wrote ∷ []) → Stays c d → Gains (Some x) d wrote
+    by None d e t = cc
+    by (Some z) None e t = absurd t
+    by (Some z) (Some u) e t = t ∙ some_same z (x ++ wrote ∷ []) e
+
+abbrev closed : Visit → Bool → Visit
+closed v failed = record { came = v.came; wrote = v.wrote; verdict = v.verdict; keeper_failed = v.keeper_failed; door_failed = v.door_failed; close_failed = failed }
+
+closed_served : (token : Text) (Finds : SyncRequest → Found → Type 0) (v : Visit) (failed : Bool) (result : Served) → IsServed token Finds v result → IsServed token Finds (closed v failed) result
+closed_served token Finds v failed result (answered st m h w d) = answered st m h w d
+closed_served token Finds v failed result (ended e c w k d) = ended e c w k d
+closed_served token Finds v failed result (unread e f b c u w k d) = unread e f b c u w k d
+closed_served token Finds v failed result (unwritten m r e n d) = unwritten m r e n d
+
+module _ (token : Text) (tells new_tells : Type 0) (old new : Contents) (left new_left : Contents → Type 0) (faults new_faults : ℕ) (s0 s1 : ServerState) (result : Served) where
+  closed_keeper : (v : Visit) (failed : Bool) → UsesKeeper token tells new_tells old new left new_left faults new_faults v
+      → UsesKeeper token tells new_tells old new left new_left faults new_faults (closed v failed)
+  closed_keeper v failed u = record { told = u.told; keeps = u.keeps; stops = u.stops; known = u.known; alone = u.alone; count = u.count }
+
+  pub closed_visit : (bytes : Option (List ℕ)) (w0 w1 w2 w3 o0 o1 o2 o3 : Option (List (List ℕ))) (f0 f1 f2 f3 : ℕ) (failed : Bool)
+      → LetsIn w0 w1 → Stays w1 w2 → Stays w2 w3 → Opens w0 bytes → Begins o0 o1 → Stays o2 o3 → f1 ≡ f0 → f3 ≡ count_after failed f2
+      → ((x : Visit) × Remembers s0 s1 x.verdict × ServesOpen token x result bytes o1 o2 f1 f2 tells new_tells old new left new_left faults new_faults)
+      → (x : Visit) × Remembers s0 s1 x.verdict × HasServed token x result w0 w3 o0 o3 f0 f3 tells new_tells old new left new_left faults new_faults
+  closed_visit bytes w0 w1 w2 w3 o0 o1 o2 o3 f0 f1 f2 f3 failed lets st12 st23 opens begins st c1 c3 inner =
+      let v = inner.0 in
+      let h = inner.2 in (
+        closed v failed,
+        inner.1,
+        record {
+          served = closed_served token (λ q found. new_tells → HasFound old q found) v failed result h.served;
+          door = record {
+            lets_in = lets_on w0 w2 w3 (lets_on w0 w1 w2 lets st12) st23;
+            came = is_next w0 bytes v.came opens h.came;
+            wrote = gains o0 o1 o2 o3 v.wrote begins h.wrote st;
+            count = c3 ∙ ap (count_after failed) (h.count ∙ ap (count_after v.door_failed) c1);
+          };
+          keeper = closed_keeper v failed h.keeper;
+        },
+      )

@@ -1,10 +1,10 @@
 -- What the head of a request decides.
-use Rattle.std.specs.Prelude.{◌≡◌, ℕ, ◌<◌, ◌≤◌, List, [], ◌∷◌, ◌++◌, length, take, drop, map, filter, Bool, false, ◌==◌, ◌&&◌, nat_lt, Option, Some, None, Result, Ok, Err, codes, position, if◌then◌else◌}
+use Rattle.std.specs.Prelude.{◌≡◌, ℕ, ◌<◌, ◌≤◌, List, [], ◌∷◌, length, take, map, Bool, false, ◌==◌, ◌&&◌, nat_lt, Option, Some, None, Result, Ok, Err, codes, position, if◌then◌else◌}
 use Rattle.std.specs.Char.{is_ascii_digit}
 use Rattle.std.specs.List.{list_all, list_any, filter_map}
 use Rattle.std.specs.Str.{str_eq_ignore_ascii_case, bytes_eq}
 use Rattle.std.specs.Str.Parse.{digits_value}
-use Rattle.httparse.specs.Grammar.{RequestHead, ReadsRequest, HasNoRequest, print_request}
+use Rattle.httparse.specs.Grammar.{RequestHead, ReadsRequest, HasNoRequest}
 use Rattle.httparse.specs.Spans.{RequestOverflows, name_and_value}
 use Rattle.sync_server.specs.declared.refusal.Refusal.{Refusal}
 use Rattle.sync_server.specs.declared.refusal.Refusal.TheVariants.{NotFound, MethodNotAllowed, LengthRequired, BadRequest, TooLarge, TokenNotFound}

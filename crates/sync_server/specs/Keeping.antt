@@ -1,6 +1,5 @@
 -- What a request does to what is kept.
-use Rattle.std.specs.Prelude.{◌≡◌, ◌≢◌, ◌⊎◌, ℕ, List, [], Bool, true, false, Option, None, Some, Result, Ok, Err}
-use Rattle.std.specs.Str.{bytes_eq}
+use Rattle.std.specs.Prelude.{◌≡◌, ◌≢◌, ◌⊎◌, ℕ, List, [], Bool, true, false, Option, Some, Result, Ok, Err}
 use Rattle.budget_ports.specs.Contents.{Contents, Text}
 use Rattle.budget_ports.specs.Keeper.{LeavesNoMore, IsKnown, IsAlone}
 use Rattle.field_merge.specs.declared.message.Message.{Message}
@@ -10,7 +9,7 @@ use Rattle.sync_server.specs.declared.refusal.Refusal.{Refusal}
 use Rattle.sync_server.specs.declared.refusal.Refusal.TheVariants.{TooLarge, BadRequest, NotFound, MethodNotAllowed, LengthRequired, TokenNotFound, BadMessage, EncryptedMessage, SinceRequired, FileNotFound, FileHasReset, BadRecord, KeeperFault, NoMemory}
 use Rattle.sync_server.specs.declared.state.ServerState.{ServerState}
 use Rattle.sync_server.specs.declared.keeping.Prepared.{Prepared}
-use Rattle.sync_server.specs.Serving.{Found, found_in, Verdict, Accepts, Refuses, judge_found, kept_after, reply_of, batch_of}
+use Rattle.sync_server.specs.Serving.{Found, found_in, Accepts, Refuses, judge_found, kept_after, reply_of, batch_of}
 use Rattle.sync_server.specs.State.{set_of}
 
 -- a keeper was read, and what it holds is as it was

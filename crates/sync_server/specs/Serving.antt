@@ -1,5 +1,5 @@
 -- How a connection is answered.
-use Rattle.std.specs.Prelude.{◌≡◌, ◌≢◌, ◌⊎◌, ◌<◌, ◌≤◌, ℕ, List, [], ◌∷◌, ◌++◌, length, take, map, Bool, true, false, ◌==◌, Option, Some, None, Result, Ok, Err, codes, if◌then◌else◌}
+use Rattle.std.specs.Prelude.{◌≡◌, ◌≢◌, ◌<◌, ◌≤◌, ℕ, List, [], ◌++◌, length, take, map, Bool, true, false, ◌==◌, Option, Some, None, Result, Ok, Err, codes, if◌then◌else◌}
 use Rattle.std.specs.FinMap as map
 use Rattle.std.specs.Str.{bytes_eq}
 use Rattle.httparse.specs.Grammar.{RequestHead, HasNoRequest}

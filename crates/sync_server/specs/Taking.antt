@@ -1,8 +1,7 @@
 -- What the bytes that were taken say.
-use Rattle.std.specs.Prelude.{◌≡◌, ◌⊎◌, ◌<◌, ◌≤◌, ℕ, List, length, drop, Bool, true, false, Option, None, Some, Ok, Err, unwrap_or, ⊤}
+use Rattle.std.specs.Prelude.{◌≡◌, ◌⊎◌, ◌<◌, ◌≤◌, ℕ, List, length, drop, Bool, true, false, Option, Ok, Err}
 use Rattle.std.specs.Io.KnownBytes.{IsAtEnd}
-use Rattle.httparse.specs.Grammar.{RequestHead, HasNoRequest, print_request}
-use Rattle.sync_wire.specs.declared.request.SyncRequest.{SyncRequest}
+use Rattle.httparse.specs.Grammar.{RequestHead, HasNoRequest}
 use Rattle.sync_server.specs.declared.refusal.Refusal.{Refusal}
 use Rattle.sync_server.specs.declared.refusal.Refusal.TheVariants.{TooLarge, BadRequest}
 use Rattle.sync_server.specs.declared.head.Glance.{Glance}

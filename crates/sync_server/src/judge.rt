@@ -94,11 +94,7 @@ fn agree(found: Option<u64>, told: Option<u64>) -> Result<Option<u64>, Refusal>
 }
 
 /// The length that was told, with what one more field says of it.
-fn agree_at(
-    bytes: &[u8],
-    header: &HeaderSpan,
-    found: Option<u64>,
-) -> Result<Option<u64>, Refusal>
+fn agree_at(bytes: &[u8], header: &HeaderSpan, found: Option<u64>) -> Result<Option<u64>, Refusal>
     requires { IsHeaderWithin (length bytes.now) header.now }
     ensures { result ≡ agree_at found (header_bytes bytes.now header.now) }
 {

@@ -115,11 +115,7 @@ struct Joined {
 }
 
 /// Joins a request to the messages of its group, and makes the reply.
-fn reply_over(
-    alloc: Global,
-    kept: Kept,
-    request: &SyncRequest,
-) -> Result<Joined, NoMemory>
+fn reply_over(alloc: Global, kept: Kept, request: &SyncRequest) -> Result<Joined, NoMemory>
     requires { AreMessages request.now.messages }
     ensures joined { IfOk result (λ r. r.kept ≡ join kept request.now.messages) }
     ensures reply { IfOk result (λ r. r.prepared.reply ≡ reply_of (Accepts kept request.now)) }

@@ -74,20 +74,34 @@ impl Refusal {
         ensures { result.now ≡ text_of self }
     {
         match self {
-            Refusal::TooLarge => "HTTP/1.1 413 Payload Too Large\r\nContent-Type: text/plain\r\nContent-Length: 9\r\nConnection: close\r\n\r\ntoo-large",
-            Refusal::BadRequest => "HTTP/1.1 400 Bad Request\r\nContent-Type: text/plain\r\nContent-Length: 11\r\nConnection: close\r\n\r\nbad-request",
-            Refusal::NotFound => "HTTP/1.1 404 Not Found\r\nContent-Type: text/plain\r\nContent-Length: 9\r\nConnection: close\r\n\r\nnot-found",
-            Refusal::MethodNotAllowed => "HTTP/1.1 405 Method Not Allowed\r\nContent-Type: text/plain\r\nContent-Length: 18\r\nConnection: close\r\n\r\nmethod-not-allowed",
-            Refusal::LengthRequired => "HTTP/1.1 411 Length Required\r\nContent-Type: text/plain\r\nContent-Length: 15\r\nConnection: close\r\n\r\nlength-required",
-            Refusal::TokenNotFound => "HTTP/1.1 401 Unauthorized\r\nContent-Type: text/plain\r\nContent-Length: 15\r\nConnection: close\r\n\r\ntoken-not-found",
-            Refusal::BadMessage => "HTTP/1.1 400 Bad Request\r\nContent-Type: text/plain\r\nContent-Length: 11\r\nConnection: close\r\n\r\nbad-message",
-            Refusal::EncryptedMessage => "HTTP/1.1 400 Bad Request\r\nContent-Type: text/plain\r\nContent-Length: 17\r\nConnection: close\r\n\r\nencrypted-message",
-            Refusal::SinceRequired => "HTTP/1.1 422 Unprocessable Entity\r\nContent-Type: text/plain\r\nContent-Length: 14\r\nConnection: close\r\n\r\nsince-required",
-            Refusal::FileNotFound => "HTTP/1.1 400 Bad Request\r\nContent-Type: text/plain\r\nContent-Length: 14\r\nConnection: close\r\n\r\nfile-not-found",
-            Refusal::FileHasReset => "HTTP/1.1 400 Bad Request\r\nContent-Type: text/plain\r\nContent-Length: 14\r\nConnection: close\r\n\r\nfile-has-reset",
-            Refusal::BadRecord => "HTTP/1.1 500 Internal Server Error\r\nContent-Type: text/plain\r\nContent-Length: 10\r\nConnection: close\r\n\r\nbad-record",
-            Refusal::KeeperFault => "HTTP/1.1 503 Service Unavailable\r\nContent-Type: text/plain\r\nContent-Length: 12\r\nConnection: close\r\n\r\nkeeper-fault",
-            Refusal::NoMemory => "HTTP/1.1 507 Insufficient Storage\r\nContent-Type: text/plain\r\nContent-Length: 9\r\nConnection: close\r\n\r\nno-memory",
+            Refusal::TooLarge =>
+                "HTTP/1.1 413 Payload Too Large\r\nContent-Type: text/plain\r\nContent-Length: 9\r\nConnection: close\r\n\r\ntoo-large",
+            Refusal::BadRequest =>
+                "HTTP/1.1 400 Bad Request\r\nContent-Type: text/plain\r\nContent-Length: 11\r\nConnection: close\r\n\r\nbad-request",
+            Refusal::NotFound =>
+                "HTTP/1.1 404 Not Found\r\nContent-Type: text/plain\r\nContent-Length: 9\r\nConnection: close\r\n\r\nnot-found",
+            Refusal::MethodNotAllowed =>
+                "HTTP/1.1 405 Method Not Allowed\r\nContent-Type: text/plain\r\nContent-Length: 18\r\nConnection: close\r\n\r\nmethod-not-allowed",
+            Refusal::LengthRequired =>
+                "HTTP/1.1 411 Length Required\r\nContent-Type: text/plain\r\nContent-Length: 15\r\nConnection: close\r\n\r\nlength-required",
+            Refusal::TokenNotFound =>
+                "HTTP/1.1 401 Unauthorized\r\nContent-Type: text/plain\r\nContent-Length: 15\r\nConnection: close\r\n\r\ntoken-not-found",
+            Refusal::BadMessage =>
+                "HTTP/1.1 400 Bad Request\r\nContent-Type: text/plain\r\nContent-Length: 11\r\nConnection: close\r\n\r\nbad-message",
+            Refusal::EncryptedMessage =>
+                "HTTP/1.1 400 Bad Request\r\nContent-Type: text/plain\r\nContent-Length: 17\r\nConnection: close\r\n\r\nencrypted-message",
+            Refusal::SinceRequired =>
+                "HTTP/1.1 422 Unprocessable Entity\r\nContent-Type: text/plain\r\nContent-Length: 14\r\nConnection: close\r\n\r\nsince-required",
+            Refusal::FileNotFound =>
+                "HTTP/1.1 400 Bad Request\r\nContent-Type: text/plain\r\nContent-Length: 14\r\nConnection: close\r\n\r\nfile-not-found",
+            Refusal::FileHasReset =>
+                "HTTP/1.1 400 Bad Request\r\nContent-Type: text/plain\r\nContent-Length: 14\r\nConnection: close\r\n\r\nfile-has-reset",
+            Refusal::BadRecord =>
+                "HTTP/1.1 500 Internal Server Error\r\nContent-Type: text/plain\r\nContent-Length: 10\r\nConnection: close\r\n\r\nbad-record",
+            Refusal::KeeperFault =>
+                "HTTP/1.1 503 Service Unavailable\r\nContent-Type: text/plain\r\nContent-Length: 12\r\nConnection: close\r\n\r\nkeeper-fault",
+            Refusal::NoMemory =>
+                "HTTP/1.1 507 Insufficient Storage\r\nContent-Type: text/plain\r\nContent-Length: 9\r\nConnection: close\r\n\r\nno-memory",
         }
     }
 }

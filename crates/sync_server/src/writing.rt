@@ -36,7 +36,9 @@ pub(crate) fn accepted(alloc: Global, response: &SyncResponse) -> Result<Items<u
     let body = write_response(alloc, response)?;
     let status: u16 = 200;
     let count = body.len();
-    let head = format!(in alloc; "HTTP/1.1 {status} OK\r\nContent-Type: application/actual-sync\r\nContent-Length: {count}\r\nConnection: close\r\n\r\n")?;
+    let head = format!(in alloc;
+        "HTTP/1.1 {status} OK\r\nContent-Type: application/actual-sync\r\nContent-Length: {count}\r\nConnection: close\r\n\r\n"
+    )?;
     let mut bytes = head.into_bytes();
     bytes.extend_from_slice(body.as_slice())?;
     Ok(Items::new(bytes))

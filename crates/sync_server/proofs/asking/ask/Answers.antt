@@ -1,14 +1,12 @@
-use Rattle.std.proofs.Common.{◌≡◌, ◌≢◌, ◌∙◌, ◌++◌, [], refl, inl, inr, sym, ap, subst, List, ℕ, take, drop, length, ◌<◌, ◌≤◌, ◌+◌, ◌⊎◌}
-use Rattle.std.specs.Io.KnownBytes.{Consumes}
+use Rattle.std.proofs.Common.{◌≡◌, ◌∙◌, ◌++◌, refl, inl, inr, sym, subst, length, ◌<◌, ◌≤◌, ◌+◌, ◌⊎◌}
 use Rattle.std.proofs.KnownBytes.{Consumes-trans}
 use Rattle.sync_server.specs.Serving.{Decides, Ends, Refuses, AsksKeeper}
 use Rattle.budget_ports.specs.Contents.{Contents}
 use Rattle.field_merge.specs.Messages.{AreMessages}
 use Rattle.sync_server.specs.declared.refusal.Refusal.TheVariants.{NoMemory}
 use Rattle.sync_server.specs.Outside.{HasFound}
-use Rattle.sync_server.specs.Asking.{IsAsked}
-use Rattle.sync_server.specs.Heads.{IsUndecided, in_head}
-use Rattle.sync_server.proofs.Fronts.{Comes, comes, any, refused_at, ended_at, short_at, undecided_at, body_refused, asks_at, body_range}
+use Rattle.sync_server.specs.Heads.{in_head}
+use Rattle.sync_server.proofs.Fronts.{comes, any, refused_at, ended_at, short_at, undecided_at, body_refused, asks_at, body_range}
 use Rattle.sync_server.proofs.asking.ask.Goals as goal
 
 pub returns-in-Refused-clause-asked : goal.returns-in-Refused-clause-asked

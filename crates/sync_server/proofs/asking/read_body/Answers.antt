@@ -1,4 +1,4 @@
-use Rattle.std.proofs.Common.{◌≡◌, refl, rules, subst, sym}
+use Rattle.std.proofs.Common.{refl, rules, subst, sym}
 use Rattle.sync_server.specs.Asking.{RefusesBody, encrypted, without_since}
 use Rattle.sync_server.proofs.Faults.{body_fault}
 use Rattle.sync_server.proofs.asking.read_body.Goals as goal

@@ -1,4 +1,4 @@
-use Rattle.std.proofs.Common.{◌≤◌, ◌∙◌, sym, drop, inl}
+use Rattle.std.proofs.Common.{◌∙◌, sym, drop, inl}
 use Rattle.sync_server.proofs.Fronts.{few_fields}
 use Rattle.sync_server.proofs.head.judge_whole.Goals as goal
 

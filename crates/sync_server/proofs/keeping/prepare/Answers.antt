@@ -1,4 +1,4 @@
-use Rattle.std.proofs.Common.{refl, inl, inr, sym, ap, ◌∙◌}
+use Rattle.std.proofs.Common.{inr, sym}
 use Rattle.std.proofs.lemmas.Result.{err_from_is_err_and}
 use Rattle.sync_server.proofs.Faults.{free_memory}
 use Rattle.sync_server.proofs.Sets.{taken_out, still_out, put_back}
@@ -24,9 +24,16 @@ returns-in_err-put-clause-found g c =
 
 pub returns-clause-found : goal.returns-clause-found
 returns-clause-found g c =
-    let f = c.in_ok-opened.ensures.found in
-    (f.0, f.1, (c.in_ok-opened.opened, f.2, record {
-      reply = c.in_ok-joined.ensures.reply;
-      batch = c.in_ok-joined.ensures.batch;
-      state = rw (sym c.in_ok-joined.ensures.joined) (put_back c.args.state.now c.open_group.new.state c.put.new.self c.args.request.now.group _ c.in_ok-opened.ensures.rest c.in_ok-put.ensures.ok);
-    }))
+    let f = c.in_ok-opened.ensures.found in (
+      f.0,
+      f.1,
+      (
+        c.in_ok-opened.opened,
+        f.2,
+        record {
+          reply = c.in_ok-joined.ensures.reply;
+          batch = c.in_ok-joined.ensures.batch;
+          state = rw (sym c.in_ok-joined.ensures.joined) (put_back c.args.state.now c.open_group.new.state c.put.new.self c.args.request.now.group _ c.in_ok-opened.ensures.rest c.in_ok-put.ensures.ok);
+        },
+      ),
+    )

@@ -1,8 +1,8 @@
-use Rattle.std.proofs.Common.{◌≡◌, refl, inl, inr, sym, ap, [], subst, rules}
+use Rattle.std.proofs.Common.{refl, inl, inr, ap, [], subst, rules}
 use Rattle.std.proofs.lemmas.Result.{err_from_is_err_and}
 use Rattle.budget_ports.specs.Contents.{records_after}
 use Rattle.kept_messages.specs.Records.{kept_set, IsStartFault}
-use Rattle.sync_server.proofs.Faults.{free_port, free_memory}
+use Rattle.sync_server.proofs.Faults.{free_port}
 use Rattle.sync_server.proofs.keeping.read_group.Goals as goal
 
 pub returns-in_err-records-clause-found : goal.returns-in_err-records-clause-found

@@ -1,4 +1,4 @@
-use Rattle.std.proofs.Common.{◌∙◌, ◌<◌, arith, length-take, length-drop, take, drop, sym, length}
+use Rattle.std.proofs.Common.{◌∙◌, arith, length-take, length-drop, take, drop, sym}
 use Rattle.std.proofs.lemmas.List.{take-append-drop}
 use Rattle.std.proofs.lemmas.Result.{err_from_is_err_and}
 use Rattle.sync_server.proofs.Pieces.{after_write, kept_to, not_over, stays_on}

@@ -1,6 +1,4 @@
-use Rattle.std.proofs.Common.{refl, ◌∙◌, subst, sym}
-use Rattle.std.specs.BTreeMap.{Updates}
-use Rattle.budget_ports.specs.Contents.{Text, text_cmp}
+use Rattle.std.proofs.Common.{refl}
 use Rattle.sync_server.proofs.Sets.{puts_at}
 use Rattle.sync_server.proofs.state.ServerState.put.Goals as goal
 
