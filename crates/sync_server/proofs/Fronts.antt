@@ -32,17 +32,17 @@ take_past (suc n) (x ∷ xs) rest p =
     ap (λ (ys : List ℕ). x ∷ ys) (take_past n xs rest (omega arith) ∙ ap (λ (k : ℕ). xs ++ take k rest) e)
 
 -- more bytes come behind a head
-head_grows : (bytes : List ℕ) (head : RequestHead) (rest more : List ℕ) → HasHead bytes head rest → HasHead (bytes ++ more) head (rest ++ more)
+pub head_grows : (bytes : List ℕ) (head : RequestHead) (rest more : List ℕ) → HasHead bytes head rest → HasHead (bytes ++ more) head (rest ++ more)
 head_grows bytes head rest more h = record { reads = ReadsRequest-append bytes head rest more h.reads; few = h.few }
 
-front_is : (taken back : List ℕ) → length taken ≤ 65536 → take 65536 (taken ++ back) ≡ taken ++ take (65536 - length taken) back
+pub front_is : (taken back : List ℕ) → length taken ≤ 65536 → take 65536 (taken ++ back) ≡ taken ++ take (65536 - length taken) back
 front_is taken back p = take_past 65536 taken back p
 
-in_front : (taken back : List ℕ) (head : RequestHead) (rest : List ℕ) → length taken ≤ 65536 → HasHead taken head rest → HasHead (take 65536 (taken ++ back)) head (rest ++ take (65536 - length taken) back)
+pub in_front : (taken back : List ℕ) (head : RequestHead) (rest : List ℕ) → length taken ≤ 65536 → HasHead taken head rest → HasHead (take 65536 (taken ++ back)) head (rest ++ take (65536 - length taken) back)
 in_front taken back head rest p h =
     subst (λ (x : List ℕ). HasHead x head (rest ++ take (65536 - length taken) back)) (sym (front_is taken back p)) (head_grows taken head rest (take (65536 - length taken) back) h)
 
-never : (taken x : List ℕ) → NeverHasHead taken → NeverHasHead (taken ++ x)
+pub never : (taken x : List ℕ) → NeverHasHead taken → NeverHasHead (taken ++ x)
 never taken x o more h rest r = o (x ++ more) h rest (subst (λ (b : List ℕ). ReadsRequest b h rest) (append_assoc taken x more) r)
 
 -- all bytes of a connection, of which some were taken
