@@ -99,10 +99,10 @@ module _ (k : Contents) where
   by_rest : (rest : List ℕ) (t : Result ℕ Refusal) → Only (DecidesRest (HasFound k) rest t)
   by_rest rest (Err r) = (Refuses r, refused r refl refl, only_refused rest (Err r) r refl)
   by_rest rest (Ok n) = elim (nat_lt (length rest) n) as (λ b. nat_lt (length rest) n ≡ b → Only (DecidesRest (HasFound k) rest (Ok n))) [
-      | true ↦ λ e. (let less = above (length rest) n e in (Ends, short n refl less refl, only_ends rest (Ok n) n refl less))
-      | false ↦ λ e. (let fits = within (length rest) n e in
-          ((by_body (take n rest)).0, whole n refl fits (by_body (take n rest)).1, only_whole rest (Ok n) n refl fits))
-    ] refl
+    | true ↦ λ e. (let less = above (length rest) n e in (Ends, short n refl less refl, only_ends rest (Ok n) n refl less))
+    | false ↦ λ e. (let fits = within (length rest) n e in
+        ((by_body (take n rest)).0, whole n refl fits (by_body (take n rest)).1, only_whole rest (Ok n) n refl fits))
+  ] refl
 
   module _ (token : Text) (came : List ℕ) (head : RequestHead) (more rest : List ℕ) (near : HasHead (take 65536 came) head more) (far : HasHead came head rest) where
     -- what follows the head decides, and nothing else
@@ -134,9 +134,10 @@ pub refused_by_head : (token : Text) (k : Contents) (front back : List ℕ) (hea
 refused_by_head token k front back head rest refusal v few h e =
     let near = in_front front back head rest few h in
     let far = head_grows front head rest back h in
-    let more : List ℕ = rest ++ take (65536 - length front) back in
-    (λ d. only_refused k (rest ++ back) (judge_head token head) refusal e v (decides_rest k token (front ++ back) head more (rest ++ back) near far v d),
-     λ q. decided_by k token (front ++ back) head more (rest ++ back) near far v (refused refusal e q))
+    let more : List ℕ = rest ++ take (65536 - length front) back in (
+      λ d. only_refused k (rest ++ back) (judge_head token head) refusal e v (decides_rest k token (front ++ back) head more (rest ++ back) near far v d),
+      λ q. decided_by k token (front ++ back) head more (rest ++ back) near far v (refused refusal e q),
+    )
 
 -- ---- what is kept, and what is replied
 

@@ -100,10 +100,10 @@ told (t ∷ ts) = by (length_in t) refl
     by : (o : Option ℕ) → length_in t ≡ o → IsTold (t ∷ ts) (told_by_all ts o)
     by None e = apart (not_empty t ts) (λ n h. none_is n (sym e ∙ h.0)) refl
     by (Some m) e = elim (list_all (tells m) ts) as (λ b. list_all (tells m) ts ≡ b → IsTold (t ∷ ts) (cond b (Ok m) (Err BadRequest))) [
-        | true ↦ λ k. same m (not_empty t ts) (e, each_tells m ts k) refl
-        | false ↦ λ k. apart (not_empty t ts) (λ n h. (let s : n ≡ m = some_is n m (sym h.0 ∙ e) in
-            true_is (sym (all_tell m ts (subst (λ (x : ℕ). AllByRecursion (λ t. length_in t ≡ Some x) ts) s h.1)) ∙ k))) refl
-      ] refl
+      | true ↦ λ k. same m (not_empty t ts) (e, each_tells m ts k) refl
+      | false ↦ λ k. apart (not_empty t ts) (λ n h. (let s : n ≡ m = some_is n m (sym h.0 ∙ e) in
+          true_is (sym (all_tell m ts (subst (λ (x : ℕ). AllByRecursion (λ t. length_in t ≡ Some x) ts) s h.1)) ∙ k))) refl
+    ] refl
 
 told_same : (n : ℕ) (texts : List (List ℕ)) → texts ≢ [] → AllByRecursion (λ t. length_in t ≡ Some n) texts → length_told texts ≡ Ok n
 told_same n [] some h = absurd (some refl)
@@ -128,9 +128,9 @@ token_is token texts others e = rw e ((bytes_eq-Decides token token).1 refl)
 
 no_token : (token : List ℕ) (h : RequestHead) → (HasToken token h → ⊥) → is_token token (values_in (codes "x-actual-token") h) ≡ false
 no_token token h n = elim (is_token token (values_in (codes "x-actual-token") h)) as (λ b. is_token token (values_in (codes "x-actual-token") h) ≡ b → b ≡ false) [
-    | true ↦ λ e. absurd (n (found_token token (values_in (codes "x-actual-token") h) e))
-    | false ↦ λ e. refl
-  ] refl
+  | true ↦ λ e. absurd (n (found_token token (values_in (codes "x-actual-token") h) e))
+  | false ↦ λ e. refl
+] refl
 
 -- ---- a head
 
@@ -161,9 +161,9 @@ module _ (token : List ℕ) (h : RequestHead) where
       rw q (elim (nat_lt 67108864 n) as (λ b. nat_lt 67108864 n ≡ b → IsJudged token h (with_token right (cond b (Err TooLarge) (Ok n)))) [
         | true ↦ λ e. too_long n s u (is_above 67108864 n e) refl
         | false ↦ λ e. elim right as (λ b. right ≡ b → IsJudged token h (cond b (Ok n) (Err TokenNotFound))) [
-            | true ↦ λ k. takes n s u (is_within 67108864 n e) (found_token token (values_in (codes "x-actual-token") h) k) refl
-            | false ↦ λ k. other_token n s u (is_within 67108864 n e) (λ t. true_is (sym (token_is token (values_in (codes "x-actual-token") h) t.0 t.1) ∙ k)) refl
-          ] refl
+          | true ↦ λ k. takes n s u (is_within 67108864 n e) (found_token token (values_in (codes "x-actual-token") h) k) refl
+          | false ↦ λ k. other_token n s u (is_within 67108864 n e) (λ t. true_is (sym (token_is token (values_in (codes "x-actual-token") h) t.0 t.1) ∙ k)) refl
+        ] refl
       ] refl)
 
   abbrev after_method : Result ℕ Refusal
@@ -171,22 +171,22 @@ module _ (token : List ℕ) (h : RequestHead) where
 
   by_coding : IsSync h → IsJudged token h after_method
   by_coding s = elim coded as (λ b. coded ≡ b → IsJudged token h (cond b (Err LengthRequired) (with_token right (body_length fields)))) [
-      | true ↦ λ e. no_length s (inl ((finds (codes "transfer-encoding") fields).0 e)) refl
-      | false ↦ λ e. by_length s e (length_told lengths) (told lengths)
-    ] refl
+    | true ↦ λ e. no_length s (inl ((finds (codes "transfer-encoding") fields).0 e)) refl
+    | false ↦ λ e. by_length s e (length_told lengths) (told lengths)
+  ] refl
 
   by_method : path_of h.target ≡ codes "/sync/sync" → IsJudged token h (cond (bytes_eq h.method (codes "POST")) after_method (Err MethodNotAllowed))
   by_method p = elim (bytes_eq h.method (codes "POST")) as (λ b. bytes_eq h.method (codes "POST") ≡ b → IsJudged token h (cond b after_method (Err MethodNotAllowed))) [
-      | true ↦ λ e. by_coding (record { path = p; method = same_bytes h.method (codes "POST") e })
-      | false ↦ λ e. other_method p (other_bytes h.method (codes "POST") e) refl
-    ] refl
+    | true ↦ λ e. by_coding (record { path = p; method = same_bytes h.method (codes "POST") e })
+    | false ↦ λ e. other_method p (other_bytes h.method (codes "POST") e) refl
+  ] refl
 
   judges_it : IsJudged token h (judge_head token h)
   judges_it = elim (bytes_eq (path_of h.target) (codes "/sync/sync")) as (λ b. bytes_eq (path_of h.target) (codes "/sync/sync") ≡ b
       → IsJudged token h (cond b (cond (bytes_eq h.method (codes "POST")) after_method (Err MethodNotAllowed)) (Err NotFound))) [
-      | true ↦ λ e. by_method (same_bytes (path_of h.target) (codes "/sync/sync") e)
-      | false ↦ λ e. other_path (other_bytes (path_of h.target) (codes "/sync/sync") e) refl
-    ] refl
+        | true ↦ λ e. by_method (same_bytes (path_of h.target) (codes "/sync/sync") e)
+        | false ↦ λ e. other_path (other_bytes (path_of h.target) (codes "/sync/sync") e) refl
+      ] refl
 
   pub judges : (r : Result ℕ Refusal) → judge_head token h ≡ r → IsJudged token h r
   judges r e = subst (IsJudged token h) e judges_it

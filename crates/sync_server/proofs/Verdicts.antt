@@ -21,9 +21,9 @@ module _ (q : SyncRequest) (found : Found) where
   by_group : IsFair q → (group : Option Text) → found.group ≡ group → IsDecided q found (judge_found q group found.set)
   by_group fair None g = no_file fair g refl
   by_group fair (Some group) g = elim (bytes_eq group q.group) as (λ b. bytes_eq group q.group ≡ b → IsDecided q found (cond b (judge_set q found.set) (Refuses FileHasReset))) [
-      | true ↦ λ e. by_record fair (g ∙ ap Some (same_bytes group q.group e)) found.set refl
-      | false ↦ λ e. other_group group fair g (other_bytes group q.group e) refl
-    ] refl
+    | true ↦ λ e. by_record fair (g ∙ ap Some (same_bytes group q.group e)) found.set refl
+    | false ↦ λ e. other_group group fair g (other_bytes group q.group e) refl
+  ] refl
 
   by_since : q.encrypted ≡ false → (since : List ℕ) → q.since ≡ since → IsDecided q found (cond (length since == 0) (Refuses SinceRequired) (judge_found q found.group found.set))
   by_since plain [] e = no_since plain e refl
@@ -34,9 +34,9 @@ module _ (q : SyncRequest) (found : Found) where
 
   decides_it : IsDecided q found (judge_request q found)
   decides_it = elim q.encrypted as (λ b. q.encrypted ≡ b → IsDecided q found (cond b (Refuses EncryptedMessage) (cond (length q.since == 0) (Refuses SinceRequired) (judge_found q found.group found.set)))) [
-      | true ↦ λ e. encrypted e refl
-      | false ↦ λ e. by_since e q.since refl
-    ] refl
+    | true ↦ λ e. encrypted e refl
+    | false ↦ λ e. by_since e q.since refl
+  ] refl
 
   pub decides : (v : Verdict) → judge_request q found ≡ v → IsDecided q found v
   decides v e = subst (IsDecided q found) e decides_it

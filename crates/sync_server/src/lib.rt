@@ -14,7 +14,9 @@ mod state;
 mod writing;
 
 pub use answering::{answer, join_request};
-pub use laws::{accepted_are_kept, answers_tell, connections_are_decided, heads_are_judged, requests_are_judged};
+pub use laws::{
+    accepted_are_kept, answers_tell, connections_are_decided, heads_are_judged, requests_are_judged,
+};
 pub use refusal::Refusal;
 pub use served::Served;
 pub use serving::serve_one;
