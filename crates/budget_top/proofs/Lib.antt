@@ -15,6 +15,7 @@ pub mod Serving
 pub mod Answering
 pub mod Obeying
 mod Obeyed
+mod Answered
 pub mod Keeping
 pub mod Replying
 mod Parses
