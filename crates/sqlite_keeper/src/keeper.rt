@@ -86,7 +86,9 @@ impl<S: Alter> SqliteKeeper<S> {
     /// The first statement asks for the text `version`. Where it is `1` the store is taken, and where it
     /// is another the fault tells it. Where the connection refuses the statement, the tables and the
     /// version are made in one commit; where it refuses that as well, the keeper is shut, its count is 1,
-    /// and the contents are as before. What `in_order` gives is what `ordered` asks.
+    /// and the contents are as before. Over an open connection to a store of this layout, or to one with
+    /// no tables, a keeper is shut only if the disk failed or a limit was set on the steps of a query.
+    /// What `in_order` gives is what `ordered` asks.
     pub fn adopt(alloc: Global, connection: Connection<S>) -> Result<SqliteKeeper<S>, Unadopted<S>>
         requires idle { connection.in_transaction ≡ false }
         requires ordered { IsInOrder S.Store connection }
