@@ -1,6 +1,5 @@
 -- What is known of a store that is taken.
-use Rattle.std.proofs.Common.{arith, ◌≡◌, ◌≤◌, ◌⊎◌, false, IsTrue, inl, inr, Result, Ok, Err, IfOk, IfErr, ap, ◌∙◌}
-use Rattle.sqlite.specs.State.{HasCleanDisk}
+use Rattle.std.proofs.Common.{arith, ◌≡◌, ◌≤◌, false, IsTrue, inl, inr, Result, Ok, Err, IfOk, IfErr, ap, ◌∙◌}
 use Rattle.sqlite.specs.Held.{Held, state}
 use Rattle.sqlite.specs.Store.{Ghosts}
 use Rattle.sqlite.specs.Effect.{Database}

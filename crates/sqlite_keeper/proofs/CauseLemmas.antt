@@ -1,6 +1,5 @@
 -- Why the first statement is refused over the keeper's tables.
-use Rattle.std.proofs.Common.{arith, ◌≡◌, ◌≢◌, ◌⊎◌, ◌≤◌, ℕ, true, false, List, [], ◌∷◌, Ok, Err, None, inl, inr, refl, sym, ap, subst, ◌∙◌, append-nil, length, IsTrue, IsSome, true≢false, Result, codes, IfErr}
-use Rattle.sqlite_value.specs.Order.{Row}
+use Rattle.std.proofs.Common.{arith, ◌≡◌, ◌≤◌, true, [], ◌∷◌, Ok, Err, inl, inr, refl, sym, ap, subst, ◌∙◌, append-nil, length, IsTrue, IsSome, true≢false, Result, codes, IfErr}
 use Rattle.sqlite_trees.specs.declared.error.StoreError.{StoreError}
 use Rattle.sqlite_trees.specs.declared.error.StoreError.TheVariants.{OutOfMemory, Io, Corrupt, Full, Broken, Unstorable}
 use Rattle.sqlite_typing.specs.Types.{accepts_program}
@@ -9,16 +8,14 @@ use Rattle.sqlite_sql.proofs.QueryLemmas.{no_fold_overflows}
 use Rattle.sqlite_resolve.specs.declared.compiled.Compiled.{Compiled}
 use Rattle.sqlite_resolve.specs.declared.error.CompileError.{CompileError}
 use Rattle.sqlite.specs.Command.TheVariants.{Select}
-use Rattle.sqlite_schema.specs.declared.command.Command.{Command}
 use Rattle.sqlite.specs.declared.error.Error.{Error}
 use Rattle.sqlite.specs.Effect.{Database, RefusesToRead}
 use Rattle.sqlite.specs.Listing.{understood, reads_listing, IsSourceOf}
-use Rattle.sqlite.specs.State.{State, Fails, HasCause, store_error, IsNoStatement, IsNotRun, FailsToQuery, FailsToShow}
-use Rattle.sqlite.specs.Clock.{timed}
+use Rattle.sqlite.specs.State.{State, Fails, HasCause, store_error, IsNoStatement, IsNotRun, FailsToQuery}
 use Rattle.sqlite.proofs.Callers.{IsPlain, command_of}
 use Rattle.sqlite_tied.specs.Compute.{everything}
 use Rattle.sqlite_keeper.specs.Tables.{keeper_schema}
-use Rattle.sqlite_keeper.specs.Adopting.{version_query, version_row, HasReason, IsReason}
+use Rattle.sqlite_keeper.specs.Adopting.{version_row, HasReason, IsReason}
 use Rattle.sqlite_keeper.proofs.Texts.{get_text, get_query, get_is, get_plain, get_unlisted}
 
 -- the text has nothing behind it, and one parameter

@@ -1,5 +1,5 @@
 -- Why the version can be written into a table of texts that is empty.
-use Rattle.std.proofs.Common.{arith, ◌&&◌, ◌≡◌, ◌⊎◌, ◌≤◌, ◌<◌, ◌++◌, ℕ, zero, suc, ℤ, pos, Bool, true, false, not, List, [], ◌∷◌, Option, Some, None, Ok, Err, Result, inl, inr, refl, sym, ap, subst, ◌∙◌, length, length-append, cond, true≢false, IsSome, All}
+use Rattle.std.proofs.Common.{arith, ◌&&◌, ◌≡◌, ℕ, zero, suc, ℤ, pos, Bool, true, false, not, List, [], ◌∷◌, Option, Some, None, Err, Result, inl, inr, refl, sym, ap, subst, ◌∙◌, length, length-append, cond, true≢false, IsSome}
 use Rattle.std.specs.List.{AllByRecursion, list_all}
 use Rattle.std.proofs.lemmas.List.Elements.{All-nil, All-cons}
 use Rattle.std.proofs.lemmas.Nat.Bits.{bit_at-zero}
@@ -15,11 +15,10 @@ use Rattle.sqlite_sql.specs.Catalog.{entry_of}
 use Rattle.sqlite_schema.specs.declared.schema.Constraint.TheVariants.{Datatype, NotNull, Check, PrimaryKey, Unique, ForeignKey}
 use Rattle.sqlite_schema.specs.declared.schema.Keys.TheVariants.{Enforced}
 use Rattle.sqlite_schema.specs.declared.schema.Kind.TheVariants.{Integer}
-use Rattle.sqlite_schema.specs.declared.schema.Among.TheVariants.{All as Every}
 use Rattle.sqlite_schema.specs.declared.schema.Index.{Index}
 use Rattle.sqlite_schema.specs.declared.command.Upsert.{Upsert}
 use Rattle.sqlite_schema.specs.declared.command.Conflict.TheVariants.{Abort}
-use Rattle.sqlite_schema.specs.Rules.{Keeps, Refers, passes, guards, clashes, table_reals, index_reals}
+use Rattle.sqlite_schema.specs.Rules.{Keeps, passes, guards, clashes, table_reals, index_reals}
 use Rattle.sqlite_rules.specs.declared.error.Rowids.TheVariants.{Chosen, Given}
 use Rattle.sqlite_rules.specs.declared.error.Refusal.{Refusal}
 use Rattle.sqlite_rules.specs.declared.error.Refusal.TheVariants.{Violates, Mismatch, NoRowid, BadReference, TooDeep}
@@ -27,10 +26,9 @@ use Rattle.sqlite_rules.specs.Lists.{Has}
 use Rattle.sqlite_rules.specs.Cast.{cast, cast_row}
 use Rattle.sqlite_rules.specs.Steps.{IsJudged}
 use Rattle.sqlite_rules.specs.Keys.{AreConflicts}
-use Rattle.sqlite_rules.specs.Edit.{Edit, edit_of, edited, left_by, with_rowid, put_all, are_fresh, have_rowids, id_in, is_referred, IsRefused, IsOversized}
+use Rattle.sqlite_rules.specs.Edit.{Edit, edit_of, edited, left_by, with_rowid, put_all, are_fresh, have_rowids, id_in, IsRefused, IsOversized}
 use Rattle.sqlite_rules.specs.Action.{Writes, Leads}
 use Rattle.sqlite.specs.declared.error.Error.{Error}
-use Rattle.sqlite.specs.Effect.{Database}
 use Rattle.sqlite.specs.Does.{Does, Concludes}
 use Rattle.sqlite.specs.Source.{Source}
 use Rattle.sqlite.specs.Source.TheVariants.{Values}
@@ -39,7 +37,6 @@ use Rattle.sqlite.specs.Rows.{Task, Puts, Clears, Meets, Upserts, Judged, Tries,
 use Rattle.sqlite_keeper.specs.Tables.{named, keeper_schema}
 use Rattle.sqlite_keeper.specs.Adopting.{version_name, version_one}
 use Rattle.sqlite_keeper.proofs.PutLemmas.{mode, task, cast_null}
-use Rattle.sqlite_keeper.proofs.RowRules.{items_index, named_index}
 use Rattle.sqlite_keeper.proofs.Texts.{put_text, put_command, put_clauses, update_query}
 
 abbrev params : Row

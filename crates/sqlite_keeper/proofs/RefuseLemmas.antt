@@ -1,5 +1,5 @@
 -- Why the making of a new store is refused.
-use Rattle.std.proofs.Common.{arith, ◌≡◌, ◌≤◌, ℕ, List, [], ◌∷◌, None, Some, Ok, Err, Result, IfErr, refl, sym, ap, subst, ◌∙◌, IsTrue, IsSome, length}
+use Rattle.std.proofs.Common.{arith, ◌≡◌, ℕ, [], ◌∷◌, None, Some, Ok, Err, refl, ap, subst, ◌∙◌, IsSome}
 use Rattle.sqlite_value.specs.Order.{Row}
 use Rattle.sqlite_value.specs.declared.value.Value.TheVariants.{Text}
 use Rattle.sqlite_catalog.specs.Change.{created}
@@ -9,7 +9,7 @@ use Rattle.sqlite.specs.Does.{Does}
 use Rattle.sqlite.specs.Listing.{understood}
 use Rattle.sqlite.specs.Store.{Ghosts}
 use Rattle.sqlite.specs.Held.{Held, state}
-use Rattle.sqlite.specs.State.{State, Writes, ExecutesInside}
+use Rattle.sqlite.specs.State.{Writes, ExecutesInside}
 use Rattle.sqlite.proofs.Callers.{statement_of, runs_as}
 use Rattle.sqlite_tied.specs.Compute.{everything}
 use Rattle.sqlite_keeper.specs.Tables.{items, named, no_schema, keeper_schema}
@@ -18,9 +18,8 @@ use Rattle.sqlite_keeper.proofs.PutLemmas.{mode}
 use Rattle.sqlite_keeper.proofs.StopLemmas.{Acts, stop_reason}
 use Rattle.sqlite_keeper.proofs.CreateLemmas.{items_fresh, named_fresh, creates}
 use Rattle.sqlite_keeper.proofs.InsertLemmas.{inserts}
-use Rattle.sqlite_keeper.proofs.CauseLemmas.{reason_after}
 use Rattle.sqlite_keeper.proofs.MakeLemmas.{does_create, both_made, items_made, named_made, items_plain, named_plain, items_whole, named_whole}
-use Rattle.sqlite_keeper.proofs.Texts.{items_defined, named_defined, items_text, named_text, put_text, put_command, put_is, put_plain}
+use Rattle.sqlite_keeper.proofs.Texts.{items_defined, items_text, named_text, put_text, put_command, put_is, put_plain}
 
 items_acts : Acts items_text 0 (understood no_schema items_text)
 unfolding understood everything

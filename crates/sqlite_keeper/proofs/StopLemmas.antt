@@ -1,5 +1,5 @@
 -- Why a write within a transaction stops.
-use Rattle.std.proofs.Common.{arith, ◌≡◌, ◌≢◌, ◌⊎◌, ◌≤◌, ℕ, true, false, List, [], ◌∷◌, Option, Some, Ok, Err, None, inl, inr, refl, sym, ap, subst, ◌∙◌, append-nil, length, IsTrue, IsSome, true≢false, Result}
+use Rattle.std.proofs.Common.{◌≡◌, ◌⊎◌, ◌≤◌, ℕ, false, List, Option, Some, Ok, Err, None, inl, inr, sym, ap, subst, ◌∙◌, append-nil, length, IsTrue, IsSome, Result}
 use Rattle.sqlite_value.specs.Order.{Row}
 use Rattle.sqlite_trees.specs.declared.error.StoreError.{StoreError}
 use Rattle.sqlite_trees.specs.declared.error.StoreError.TheVariants.{OutOfMemory, Io, Corrupt, Full, Broken, Unstorable}
@@ -12,7 +12,7 @@ use Rattle.sqlite.specs.declared.error.Error.{Error}
 use Rattle.sqlite.specs.Calls.{IsWrite}
 use Rattle.sqlite.specs.Does.{Does}
 use Rattle.sqlite.specs.Listing.{understood}
-use Rattle.sqlite.specs.State.{State, Fails, HasCause, store_error, IsNoStatement, IsNotRun, IsUnchanged, IsMisplaced, RunsCommand, ExecutesIn, ExecutesInside, EndsScope, text_of, shows_rows}
+use Rattle.sqlite.specs.State.{State, Fails, HasCause, store_error, IsNoStatement, IsNotRun, IsUnchanged, IsMisplaced, ExecutesIn, ExecutesInside, EndsScope, text_of, shows_rows}
 use Rattle.sqlite.specs.Clock.{timed}
 use Rattle.sqlite.proofs.Callers.{IsPlain, command_of, statement_of}
 use Rattle.sqlite_keeper.specs.Adopting.{IsReason}

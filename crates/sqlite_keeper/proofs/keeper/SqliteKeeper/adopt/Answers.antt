@@ -3,7 +3,7 @@ use Rattle.sqlite.specs.State.{HasCleanDisk}
 use Rattle.sqlite.specs.Held.{state}
 use Rattle.sqlite_keeper.specs.Contents.{Sound}
 use Rattle.sqlite_keeper.proofs.Calls.{left_alone, was_open}
-use Rattle.sqlite_keeper.proofs.AdoptLemmas.{sound_taken, left_first, left_made, if_both_ok, if_all_ok, if_both_err, if_ok, contents_stay, reason_made}
+use Rattle.sqlite_keeper.proofs.AdoptLemmas.{sound_taken, left_first, left_made, if_both_ok, if_all_ok, if_both_err, contents_stay, reason_made}
 use Rattle.sqlite_keeper.proofs.keeper.SqliteKeeper.adopt.Goals as goal
 
 pub returns-else-ne-clause-alone : goal.returns-else-ne-clause-alone
