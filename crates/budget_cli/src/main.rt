@@ -4,15 +4,16 @@
 ghost use Rattle.std.specs.Prelude.{◌≡◌, ◌≤◌, IsErr, Some};
 ghost use Rattle.std.specs.Process.{exit_status};
 ghost use Rattle.budget_top.specs.Words.{planned, planned_mode, refusal_status};
-ghost use Rattle.budget_top.specs.Ran.{outside, Ran};
-ghost use Rattle.budget_top.specs.declared.words.Mode.TheVariants.{Merge};
+ghost use Rattle.budget_top.specs.Outside.{outside};
+ghost use Rattle.budget_top.specs.Ran.{Ran};
+ghost use Rattle.budget_top.specs.declared.words.Mode.TheVariants.{Merge, Device, Serve};
 
-mod closed_door;
 mod closed_link;
 mod ports;
 mod stdin_source;
 mod stdout_sink;
 mod system_clock;
+mod tcp_door;
 #[cfg(test)]
 mod tests;
 
@@ -29,6 +30,7 @@ use std::process::ExitCode;
 use std::sync::ledger::{Blank, Ledger};
 use stdin_source::StdinSource;
 use stdout_sink::StdoutSink;
+use tcp_door::TcpDoor;
 
 /// The words of the command line, without the program's name. Words that are not UTF-8 are none
 /// that a run knows.
@@ -82,9 +84,11 @@ fn status_over<G: Ledger, S: Source, W: Sink, K: Keeper, L: Link, D: Door, C: Wa
     requires parts { blank.parts ≡ G.parts }
     requires some { 1 ≤ G.parts }
     ensures ran { Ran words.now result (outside (S.left source.old) (S.faults source.old) (W.taken sink.old) (W.faults sink.old) (K.tells keeper.old) (K.contents keeper.old) (K.left keeper.old) (K.faults keeper.old) (L.exchanges link.old) (L.faults link.old) (D.waiting door.old) (D.outs door.old) (D.faults door.old) (C.readings clock.old)) (outside (S.left source.new) (S.faults source.new) (W.taken sink.new) (W.faults sink.new) (K.tells keeper.new) (K.contents keeper.new) (K.left keeper.new) (K.faults keeper.new) (L.exchanges link.new) (L.faults link.new) (D.waiting door.new) (D.outs door.new) (D.faults door.new) (C.readings clock.new)) }
-    ensures untouched { IsErr (planned words.now) → (source.new ≡ source.old) × (sink.new ≡ sink.old) × (keeper.new ≡ keeper.old) × (clock.new ≡ clock.old) }
-    ensures merge_alone { planned_mode words.now ≡ Some Merge → (keeper.new ≡ keeper.old) × (clock.new ≡ clock.old) }
-    ensures apart { (link.new ≡ link.old) × (door.new ≡ door.old) }
+    ensures untouched { IsErr (planned words.now) → (source.new ≡ source.old) × (sink.new ≡ sink.old) × (keeper.new ≡ keeper.old) × (door.new ≡ door.old) × (clock.new ≡ clock.old) }
+    ensures merge_alone { planned_mode words.now ≡ Some Merge → (keeper.new ≡ keeper.old) × (door.new ≡ door.old) × (clock.new ≡ clock.old) }
+    ensures device_alone { planned_mode words.now ≡ Some Device → door.new ≡ door.old }
+    ensures serve_alone { planned_mode words.now ≡ Some Serve → (source.new ≡ source.old) × (clock.new ≡ clock.old) }
+    ensures apart { link.new ≡ link.old }
 {
     let mut steps = Steps::<G>::new(blank);
     run(
@@ -92,9 +96,14 @@ fn status_over<G: Ledger, S: Source, W: Sink, K: Keeper, L: Link, D: Door, C: Wa
     )
 }
 
-/// Does what the words ask for over the standard streams and this keeper, with the clock of the system.
-/// What a run that broke off has written is handed on when the writer is dropped.
-fn run_with<K: Keeper>(rt: &HostRuntime, words: &Items<Txt>, keeper: &mut K) -> ExitCode {
+/// Does what the words ask for over the standard streams, this keeper and this door, with the clock of the
+/// system. What a run that broke off has written is handed on when the writer is dropped.
+fn run_with<K: Keeper, D: Door>(
+    rt: &HostRuntime,
+    words: &Items<Txt>,
+    keeper: &mut K,
+    door: &mut D,
+) -> ExitCode {
     let alloc = rt.alloc();
     let Ok(writer) = BufWriter::new(alloc, rt.stdout()) else {
         return without_run(rt, WordFault::NoMemory);
@@ -103,7 +112,6 @@ fn run_with<K: Keeper>(rt: &HostRuntime, words: &Items<Txt>, keeper: &mut K) -> 
     let mut sink = StdoutSink::new(writer);
     let ports = Ports::new(rt);
     let mut link = ports.link;
-    let mut door = ports.door;
     let mut clock = ports.clock;
     ExitCode::from(status_over::<Brand, _, _, _, _, _, _>(
         alloc,
@@ -112,7 +120,7 @@ fn run_with<K: Keeper>(rt: &HostRuntime, words: &Items<Txt>, keeper: &mut K) -> 
         &mut sink,
         keeper,
         &mut link,
-        &mut door,
+        door,
         &mut clock,
         Blank::new(1),
     ))
@@ -131,10 +139,15 @@ fn tell_store(rt: &HostRuntime, fault: &StoreFault) {
 
 /// Runs over the store in a file, which is made where it isn't there. Where there is none, that is told, and
 /// the run goes over a keeper whose every call fails; nothing in the file has changed then.
-fn run_over_store(rt: &HostRuntime, words: &Items<Txt>, path: &str) -> ExitCode {
+fn run_over_store<D: Door>(
+    rt: &HostRuntime,
+    words: &Items<Txt>,
+    path: &str,
+    door: &mut D,
+) -> ExitCode {
     match open(rt, path) {
         Ok(mut keeper) => {
-            let status = run_with(rt, words, &mut keeper);
+            let status = run_with(rt, words, &mut keeper, door);
             // what was answered is committed already
             let _ = keeper.into_connection().close();
             status
@@ -142,13 +155,13 @@ fn run_over_store(rt: &HostRuntime, words: &Items<Txt>, path: &str) -> ExitCode 
         Err(StoreFault::NoMemory) => without_run(rt, WordFault::NoMemory),
         Err(fault) => {
             tell_store(rt, &fault);
-            run_with(rt, words, &mut ShutKeeper::new())
+            run_with(rt, words, &mut ShutKeeper::new(), door)
         }
     }
 }
 
-/// Does what the words ask for. A device with a store runs over its file, any other run keeps what it keeps
-/// in memory.
+/// Does what the words ask for. A server listens at its address; of any other run the door is shut. A device
+/// or a server with a store runs over its file, any other run keeps what it keeps in memory.
 fn main(rt: HostRuntime) -> ExitCode {
     let words = match words_of(&rt) {
         Ok(words) => words,
@@ -158,8 +171,14 @@ fn main(rt: HostRuntime) -> ExitCode {
         Ok(plan) => plan,
         Err(fault) => return without_run(&rt, fault),
     };
+    let mut door = match plan.mode {
+        Mode::Serve => TcpDoor::listen(&rt, &rt, plan.listen.as_str()),
+        Mode::Merge | Mode::Device => TcpDoor::shut(&rt),
+    };
     match (plan.mode, plan.store) {
-        (Mode::Device, Some(path)) => run_over_store(&rt, &words, path.as_str()),
-        _ => run_with(&rt, &words, &mut memory_keeper(rt.alloc())),
+        (Mode::Device | Mode::Serve, Some(path)) => {
+            run_over_store(&rt, &words, path.as_str(), &mut door)
+        }
+        _ => run_with(&rt, &words, &mut memory_keeper(rt.alloc()), &mut door),
     }
 }

@@ -1,34 +1,30 @@
-//! What the program hands to a run besides its streams and a store on a disk.
+//! What the program hands to a run besides its streams, its door and a store on a disk.
 ghost use Rattle.std.specs.Prelude.{◌≡◌, []};
 ghost use Rattle.budget_ports.specs.Calls.{no_calls};
 ghost use Rattle.budget_ports.specs.Contents.{nothing};
 
-use crate::closed_door::ClosedDoor;
 use crate::closed_link::ClosedLink;
 use crate::system_clock::SystemClock;
 use budget_ports::MemoryKeeper;
 use std::alloc::Global;
 use std::time::Clock;
 
-/// The link, the door and the clock of the program.
+/// The link and the clock of the program.
 #[derive(Drop)]
 pub struct Ports<C: Clock> {
     pub link: ClosedLink,
-    pub door: ClosedDoor,
     pub clock: SystemClock<C>,
 }
 
 impl<C: Clock> Ports<C> {
-    /// No server, no connections, and this clock, which has given no reading.
+    /// No server, and this clock, which has given no reading.
     pub fn new(clock: C) -> Ports<C>
         ensures link { result.link.faults ≡ 0 }
-        ensures door { result.door.faults ≡ 0 }
         ensures clock { result.clock.clock ≡ clock }
         ensures last { result.clock.last ≡ 0 }
     {
         Ports {
             link: ClosedLink::new(),
-            door: ClosedDoor::new(),
             clock: SystemClock::new(clock),
         }
     }

@@ -1,10 +1,12 @@
 use crate::stdin_source::StdinSource;
 use crate::stdout_sink::StdoutSink;
 use crate::system_clock::SystemClock;
-use budget_ports::{Failed, Sink, Source, WallClock};
+use crate::tcp_door::TcpDoor;
+use budget_ports::{Door, Failed, Sink, Source, WallClock};
 use std::cell::Cell;
 use std::io;
 use std::io::{ErrorKind, Read, Write};
+use std::net::{Shutdown, TcpListener, TcpStream};
 use std::test::Fail;
 use std::time::{Clock, Duration};
 
@@ -130,4 +132,32 @@ fn no_byte_taken_is_a_failure(rt: HostRuntime) {
     assert_eq!(rt; sink.write(b"abc"), Ok(2));
     assert_eq!(rt; sink.write(b"c"), Err(Failed));
     assert_eq!(rt; sink.write(b""), Ok(0));
+}
+
+/// Both ends of a connection: what one end writes the other reads. Without a connection each call fails,
+/// and so does a door at an address that is taken.
+#[test]
+fn connections_are_let_in(rt: HostRuntime) -> Result<(), Fail> {
+    let address = TcpListener::bind(&rt, "127.0.0.1:0")?.local_addr()?;
+    let text = format!(in rt.alloc(); "{address}")?;
+    let mut door = TcpDoor::listen(&rt, &rt, text.as_str());
+    let mut late = TcpDoor::listen(&rt, &rt, text.as_str());
+    assert_eq!(rt; late.accept(), Err(Failed));
+    let mut buffer = *b"....";
+    assert_eq!(rt; door.read(&mut buffer), Err(Failed));
+    let mut peer = TcpStream::connect(&rt, address)?;
+    peer.write_all(b"ask")?;
+    peer.shutdown(Shutdown::Write)?;
+    assert_eq!(rt; door.accept(), Ok(()));
+    assert_eq!(rt; door.read(&mut buffer), Ok(3));
+    assert_eq!(rt; buffer, *b"ask.");
+    assert_eq!(rt; door.read(&mut buffer), Ok(0));
+    assert_eq!(rt; door.write(b"answer"), Ok(6));
+    assert_eq!(rt; door.close(), Ok(()));
+    assert_eq!(rt; door.write(b"more"), Err(Failed));
+    assert_eq!(rt; door.close(), Err(Failed));
+    let mut came = Vec::new(rt.alloc());
+    peer.read_to_end(&mut came)?;
+    assert_eq!(rt; came.as_slice(), b"answer".as_slice());
+    Ok(())
 }

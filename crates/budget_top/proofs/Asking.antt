@@ -1,6 +1,6 @@
 -- The plan that words ask for.
 use Rattle.std.proofs.Common.{◌≡◌, ℕ, zero, suc, ◌≤◌, Bool, true, false, cond, ◌&&◌, ◌||◌, ◌==◌, not, List, [], ◌∷◌, length, Option, None, Some, ◌⊎◌, inl, inr, Result, Ok, Err, refl, ap, sym, subst, ◌∙◌, arith}
-use Rattle.std.specs.Prelude.{codes, bytes_eq, nat_le, slice_index}
+use Rattle.std.specs.Prelude.{◌≢◌, codes, bytes_eq, nat_le, slice_index}
 use Rattle.std.specs.Char.{is_ascii_digit}
 use Rattle.std.specs.List.{list_all, Contains}
 use Rattle.std.specs.Option.{unwrap_or, ok_or}
@@ -11,7 +11,7 @@ use Rattle.hybrid_clock.specs.declared.node.NodeFault.{NodeFault}
 use Rattle.hybrid_clock.specs.Node.{node_of}
 use Rattle.field_merge.proofs.Members.{here, there}
 use Rattle.budget_top.specs.declared.words.Mode.{Mode}
-use Rattle.budget_top.specs.declared.words.Mode.TheVariants.{Merge, Device}
+use Rattle.budget_top.specs.declared.words.Mode.TheVariants.{Merge, Device, Serve}
 use Rattle.budget_top.specs.declared.words.Plan.{Plan}
 use Rattle.budget_top.specs.declared.words.WordFault.{WordFault}
 use Rattle.budget_top.specs.declared.words.WordFault.TheVariants.{Mode as BadMode, Count, Token, Name}
@@ -121,23 +121,27 @@ is_store pairs (Some path) once c = given_value pairs (codes "store") path once 
 mode_is : (pairs : List Pair) (m : Mode) → mode_named (unwrap_or (value_in pairs mode) []) ≡ Ok m → IsModeOf pairs m
 mode_is pairs m e = of_given (value_in pairs mode) refl e
   where
-    named : (word : List ℕ) (merge device : Bool) → value_in pairs mode ≡ Some word → bytes_eq word (codes "merge") ≡ merge → bytes_eq word (codes "device") ≡ device
-        → cond merge (Ok Merge) (cond device (Ok Device) (Err BadMode)) ≡ Ok m → IsModeOf pairs m
-    named word true device given f g e =
+    named : (word : List ℕ) (merge device serve : Bool) → value_in pairs mode ≡ Some word → bytes_eq word (codes "merge") ≡ merge → bytes_eq word (codes "device") ≡ device → bytes_eq word (codes "serve") ≡ serve
+        → cond merge (Ok Merge) (cond device (Ok Device) (cond serve (Ok Serve) (Err BadMode))) ≡ Ok m → IsModeOf pairs m
+    named word true device serve given f g h e =
         let same : Merge ≡ m = cc in
         subst (IsModeOf pairs) same (value_given pairs mode (codes "merge") (given ∙ ap (λ x. Some x) ((bytes_eq-Decides word (codes "merge")).0 f)))
-    named word false true given f g e =
+    named word false true serve given f g h e =
         let same : Device ≡ m = cc in
         subst (IsModeOf pairs) same (value_given pairs mode (codes "device") (given ∙ ap (λ x. Some x) ((bytes_eq-Decides word (codes "device")).0 g)))
-    named word false false given f g e = absurd (cc)
+    named word false false true given f g h e =
+        let same : Serve ≡ m = cc in
+        subst (IsModeOf pairs) same (value_given pairs mode (codes "serve") (given ∙ ap (λ x. Some x) ((bytes_eq-Decides word (codes "serve")).0 h)))
+    named word false false false given f g h e = absurd (cc)
 
     of_given : (o : Option (List ℕ)) → value_in pairs mode ≡ o → mode_named (unwrap_or o []) ≡ Ok m → IsModeOf pairs m
     of_given None f e = absurd (cc)
-    of_given (Some word) f e = named word (bytes_eq word (codes "merge")) (bytes_eq word (codes "device")) f refl refl e
+    of_given (Some word) f e = named word (bytes_eq word (codes "merge")) (bytes_eq word (codes "device")) (bytes_eq word (codes "serve")) f refl refl refl e
 
 is_mode : (pairs : List Pair) (m : Mode) → each_once pairs ≡ true → IsModeOf pairs m → mode_named (unwrap_or (value_in pairs mode) []) ≡ Ok m
 is_mode pairs Merge once c = ap (λ o. mode_named (unwrap_or o [])) (given_value pairs mode (codes "merge") once c)
 is_mode pairs Device once c = ap (λ o. mode_named (unwrap_or o [])) (given_value pairs mode (codes "device") once c)
+is_mode pairs Serve once c = ap (λ o. mode_named (unwrap_or o [])) (given_value pairs mode (codes "serve") once c)
 
 node_is : (pairs : List Pair) (m : Mode) (node : Option (List ℕ)) → node_for m (value_in pairs (codes "node")) ≡ Ok node → IsNodeOf pairs m node
 node_is pairs m node e = of_given m (value_in pairs (codes "node")) refl e
@@ -150,18 +154,27 @@ node_is pairs m node e = of_given m (value_in pairs (codes "node")) refl e
 
     of_given : (m : Mode) (o : Option (List ℕ)) → value_in pairs (codes "node") ≡ o → node_for m o ≡ Ok node → IsNodeOf pairs m node
     of_given Merge None f e =
-        let same : ◌≡◌ {A = Option (List ℕ)} None node = cc in subst (IsNodeOf pairs Merge) same (value_absent pairs (codes "node") f, refl)
+        let same : ◌≡◌ {A = Option (List ℕ)} None node = cc in subst (IsNodeOf pairs Merge) same (value_absent pairs (codes "node") f, λ is. cc)
+    of_given Serve None f e =
+        let same : ◌≡◌ {A = Option (List ℕ)} None node = cc in subst (IsNodeOf pairs Serve) same (value_absent pairs (codes "node") f, λ is. cc)
     of_given Device None f e = absurd (cc)
     of_given Merge (Some text) f e = named Merge text (node_of text) f refl e
     of_given Device (Some text) f e = named Device text (node_of text) f refl e
+    of_given Serve (Some text) f e = named Serve text (node_of text) f refl e
 
 given_for : (m : Mode) (text : List ℕ) → node_for m (Some text) ≡ node_given (node_of text)
 given_for Merge text = refl
 given_for Device text = refl
+given_for Serve text = refl
+
+without : (m : Mode) → m ≢ Device → node_for m None ≡ Ok None
+without Merge other = refl
+without Device other = absurd (other refl)
+without Serve other = refl
 
 is_node : (pairs : List Pair) (m : Mode) (node : Option (List ℕ)) → each_once pairs ≡ true → IsNodeOf pairs m node → node_for m (value_in pairs (codes "node")) ≡ Ok node
 is_node pairs m None once absent =
-    ap (node_for m) (absent_value pairs (codes "node") absent.0) ∙ ap (λ (x : Mode). node_for x None) absent.1
+    ap (node_for m) (absent_value pairs (codes "node") absent.0) ∙ without m absent.1
 is_node pairs m (Some node) once (text, c, e) =
     ap (node_for m) (given_value pairs (codes "node") text once c) ∙ given_for m text ∙ ap node_given e
 

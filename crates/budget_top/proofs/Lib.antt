@@ -15,6 +15,7 @@ pub mod Serving
 pub mod Answering
 pub mod Obeying
 mod Obeyed
+mod Answered
 pub mod Keeping
 pub mod Replying
 mod Parses
@@ -32,3 +33,10 @@ pub mod CutLines
 pub mod Judged
 pub mod Merging
 pub mod Asking
+pub mod Telling
+pub mod Requests
+pub mod Growing
+pub mod Visits
+pub mod Behind
+pub mod ServeEnds
+pub mod Staying

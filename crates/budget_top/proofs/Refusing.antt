@@ -1,5 +1,6 @@
 -- A run whose words are refused.
-use Rattle.std.proofs.Common.{◌≡◌, ℕ, ◌⊎◌, inl, inr, List, Option, Some, refl, sym, subst, true≢false, arith}
+use Rattle.std.proofs.Common.{◌≡◌, ℕ, ◌⊎◌, inl, inr, List, Option, Some, refl, sym, subst, ◌∙◌, false, true≢false, arith}
+use Rattle.std.proofs.lemmas.Bool.{false≢true, eq-eqb}
 use Rattle.std.specs.Prelude.{IsErr, IsTrue, ◌==◌, Result, Ok, Err}
 use Rattle.std.specs.List.{list_any}
 use Rattle.std.specs.Option.{option_map}
@@ -12,6 +13,7 @@ use Rattle.budget_top.specs.Words.{planned, planned_mode, IsWordFault, refusal_s
 use Rattle.budget_top.specs.MergeRun.{MergeRun}
 use Rattle.budget_top.specs.Doing.{Target}
 use Rattle.budget_top.specs.Seen.{Seen}
+use Rattle.budget_top.specs.ServeRun.{AtDoor, ServeRun}
 use Rattle.budget_top.specs.DeviceRun.{device_statuses, Unopened, Opened, DeviceRun, target_of}
 use Rattle.budget_top.proofs.Running.{run_untouched}
 
@@ -59,3 +61,37 @@ device_along asked a b m n status left new_left faults new_faults old now is has
     let P : Plan → Type 0 = λ p. DeviceRun m (target_of p) status left new_left faults new_faults old now in
     let Q : List ℕ → Type 0 = λ x. DeviceRun x (target_of b) status left new_left faults new_faults old now in
     subst Q nodes (subst P same h)
+
+-- ---- the mode `serve`
+
+pub never_so : (status number : ℕ) → status ≡ number → (status == number) ≡ false → ⊥
+never_so status number is other = false≢true (sym other ∙ eq-eqb status number is)
+
+serve_untouched : (plan : Plan) (now : AtDoor) → ServeRun plan 7 now now
+serve_untouched plan now = record {
+  told = λ t. t;
+  opening = inl (record {
+    known = inr refl;
+    taken = refl;
+    waiting = refl;
+    outs = refl;
+    door_faults = refl;
+    keeper_faults = refl;
+    contents = λ t. refl;
+    stops = λ c left. inl left;
+  });
+}
+
+pub refused_serve : (words : List (List ℕ)) (fault : WordFault) (plan : Plan) (now : AtDoor) → IsWordFault (planned words) fault → planned words ≡ Ok plan → ServeRun plan (refusal_status fault) now now
+refused_serve words fault plan now h is =
+    elim (refusal (planned words) fault h) [
+      | inl p ↦ absurd (true≢false (sym (subst IsErr is p)))
+      | inr seven ↦ subst (λ s. ServeRun plan s now now) (sym seven) (serve_untouched plan now)
+    ]
+
+-- one plan is asked for
+pub serve_along : (asked : Result Plan WordFault) (a b : Plan) (status : ℕ) (old now : AtDoor) → asked ≡ Ok a → asked ≡ Ok b → ServeRun a status old now → ServeRun b status old now
+serve_along asked a b status old now is is_too h =
+    let same : a ≡ b = cc in
+    let P : Plan → Type 0 = λ p. ServeRun p status old now in
+    subst P same h

@@ -5,7 +5,7 @@ use Rattle.std.specs.List.{list_all, Contains}
 use Rattle.std.specs.Str.Parse.{digits_value}
 use Rattle.hybrid_clock.specs.Node.{node_of}
 use Rattle.budget_top.specs.declared.words.Mode.{Mode}
-use Rattle.budget_top.specs.declared.words.Mode.TheVariants.{Merge, Device}
+use Rattle.budget_top.specs.declared.words.Mode.TheVariants.{Merge, Device, Serve}
 use Rattle.budget_top.specs.declared.words.Plan.{Plan}
 use Rattle.budget_top.specs.Line.{Pair, line}
 use Rattle.budget_top.specs.Words.{is_name_byte, planned}
@@ -22,10 +22,11 @@ IsGivenOr pairs name other value = Contains pairs (name, value) ⊎ (IsAbsent pa
 abbrev pub IsModeOf : List Pair → Mode → Type 0
 IsModeOf pairs Merge = Contains pairs (codes "mode", codes "merge")
 IsModeOf pairs Device = Contains pairs (codes "mode", codes "device")
+IsModeOf pairs Serve = Contains pairs (codes "mode", codes "serve")
 
 -- the node is the one that the given text names; a device has one
 abbrev pub IsNodeOf : List Pair → Mode → Option (List ℕ) → Type 0
-IsNodeOf pairs mode None = IsAbsent pairs (codes "node") × (mode ≡ Merge)
+IsNodeOf pairs mode None = IsAbsent pairs (codes "node") × (mode ≢ Device)
 IsNodeOf pairs mode (Some node) = (text : List ℕ) × Contains pairs (codes "node", text) × (node_of text ≡ Ok node)
 
 -- the text is the plain digits of the number, which is from 1 to 1,000,000

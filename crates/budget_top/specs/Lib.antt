@@ -19,6 +19,11 @@ pub mod Handling
 pub mod Standing
 pub mod DeviceRun
 pub mod DeviceSteps
+pub mod Outside
+pub mod Serving
+pub mod Answers
+pub mod ServeRun
+pub mod ServeSteps
 pub mod Ran
 pub mod Obeying
 pub mod Valid

@@ -9,7 +9,7 @@ use Rattle.hybrid_clock.specs.declared.node.NodeFault.{NodeFault}
 use Rattle.hybrid_clock.specs.Node.{IsNode, node_of}
 use Rattle.budget_top.specs.Line.{mode, line, value_in}
 use Rattle.budget_top.specs.declared.words.Mode.{Mode}
-use Rattle.budget_top.specs.declared.words.Mode.TheVariants.{Merge, Device}
+use Rattle.budget_top.specs.declared.words.Mode.TheVariants.{Merge, Device, Serve}
 use Rattle.budget_top.specs.declared.words.Plan.{Plan}
 use Rattle.budget_top.specs.declared.words.WordFault.{WordFault}
 use Rattle.budget_top.specs.declared.words.WordFault.TheVariants.{Words, Mode as BadMode, NodeMissing, Node as BadNode, Count, Token, Name, NoMemory}
@@ -22,18 +22,22 @@ Err fault >>= next = Err fault
 
 -- the mode that a word names
 abbrev pub mode_named : List ℕ → Result Mode WordFault
-mode_named word = if bytes_eq word (codes "merge") then Ok Merge else (if bytes_eq word (codes "device") then Ok Device else Err BadMode)
+mode_named word =
+    if bytes_eq word (codes "merge") then Ok Merge else (
+    if bytes_eq word (codes "device") then Ok Device else (
+    if bytes_eq word (codes "serve") then Ok Serve else Err BadMode))
 
 -- a node that is given, in any mode
 abbrev pub node_given : Result (List ℕ) NodeFault → Result (Option (List ℕ)) WordFault
 node_given (Ok node) = Ok (Some node)
 node_given (Err fault) = Err (BadNode fault)
 
--- the node: a device has one
+-- the node: a device has one, and another mode needs none
 abbrev pub node_for : Mode → Option (List ℕ) → Result (Option (List ℕ)) WordFault
 node_for any (Some text) = node_given (node_of text)
 node_for Merge None = Ok None
 node_for Device None = Err NodeMissing
+node_for Serve None = Ok None
 
 -- whether a text has digits alone, and no `0` (48) in front
 abbrev pub is_plain_number : List ℕ → Bool

@@ -1,11 +1,12 @@
 //! One line of a device: what it asks is done, and what it made is kept before it is answered.
-ghost use Rattle.std.specs.Prelude.{◌≡◌, ◌≢◌, ◌⊎◌, ◌∷◌, [], List, Ok, Err, IfOk, IfErr, IfSome, IsSome, IsUtf8, OnOk, OnErr, IsErrOf, false};
+ghost use Rattle.std.specs.Prelude.{◌≡◌, ◌≢◌, ◌⊎◌, ◌∷◌, [], ℕ, List, Ok, Err, IfOk, IfErr, IfSome, IsSome, IsUtf8, OnOk, OnErr, IsErrOf, false};
 ghost use Rattle.field_merge.specs.declared.message.Message.{Message};
 ghost use Rattle.field_merge.specs.Messages.{IsMessage};
 ghost use Rattle.device_core.specs.Edits.{IsEdit};
 ghost use Rattle.device_core.specs.Accepting.{Brings};
 ghost use Rattle.device_core.specs.Device.{edited, received};
 ghost use Rattle.command_lines.specs.Commands.{IsRead, IsCommand};
+ghost use Rattle.command_lines.specs.Readings.{IsReading};
 ghost use Rattle.command_lines.specs.declared.command.CommandFault.TheVariants.{NoMemory as OutOfMemory};
 ghost use Rattle.budget_ports.specs.Faults.{count_after};
 ghost use Rattle.budget_ports.specs.Contents.{Contents};
@@ -98,6 +99,17 @@ fn receive<G: Ledger>(
     }
 }
 
+/// Answers a command that only reads. A device of which nothing is pending stays one that has brought nothing.
+fn read(alloc: Global, device: &Device, command: &Command) -> Result<Reply, NoMemory>
+    requires live { device.now.spent ≡ false }
+    requires idle { device.now.batch ≡ [] }
+    requires reads { IsReading command.now }
+    ensures ok { IfOk result (λ reply. (reading : ℕ) → obeyed device.now.state reading (Ok command.now) ≡ (device.now.state, reply)) }
+    ensures brings { Brings device.now.state.messages device.now }
+{
+    read_reply(alloc, device, command)
+}
+
 /// Does what a command asks, and gives the reply.
 fn obey<G: Ledger>(
     alloc: Global,
@@ -116,7 +128,7 @@ fn obey<G: Ledger>(
     match command {
         Command::Edit(edit) => make(alloc, device, steps, reading, &edit),
         Command::Receive { message } => receive(alloc, device, steps, reading, message),
-        reading_line => read_reply(alloc, device, &reading_line),
+        other => read(alloc, device, &other),
     }
 }
 

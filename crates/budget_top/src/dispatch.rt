@@ -1,11 +1,13 @@
 //! The top call.
 ghost use Rattle.std.specs.Prelude.{◌≡◌, Some, IsErr};
 ghost use Rattle.budget_top.specs.Words.{planned, planned_mode, refusal_status};
-ghost use Rattle.budget_top.specs.Ran.{outside, Ran};
+ghost use Rattle.budget_top.specs.Outside.{outside};
+ghost use Rattle.budget_top.specs.Ran.{Ran};
 
 use crate::device_run::run_device;
 use crate::merge::run_merge;
 use crate::planning::plan;
+use crate::serve_run::run_serve;
 use crate::words::{Mode, WordFault};
 use budget_ports::{Door, Keeper, Link, Sink, Source, WallClock};
 use field_values::{Items, Steps, Txt};
@@ -36,6 +38,9 @@ pub(crate) const KEEPER_FAILED: u8 = 6;
 /// Memory ran out.
 pub(crate) const NO_MEMORY: u8 = 7;
 
+/// The door failed to let a connection in.
+pub(crate) const DOOR_FAILED: u8 = 8;
+
 /// The source gave more than 1,073,741,824 bytes.
 pub(crate) const TOO_MUCH: u8 = 9;
 
@@ -51,8 +56,8 @@ pub fn refusal_status(fault: WordFault) -> u8
 
 /// Does what the words ask for, and answers the status: 0, all was done; 1, all was done, and a line was
 /// refused; 2, the words are refused, and nothing was touched; 3, a record that is kept is no message, and
-/// no line was taken; 4, 5, 6, the source, the sink or the keeper failed; 7, memory ran out; 9, the source
-/// gave more than 1,073,741,824 bytes.
+/// no line was taken; 4, 5, 6, the source, the sink or the keeper failed; 7, memory ran out; 8, the door failed
+/// to let a connection in; 9, the source gave more than 1,073,741,824 bytes.
 ///
 /// The words leave out the program's name. The first event that ends the run decides the status.
 pub fn run<S: Source, W: Sink, K: Keeper, L: Link, D: Door, C: WallClock, G: Ledger>(
@@ -62,16 +67,18 @@ pub fn run<S: Source, W: Sink, K: Keeper, L: Link, D: Door, C: WallClock, G: Led
     sink: &mut W,
     keeper: &mut K,
     link: &mut L,
-    _door: &mut D,
+    door: &mut D,
     clock: &mut C,
     steps: &mut Steps<G>,
 ) -> u8
-    ensures ran { Ran words.now result (outside (S.left source.old) (S.faults source.old) (W.taken sink.old) (W.faults sink.old) (K.tells keeper.old) (K.contents keeper.old) (K.left keeper.old) (K.faults keeper.old) (L.exchanges link.old) (L.faults link.old) (D.waiting _door.old) (D.outs _door.old) (D.faults _door.old) (C.readings clock.old)) (outside (S.left source.new) (S.faults source.new) (W.taken sink.new) (W.faults sink.new) (K.tells keeper.new) (K.contents keeper.new) (K.left keeper.new) (K.faults keeper.new) (L.exchanges link.new) (L.faults link.new) (D.waiting _door.new) (D.outs _door.new) (D.faults _door.new) (C.readings clock.new)) }
+    ensures ran { Ran words.now result (outside (S.left source.old) (S.faults source.old) (W.taken sink.old) (W.faults sink.old) (K.tells keeper.old) (K.contents keeper.old) (K.left keeper.old) (K.faults keeper.old) (L.exchanges link.old) (L.faults link.old) (D.waiting door.old) (D.outs door.old) (D.faults door.old) (C.readings clock.old)) (outside (S.left source.new) (S.faults source.new) (W.taken sink.new) (W.faults sink.new) (K.tells keeper.new) (K.contents keeper.new) (K.left keeper.new) (K.faults keeper.new) (L.exchanges link.new) (L.faults link.new) (D.waiting door.new) (D.outs door.new) (D.faults door.new) (C.readings clock.new)) }
 
     // what a run leaves alone
-    ensures untouched { IsErr (planned words.now) → (source.new ≡ source.old) × (sink.new ≡ sink.old) × (keeper.new ≡ keeper.old) × (clock.new ≡ clock.old) }
-    ensures merge_alone { planned_mode words.now ≡ Some Mode.Merge → (keeper.new ≡ keeper.old) × (clock.new ≡ clock.old) }
-    ensures apart { (link.new ≡ link.old) × (_door.new ≡ _door.old) }
+    ensures untouched { IsErr (planned words.now) → (source.new ≡ source.old) × (sink.new ≡ sink.old) × (keeper.new ≡ keeper.old) × (door.new ≡ door.old) × (clock.new ≡ clock.old) }
+    ensures merge_alone { planned_mode words.now ≡ Some Mode.Merge → (keeper.new ≡ keeper.old) × (door.new ≡ door.old) × (clock.new ≡ clock.old) }
+    ensures device_alone { planned_mode words.now ≡ Some Mode.Device → door.new ≡ door.old }
+    ensures serve_alone { planned_mode words.now ≡ Some Mode.Serve → (source.new ≡ source.old) × (clock.new ≡ clock.old) }
+    ensures apart { link.new ≡ link.old }
 {
     match plan(alloc, words) {
         Ok(plan) => match (plan.mode, plan.node) {
@@ -79,6 +86,7 @@ pub fn run<S: Source, W: Sink, K: Keeper, L: Link, D: Door, C: WallClock, G: Led
             (Mode::Device, Some(node)) => {
                 run_device(alloc, node, source, sink, keeper, link, clock, steps)
             }
+            (Mode::Serve, _) => run_serve(alloc, &plan, sink, keeper, door),
             // no plan of a device lacks its node
             (Mode::Device, None) => unreachable!(),
         },

@@ -1,5 +1,5 @@
-//! What holds of all command lines, of what a merge makes of its lines, and of what a device does at a
-//! line and replies.
+//! What holds of all command lines, of what a merge makes of its lines, of what a device does at a line and
+//! replies, and of what a server answers.
 ghost use Rattle.budget_top.specs.Written.{LinesAreWritten};
 ghost use Rattle.budget_top.specs.Replies.{RepliesAreCut};
 ghost use Rattle.budget_top.specs.Obeying.{LinesAreObeyed};
@@ -7,10 +7,12 @@ ghost use Rattle.budget_top.specs.Valid.{StatesStayValid};
 ghost use Rattle.budget_top.specs.CutLines.{LinesAreCut};
 ghost use Rattle.budget_top.specs.Merging.{MergesAgree};
 ghost use Rattle.budget_top.specs.Asking.{PlansAreAsked};
+ghost use Rattle.budget_top.specs.Answers.{AnswersStay};
 
 use command_lines::{lines_write_back, replies_are_lines};
 use device_core::{accepted_are_joined, edits_read_back, received_are_joined};
 use field_merge::latest_message;
+use sync_server::answers_tell;
 
 /// The command lines are the words that write one mode word and options, each at most once: an
 /// option as `--name=value`, or as `--name value` where the value has no hyphen in front.
@@ -72,3 +74,13 @@ pub fn merges_agree()
 pub fn plans_are_asked()
     ensures { PlansAreAsked }
 {}
+
+/// What a server answers, and that it stays. Of connections that were served one after the other over a keeper that
+/// tells, each answer of status 200 has exactly those messages of its group that were kept before it and whose timestamp's
+/// text is greater than the one asked for, from the oldest on. Whatever connections come later, the group keeps all that
+/// it had then, and the messages of the request.
+pub fn answers_stay()
+    ensures { AnswersStay }
+{
+    answers_tell();
+}

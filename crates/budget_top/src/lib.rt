@@ -1,5 +1,5 @@
 //! What the program does, from the words of the command line to the status: it merges message
-//! lines, or answers the lines of a device, over the outside that it is given.
+//! lines, answers the lines of a device, or serves the requests of devices, over the outside that it is given.
 #![tactic(auto)]
 
 mod answer;
@@ -13,8 +13,10 @@ mod line;
 mod merge;
 mod opening;
 mod planning;
+mod serve_run;
 mod session;
 mod stop;
+mod tally;
 mod values;
 mod verdict;
 mod words;
@@ -23,8 +25,8 @@ mod write;
 pub use dispatch::{refusal_status, run};
 pub use in_memory::run_in_memory;
 pub use laws::{
-    lines_are_cut, lines_are_obeyed, lines_are_written, merges_agree, plans_are_asked,
-    replies_are_cut, states_stay_valid,
+    answers_stay, lines_are_cut, lines_are_obeyed, lines_are_written, merges_agree,
+    plans_are_asked, replies_are_cut, states_stay_valid,
 };
 pub use planning::plan;
 pub use words::{Mode, Plan, WordFault};

@@ -25,6 +25,7 @@ fn mode_named(word: &str) -> Result<Mode, WordFault>
     match word {
         "merge" => Ok(Mode::Merge),
         "device" => Ok(Mode::Device),
+        "serve" => Ok(Mode::Serve),
         _ => Err(WordFault::Mode),
     }
 }
@@ -40,8 +41,8 @@ fn node_for(mode: Mode, text: Option<&str>) -> Result<Option<Node>, WordFault>
             Err(fault) => Err(WordFault::Node(fault)),
         },
         None => match mode {
-            Mode::Merge => Ok(None),
             Mode::Device => Err(WordFault::NodeMissing),
+            Mode::Merge | Mode::Serve => Ok(None),
         },
     }
 }

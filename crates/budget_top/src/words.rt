@@ -12,6 +12,8 @@ pub enum Mode {
     Merge,
     /// Answers the lines of the source as a device.
     Device,
+    /// Answers the requests of devices, one connection after the other.
+    Serve,
 }
 
 /// What the words ask for.
@@ -42,7 +44,7 @@ pub struct Plan {
 pub enum WordFault {
     /// The words are not one mode word and options, each at most once.
     Words,
-    /// The mode word is neither `merge` nor `device`.
+    /// The mode word is none of `merge`, `device` and `serve`.
     Mode,
     /// A device has no node.
     NodeMissing,

@@ -1,21 +1,20 @@
 -- A sum after the share of a transaction is added to it.
-use Rattle.std.proofs.Common.{◌≡◌, ℕ, ◌==◌, Bool, true, false, cond, List, Option, Some, None, refl, ap, sym, ◌∙◌, subst, arith}
+use Rattle.std.proofs.Common.{◌≡◌, ℕ, ◌==◌, Bool, true, false, cond, Option, Some, refl, ap, sym, ◌∙◌, subst, arith}
 use Rattle.std.specs.Prelude.{◌&&◌, unwrap_or}
 use lib.IntN.{ℤ, pos, ◌+ℤ◌}
 use Rattle.std.specs.declared.cmp.Ordering.{Ordering}
 use Rattle.std.specs.declared.cmp.Ordering.TheVariants.{Less, Equal, Greater}
 use Rattle.std.specs.Ordering.{is_eq, eq_by_cmp}
 use Rattle.std.specs.Cmp.{eq_by_cmp_equiv}
-use Rattle.std.specs.FinMap.{FinMap, get, insert, get-insert}
+use Rattle.std.specs.FinMap.{get, insert, get-insert}
 use Rattle.std.proofs.lemmas.Int.{ints}
 use Rattle.std.proofs.lemmas.Bool.Decides.{nat_tests}
 use Rattle.finite_sums.specs.Sums.{only_if}
 use Rattle.finite_sums.specs.Maps.{Text, text_cmp, some_and}
 use Rattle.finite_sums.proofs.MapSums.{both_true, and_both}
-use Rattle.finite_sums.proofs.Texts.{text_total}
 use Rattle.book_rows.specs.declared.rows.Rows.{Rows}
 use Rattle.book_rows.specs.declared.rows.TxRow.{TxRow}
-use Rattle.book_rows.specs.Live.{is_counted, category_of}
+use Rattle.book_rows.specs.Live.{is_counted}
 use Rattle.book_rows.specs.Parts.{is_text}
 use Rattle.book_rows.specs.Months.{month_of_row}
 use Rattle.envelope_cells.specs.Names.{Cells, cell_cmp, cells_total}

@@ -1,7 +1,7 @@
 -- Categories among those of groups.
-use Rattle.std.proofs.Common.{◌≡◌, ℕ, ◌+◌, Bool, true, false, cond, List, [], ◌∷◌, ◌++◌, zero, suc, refl, ap, sym, ◌∙◌, subst, arith}
+use Rattle.std.proofs.Common.{◌≡◌, Bool, true, false, cond, List, [], ◌∷◌, ◌++◌, refl, ap, sym, ◌∙◌, arith}
 use Rattle.std.specs.Prelude.{◌||◌}
-use lib.IntN.{ℤ, pos, ◌+ℤ◌}
+use lib.IntN.{ℤ}
 use Rattle.std.proofs.lemmas.Int.{ints}
 use Rattle.std.specs.List.{filter}
 use Rattle.std.specs.Ordering.{eq_by_cmp, is_eq}
@@ -11,8 +11,7 @@ use Rattle.std.specs.Cmp.{eq_by_cmp_equiv}
 use Rattle.finite_sums.specs.Sums.{total}
 use Rattle.finite_sums.specs.Maps.{Text, text_cmp, is_among}
 use Rattle.finite_sums.proofs.Texts.{text_total, text_same}
-use Rattle.finite_sums.proofs.Totals.{total-append}
-use Rattle.envelope_cells.specs.Budget.{Budget, categories_of}
+use Rattle.envelope_cells.specs.Budget.{categories_of}
 use Rattle.envelope_cells.specs.declared.groups.BudgetGroup.{BudgetGroup}
 
 is_equal : (r : Ordering) → is_eq r ≡ true → r ≡ Equal

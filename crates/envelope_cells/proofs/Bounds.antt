@@ -1,12 +1,11 @@
 -- What is added up for all months stays small: each transaction counts in one category and month, and each budget row too.
-use Rattle.std.proofs.Common.{◌≡◌, ℕ, ◌+◌, ◌-◌, ◌*◌, ◌/◌, ◌%◌, ◌==◌, ◌^◌, ◌<◌, ◌≤◌, Bool, true, false, cond, List, [], ◌∷◌, ◌++◌, Option, Some, None, zero, suc, drop, get_or, unsigned_abs, refl, ap, sym, ◌∙◌, arith}
+use Rattle.std.proofs.Common.{◌≡◌, ℕ, ◌+◌, ◌-◌, ◌*◌, ◌/◌, ◌%◌, ◌==◌, ◌<◌, ◌≤◌, Bool, true, false, cond, List, [], ◌∷◌, ◌++◌, Option, Some, None, zero, suc, drop, get_or, unsigned_abs, refl, ap, sym, ◌∙◌, arith}
 use Rattle.std.specs.Prelude.{◌&&◌}
 use lib.IntN.{ℤ, pos, ◌+ℤ◌}
 use Rattle.std.proofs.lemmas.Int.{ints}
 use Rattle.std.proofs.lemmas.Bool.Decides.{nat_tests}
 use Rattle.std.specs.Ordering.{eq_by_cmp}
-use Rattle.std.specs.Cmp.{eq_by_cmp_equiv}
-use Rattle.std.specs.FinMap.{FinMap, find, is_sorted, get, entries, entries_sorted, get-entries}
+use Rattle.std.specs.FinMap.{find, is_sorted, get, entries, entries_sorted, get-entries}
 use Rattle.finite_sums.specs.Sums.{total, only_if, weight, hits}
 use Rattle.finite_sums.specs.Maps.{Text, Texts, text_cmp, value_or_zero, some_and}
 use Rattle.finite_sums.proofs.Classes.{no_overlap}
@@ -19,9 +18,10 @@ use Rattle.book_rows.specs.Book.{HasSizes}
 use Rattle.book_rows.specs.Live.{is_counted, category_of}
 use Rattle.book_rows.specs.Parts.{is_text}
 use Rattle.book_rows.specs.Months.{month_of_row}
-use Rattle.envelope_cells.specs.Budget.{Budget, categories}
-use Rattle.envelope_cells.specs.Ids.{month_at, budget_id}
-use Rattle.envelope_cells.specs.BudgetOf.{budget_of, share, is_of, category_sum, budgeted}
+use Rattle.envelope_cells.specs.Budget.{categories}
+use Rattle.book_rows.specs.Ids.{budget_id}
+use Rattle.envelope_cells.specs.Ids.{month_at}
+use Rattle.envelope_cells.specs.BudgetOf.{budget_of, is_of, category_sum, budgeted}
 use Rattle.envelope_cells.specs.Parts.{weight_before, IsSmall}
 use Rattle.envelope_cells.proofs.Among.{same_texts, itself}
 use Rattle.envelope_cells.proofs.Lists.{weight-append, weight_le}

@@ -1,16 +1,14 @@
 -- Each category is listed once.
-use Rattle.std.proofs.Common.{◌≡◌, ℕ, ◌+◌, ◌*◌, ◌<◌, ◌≤◌, Bool, true, false, not, cond, List, [], ◌∷◌, ◌++◌, map, Option, Some, None, refl, ap, sym, ◌∙◌, arith}
+use Rattle.std.proofs.Common.{◌≡◌, ℕ, ◌+◌, ◌≤◌, Bool, true, false, not, cond, List, [], ◌∷◌, ◌++◌, map, Option, Some, None, refl, ap, sym, ◌∙◌, arith}
 use Rattle.std.specs.Prelude.{◌&&◌}
-use lib.IntN.{ℤ}
 use Rattle.std.specs.List.{filter}
 use Rattle.std.specs.declared.cmp.Ordering.{Ordering}
 use Rattle.std.specs.declared.cmp.Ordering.TheVariants.{Less, Equal, Greater}
-use Rattle.std.specs.Ordering.{eq_by_cmp, is_eq, match_ordering, int_cmp, ordering_then}
+use Rattle.std.specs.Ordering.{eq_by_cmp, match_ordering, int_cmp, ordering_then}
 use Rattle.std.specs.BTreeMap.{insert_entry}
-use Rattle.std.specs.Cmp.{eq_by_cmp_equiv}
-use Rattle.std.specs.FinMap.{FinMap, find, is_sorted, entries, entries_sorted}
+use Rattle.std.specs.FinMap.{find, is_sorted, entries, entries_sorted}
 use Rattle.finite_sums.specs.Sums.{hits}
-use Rattle.finite_sums.specs.Maps.{Text, Texts, text_cmp, some_and}
+use Rattle.finite_sums.specs.Maps.{Text, text_cmp, some_and}
 use Rattle.finite_sums.proofs.MapSums.{so, both_true, sorted_tail}
 use Rattle.finite_sums.proofs.Texts.{text_total, text_same}
 use Rattle.book_rows.specs.declared.rows.Rows.{Rows}
@@ -19,9 +17,8 @@ use Rattle.book_rows.specs.declared.rows.CategoryRow.{CategoryRow}
 use Rattle.book_rows.specs.Parts.{is_text}
 use Rattle.envelope_cells.specs.Budget.{categories_of, categories}
 use Rattle.envelope_cells.specs.declared.groups.Place.{Place}
-use Rattle.envelope_cells.specs.declared.groups.BudgetGroup.{BudgetGroup}
 use Rattle.envelope_cells.specs.Places.{place_cmp, placed, group_places, category_places, ids_of_group, with_categories}
-use Rattle.envelope_cells.specs.BudgetOf.{groups_of, budget_of}
+use Rattle.envelope_cells.specs.BudgetOf.{budget_of}
 use Rattle.envelope_cells.proofs.Rows.{absent}
 use Rattle.envelope_cells.proofs.Among.{same_texts}
 

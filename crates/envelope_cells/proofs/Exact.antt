@@ -1,5 +1,5 @@
 -- Names that are equal in their order are equal.
-use Rattle.std.proofs.Common.{◌≡◌, ℕ, ◌==◌, cond, List, refl, ap, sym, ◌∙◌}
+use Rattle.std.proofs.Common.{◌≡◌, ℕ, ◌==◌, cond, refl, ap, sym, ◌∙◌}
 use Rattle.std.specs.Ordering.{nat_cmp}
 use Rattle.std.proofs.lemmas.Map.Lookups.{exact_bytes, exact_unsigned, exact_pairs}
 use Rattle.std.specs.FinMap.{IsAntisymmetric}

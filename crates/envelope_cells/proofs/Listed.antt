@@ -1,14 +1,14 @@
 -- The groups and categories that a budget lists are the live ones.
-use Rattle.std.proofs.Common.{◌≡◌, ℕ, Bool, true, false, not, cond, List, [], ◌∷◌, ◌++◌, map, Option, Some, None, refl, ap, sym, ◌∙◌, subst}
+use Rattle.std.proofs.Common.{◌≡◌, Bool, true, false, not, cond, List, [], ◌∷◌, map, Option, Some, None, refl, ap, sym, ◌∙◌}
 use Rattle.std.specs.Prelude.{◌&&◌, ◌||◌}
 use Rattle.std.specs.List.{filter, list_any, AllByRecursion}
 use lib.IntN.{ℤ}
 use Rattle.std.specs.declared.cmp.Ordering.{Ordering}
 use Rattle.std.specs.declared.cmp.Ordering.TheVariants.{Less, Equal, Greater}
-use Rattle.std.specs.Ordering.{eq_by_cmp, is_eq, is_lt, match_ordering, int_cmp, ordering_then}
+use Rattle.std.specs.Ordering.{eq_by_cmp, is_lt, match_ordering, int_cmp}
 use Rattle.std.specs.BTreeMap.{insert_entry}
 use Rattle.std.specs.Cmp.{eq_by_cmp_equiv}
-use Rattle.std.specs.FinMap.{FinMap, find, is_sorted, entries, entries_sorted, get, get-entries}
+use Rattle.std.specs.FinMap.{find, is_sorted, entries, entries_sorted, get, get-entries}
 use Rattle.std.specs.FinMap.Entries.{below_all}
 use Rattle.finite_sums.specs.Maps.{Text, Texts, text_cmp, is_among, some_and}
 use Rattle.finite_sums.proofs.MapSums.{so, both_true, sorted_tail}
@@ -17,12 +17,12 @@ use Rattle.book_rows.specs.declared.rows.Rows.{Rows}
 use Rattle.book_rows.specs.declared.rows.GroupRow.{GroupRow}
 use Rattle.book_rows.specs.declared.rows.CategoryRow.{CategoryRow}
 use Rattle.book_rows.specs.Parts.{is_text}
-use Rattle.book_rows.specs.Live.{is_live_group, is_live_category, is_live_category_row, is_income_category, is_expense_category, has_income_group}
-use Rattle.envelope_cells.specs.Budget.{categories_of, categories, income, expense}
+use Rattle.book_rows.specs.Live.{is_live_group, is_live_category_row, has_income_group}
+use Rattle.envelope_cells.specs.Budget.{categories_of}
 use Rattle.envelope_cells.specs.declared.groups.Place.{Place}
 use Rattle.envelope_cells.specs.declared.groups.BudgetGroup.{BudgetGroup}
 use Rattle.envelope_cells.specs.Places.{place_cmp, placed, group_places, category_places, ids_of_group, with_categories}
-use Rattle.envelope_cells.specs.BudgetOf.{groups_of, budget_of}
+use Rattle.envelope_cells.specs.BudgetOf.{groups_of}
 use Rattle.envelope_cells.proofs.Rows.{absent, less_no_tie}
 use Rattle.envelope_cells.proofs.Among.{same_texts, among-append, itself}
 use Rattle.envelope_cells.proofs.Distinct.{then_equal}

@@ -1,6 +1,6 @@
 -- Loops over lists: what is done, and what the elements that are left still add.
-use Rattle.std.proofs.Common.{◌≡◌, ℕ, ◌+◌, ◌<◌, ◌≤◌, ◌*◌, List, [], ◌∷◌, ◌++◌, length, drop, get_or, zero, suc, refl, ap, sym, ◌∙◌, subst, arith, add-one, append_assoc, unsigned_abs, map, Result, Ok, Err, OnOk}
-use lib.IntN.{ℤ, pos, ◌+ℤ◌}
+use Rattle.std.proofs.Common.{◌≡◌, ℕ, ◌+◌, ◌<◌, ◌≤◌, ◌*◌, List, [], ◌∷◌, ◌++◌, length, drop, get_or, zero, suc, refl, ap, sym, ◌∙◌, arith, add-one, append_assoc, unsigned_abs, map, Result, Ok, Err, OnOk}
+use lib.IntN.{ℤ, ◌+ℤ◌}
 use Rattle.std.proofs.lemmas.Int.{ints}
 use Rattle.finite_sums.specs.Sums.{total, weight}
 

@@ -1,12 +1,11 @@
 -- What leftovers and months are made of.
-use Rattle.std.proofs.Common.{◌≡◌, ℕ, ◌+◌, Bool, true, false, cond, List, [], ◌∷◌, zero, suc, refl, ap, sym, ◌∙◌, subst, arith, add-one}
-use lib.IntN.{ℤ, pos, ◌+ℤ◌, ◌-ℤ◌, neg_ℤ}
+use Rattle.std.proofs.Common.{◌≡◌, ℕ, ◌+◌, Bool, true, false, refl, ap, ◌∙◌, arith, add-one}
+use lib.IntN.{ℤ, pos, ◌+ℤ◌, neg_ℤ}
 use lib.Signed.{◌≤ℤ◌}
 use Rattle.std.proofs.lemmas.Int.{ints, clamps}
-use Rattle.finite_sums.specs.Sums.{total}
 use Rattle.finite_sums.specs.Maps.{Text}
 use Rattle.envelope_cells.specs.Budget.{Budget}
-use Rattle.envelope_cells.specs.Cells.{rolled, taken, carried_before, buffered_before, leftover_before, leftover, taken_from, from_last_month, all_budgeted, to_budget}
+use Rattle.envelope_cells.specs.Cells.{rolled, taken, leftover, taken_from, all_budgeted}
 use Rattle.envelope_cells.specs.Laws.{LeftoversAreMade, OverspendingIsTaken, MonthsAreMade}
 use Rattle.envelope_cells.proofs.Money.{rolled_and_taken}
 

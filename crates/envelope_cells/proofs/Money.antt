@@ -1,14 +1,14 @@
 -- The money law.
-use Rattle.std.proofs.Common.{◌≡◌, ℕ, ◌+◌, Bool, true, false, not, cond, List, [], ◌∷◌, ◌++◌, zero, suc, refl, ap, sym, ◌∙◌, arith}
-use lib.IntN.{ℤ, pos, ◌+ℤ◌, ◌-ℤ◌, neg_ℤ}
+use Rattle.std.proofs.Common.{◌≡◌, ℕ, Bool, true, false, not, cond, List, [], ◌∷◌, ◌++◌, zero, suc, refl, ap, sym, ◌∙◌, arith}
+use lib.IntN.{ℤ, pos, ◌+ℤ◌}
 use Rattle.std.proofs.lemmas.Int.{ints, clamps}
 use Rattle.std.specs.List.{filter}
 use Rattle.finite_sums.specs.Sums.{total}
 use Rattle.finite_sums.specs.Maps.{Text}
 use Rattle.finite_sums.proofs.Totals.{total-append, total-plus}
-use Rattle.envelope_cells.specs.Budget.{Budget, categories_of, income, expense}
+use Rattle.envelope_cells.specs.Budget.{Budget, categories_of, expense}
 use Rattle.envelope_cells.specs.declared.groups.BudgetGroup.{BudgetGroup}
-use Rattle.envelope_cells.specs.Cells.{rolled, taken, carried_before, buffered_before, leftover_before, leftover, taken_from, total_income, last_month_overspent, all_budgeted, total_spent, to_budget_before, money_before}
+use Rattle.envelope_cells.specs.Cells.{rolled, taken, carried_before, buffered_before, leftover_before, leftover, taken_from, last_month_overspent, all_budgeted, total_spent, to_budget_before, money_before}
 use Rattle.envelope_cells.specs.Laws.{MoneyIsKept}
 
 -- what is not taken goes on

@@ -1,14 +1,13 @@
 -- What is said of a category that is not live counts nowhere.
-use Rattle.std.proofs.Common.{◌≡◌, ℕ, ◌+◌, Bool, true, false, not, cond, List, [], ◌∷◌, ◌++◌, Option, Some, None, zero, suc, refl, ap, sym, ◌∙◌, subst, arith}
-use lib.IntN.{ℤ, pos, ◌+ℤ◌, ◌-ℤ◌, neg_ℤ}
-use Rattle.std.proofs.lemmas.Int.{ints}
+use Rattle.std.proofs.Common.{◌≡◌, ℕ, Bool, true, false, not, cond, List, [], ◌∷◌, Some, None, zero, suc, refl, ap, sym, ◌∙◌}
+use lib.IntN.{ℤ, neg_ℤ}
 use Rattle.std.specs.List.{filter}
 use Rattle.std.specs.Ordering.{eq_by_cmp}
 use Rattle.finite_sums.specs.Sums.{total}
 use Rattle.finite_sums.specs.Maps.{Text, text_cmp, is_among}
-use Rattle.envelope_cells.specs.Budget.{Budget, categories_of, categories, income, expense, expense_groups}
+use Rattle.envelope_cells.specs.Budget.{Budget, categories_of, categories, expense}
 use Rattle.envelope_cells.specs.declared.groups.BudgetGroup.{BudgetGroup}
-use Rattle.envelope_cells.specs.Cells.{rolled, taken, carried_before, buffered_before, leftover_before, leftover, taken_from, total_income, last_month_overspent, all_budgeted, total_budgeted, total_spent, total_leftover, to_budget_before, to_budget, from_last_month, available_funds}
+use Rattle.envelope_cells.specs.Cells.{carried_before, buffered_before, leftover_before, leftover, taken_from, total_income, last_month_overspent, all_budgeted, total_spent, total_leftover, to_budget_before, from_last_month, available_funds}
 use Rattle.envelope_cells.specs.CellOf.{of_month, of_category, of_group, group_named, flag_value, value_of, is_of_category}
 use Rattle.envelope_cells.specs.declared.name.CellKind.{CellKind}
 use Rattle.envelope_cells.specs.declared.name.CellKind.TheVariants.{TotalIncome, FromLastMonth, AvailableFunds, LastMonthOverspent, TotalBudgeted, Buffered, ToBudget, TotalSpent, TotalLeftover, GroupSum, GroupBudget, GroupLeftover, Sum, Budget as OfBudget, Carryover, Leftover}

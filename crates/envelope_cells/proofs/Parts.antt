@@ -1,5 +1,5 @@
 -- What a sheet is made of, from what each category has.
-use Rattle.std.proofs.Common.{◌≡◌, ℕ, ◌+◌, ◌-◌, ◌*◌, ◌^◌, ◌≤◌, Bool, true, false, not, cond, List, [], ◌∷◌, ◌++◌, map, zero, suc, unsigned_abs, refl, ap, sym, ◌∙◌, arith, add-one}
+use Rattle.std.proofs.Common.{◌≡◌, ℕ, ◌+◌, ◌-◌, ◌^◌, ◌≤◌, Bool, true, false, not, cond, List, [], ◌∷◌, ◌++◌, map, zero, suc, unsigned_abs, refl, ap, ◌∙◌, arith, add-one}
 use lib.IntN.{ℤ, pos, ◌+ℤ◌, ◌-ℤ◌, neg_ℤ}
 use Rattle.std.proofs.lemmas.Int.{ints, clamps}
 use Rattle.std.specs.List.{filter}
@@ -7,10 +7,10 @@ use Rattle.finite_sums.specs.Sums.{total, only_if, weight}
 use Rattle.finite_sums.specs.Maps.{Text}
 use Rattle.finite_sums.proofs.Totals.{total-append, total-plus}
 use Rattle.envelope_cells.specs.Budget.{Budget, categories_of, categories, income, expense}
-use Rattle.envelope_cells.specs.Cells.{rolled, taken, carried_before, leftover_before, leftover, taken_from, buffered_before, to_budget_before, to_budget, from_last_month, available_funds, total_income, last_month_overspent, total_budgeted, total_spent, total_leftover, money_before}
+use Rattle.envelope_cells.specs.Cells.{rolled, taken, carried_before, leftover_before, leftover, buffered_before, to_budget_before, to_budget, from_last_month, available_funds, total_income, last_month_overspent, total_budgeted, total_spent, total_leftover, money_before}
 use Rattle.envelope_cells.specs.SheetOf.{cell, group_cells, category_cells, categories_cells, groups_cells, month_cells, sheet_of}
 use Rattle.envelope_cells.specs.Parts.{sums_before, weight_before, IsSmall, part_of, group_of, picked, part_weight, group_total, side_total, groups_weight}
-use Rattle.envelope_cells.specs.Whole.{whole_of, from_last, funds_cells, rest_cells, part_cells, parts_cells, own_cells, all_cells, cells_from, whole_value, HasAllMoney}
+use Rattle.envelope_cells.specs.Whole.{whole_of, from_last, parts_cells, own_cells, all_cells, cells_from, whole_value, HasAllMoney}
 use Rattle.envelope_cells.specs.declared.groups.BudgetGroup.{BudgetGroup}
 use Rattle.envelope_cells.specs.declared.part.GroupParts.{GroupParts}
 use Rattle.envelope_cells.specs.declared.part.Pick.{Pick}
@@ -20,13 +20,13 @@ use Rattle.envelope_cells.specs.declared.name.Cell.{Cell}
 use Rattle.envelope_cells.specs.declared.name.CellKind.TheVariants.{GroupSum, GroupBudget, GroupLeftover, ToBudget, Buffered, TotalLeftover}
 use Rattle.envelope_cells.specs.declared.name.CellKind.{CellKind}
 use Rattle.std.specs.Prelude.{unwrap_or}
-use Rattle.std.proofs.Common.{Option, Some, None}
+use Rattle.std.proofs.Common.{Some}
 use Rattle.book_rows.specs.declared.rows.Rows.{Rows}
 use Rattle.envelope_cells.specs.BudgetOf.{budget_of}
 use Rattle.envelope_cells.specs.Ids.{month_number}
 use Rattle.envelope_cells.specs.CellOf.{value_of}
 use Rattle.envelope_cells.proofs.Sheets.{sheets_tell_cells_lem}
-use Rattle.envelope_cells.proofs.Money.{total_same, total_zero, split, all_left_before, money_before_is, money_is_kept_lem}
+use Rattle.envelope_cells.proofs.Money.{total_zero, split, all_left_before, money_before_is, money_is_kept_lem}
 use Rattle.envelope_cells.proofs.Lists.{total-map, weight-map, weight-append, weight_le}
 
 -- ---- sizes

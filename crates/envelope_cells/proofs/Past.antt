@@ -1,14 +1,12 @@
 -- Month by month, what is left of a category.
-use Rattle.std.proofs.Common.{◌≡◌, ℕ, ◌+◌, ◌^◌, ◌<◌, ◌≤◌, Bool, suc, unsigned_abs, refl, ap, sym, ◌∙◌, arith, add-one}
-use lib.IntN.{ℤ, pos, ◌+ℤ◌}
-use Rattle.std.proofs.lemmas.Int.{ints}
+use Rattle.std.proofs.Common.{◌≡◌, ℕ, ◌+◌, ◌^◌, ◌<◌, ◌≤◌, suc, unsigned_abs, ap, ◌∙◌, arith, add-one}
+use lib.IntN.{ℤ, ◌+ℤ◌}
 use Rattle.finite_sums.specs.Maps.{Text}
 use Rattle.envelope_cells.specs.Budget.{Budget}
-use Rattle.envelope_cells.specs.Cells.{rolled, taken, carried_before, leftover_before, leftover, taken_from}
-use Rattle.envelope_cells.specs.Parts.{IsPast, IsMonth, sums_before, weight_before, part_of}
+use Rattle.envelope_cells.specs.Cells.{rolled, leftover_before}
+use Rattle.envelope_cells.specs.Parts.{IsPast, IsMonth, sums_before, weight_before}
 use Rattle.envelope_cells.specs.declared.part.Past.{Past}
 use Rattle.envelope_cells.specs.declared.part.Month.{Month}
-use Rattle.envelope_cells.specs.declared.part.Part.{Part}
 use Rattle.envelope_cells.proofs.Parts.{left_small, sums_small, weight_rises}
 
 module _ (b : Budget) (c : Text) where

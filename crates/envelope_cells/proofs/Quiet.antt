@@ -1,13 +1,13 @@
 -- Before the first month of a book's window there is nothing.
-use Rattle.std.proofs.Common.{◌≡◌, ℕ, ◌+◌, ◌-◌, ◌*◌, ◌/◌, ◌%◌, ◌==◌, ◌<◌, ◌≤◌, Bool, true, false, cond, List, [], ◌∷◌, ◌++◌, Option, Some, None, zero, suc, length, refl, ap, sym, ◌∙◌, subst, arith, ltb, inl, inr}
+use Rattle.std.proofs.Common.{◌≡◌, ℕ, ◌+◌, ◌-◌, ◌*◌, ◌/◌, ◌%◌, ◌==◌, ◌<◌, ◌≤◌, Bool, true, false, cond, Option, Some, None, zero, suc, length, refl, ap, sym, ◌∙◌, subst, arith, ltb, inl, inr}
 use Rattle.std.specs.Prelude.{◌&&◌}
-use lib.IntN.{ℤ, pos, ◌+ℤ◌}
+use lib.IntN.{ℤ, pos}
 use Rattle.std.proofs.lemmas.Int.{ints, clamps}
 use Rattle.std.proofs.lemmas.Bool.Decides.{nat_tests}
 use Rattle.std.specs.FinMap.{get, entries}
 use Rattle.std.specs.Char.{is_ascii_digit}
-use Rattle.finite_sums.specs.Sums.{total, only_if}
-use Rattle.finite_sums.specs.Maps.{Text, total_of, value_or_zero, some_and}
+use Rattle.finite_sums.specs.Sums.{only_if}
+use Rattle.finite_sums.specs.Maps.{Text, value_or_zero, some_and}
 use Rattle.finite_sums.proofs.MapSums.{total_same}
 use Rattle.finite_sums.proofs.Texts.{text_total, text_same}
 use Rattle.book_rows.specs.declared.rows.Rows.{Rows}
@@ -21,8 +21,9 @@ use Rattle.book_rows.proofs.Spans.{windows_span_lem}
 use Rattle.book_rows.specs.Laws.{HasRowIn}
 use Rattle.envelope_cells.specs.Budget.{Budget}
 use Rattle.envelope_cells.specs.Cells.{rolled, carried_before, leftover_before}
-use Rattle.envelope_cells.specs.Ids.{month_at, month_number, budget_id}
-use Rattle.envelope_cells.specs.BudgetOf.{budget_of, share, category_sum, budgeted, carries}
+use Rattle.book_rows.specs.Ids.{budget_id}
+use Rattle.envelope_cells.specs.Ids.{month_at, month_number}
+use Rattle.envelope_cells.specs.BudgetOf.{budget_of, share, category_sum}
 use Rattle.envelope_cells.specs.Parts.{IsPast, sums_before}
 use Rattle.envelope_cells.specs.declared.part.Past.{Past}
 use Rattle.envelope_cells.proofs.Money.{total_zero}

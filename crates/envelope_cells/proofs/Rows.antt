@@ -1,12 +1,12 @@
 -- How much the rows of a book have to add up.
-use Rattle.std.proofs.Common.{◌≡◌, ℕ, ◌+◌, ◌*◌, ◌^◌, ◌<◌, ◌≤◌, Bool, true, false, cond, List, [], ◌∷◌, Option, Some, None, length, unsigned_abs, refl, ap, sym, ◌∙◌, arith}
-use lib.IntN.{ℤ, pos, ◌+ℤ◌, neg_ℤ}
+use Rattle.std.proofs.Common.{◌≡◌, ℕ, ◌*◌, ◌^◌, ◌<◌, ◌≤◌, Bool, true, false, cond, List, [], ◌∷◌, Some, None, length, unsigned_abs, refl, ap, sym, ◌∙◌, arith}
+use lib.IntN.{ℤ}
 use Rattle.std.proofs.lemmas.Int.{ints}
 use Rattle.std.specs.declared.cmp.Ordering.{Ordering}
 use Rattle.std.specs.declared.cmp.Ordering.TheVariants.{Less, Equal, Greater}
 use Rattle.std.specs.Ordering.{eq_by_cmp, is_eq, is_lt}
-use Rattle.std.specs.Cmp.{IsTotalOrder, eq_by_cmp_equiv}
-use Rattle.std.specs.FinMap.{FinMap, find, is_sorted, get, entries, entries_sorted, get-entries, IsAntisymmetric}
+use Rattle.std.specs.Cmp.{eq_by_cmp_equiv}
+use Rattle.std.specs.FinMap.{find, is_sorted, get, entries, entries_sorted, get-entries}
 use Rattle.std.specs.FinMap.Entries.{below_all}
 use Rattle.field_values.specs.Value.{HoldsNumber}
 use Rattle.finite_sums.specs.Sums.{total, only_if, weight}
@@ -17,8 +17,8 @@ use Rattle.book_rows.specs.declared.rows.Rows.{Rows}
 use Rattle.book_rows.specs.declared.rows.TxRow.{TxRow}
 use Rattle.book_rows.specs.declared.rows.BudgetRow.{BudgetRow}
 use Rattle.book_rows.specs.Book.{HasSizes}
-use Rattle.envelope_cells.specs.BudgetOf.{share, category_sum}
-use Rattle.envelope_cells.proofs.Lists.{total_within, weight_le}
+use Rattle.envelope_cells.specs.BudgetOf.{share}
+use Rattle.envelope_cells.proofs.Lists.{total_within}
 
 -- the amounts of a transaction and of a budget row, nothing being negative
 abbrev pub tx_weight : Text × TxRow → ℕ

@@ -1,7 +1,7 @@
 -- A sheet has exactly the cells of its month.
-use Rattle.std.proofs.Common.{◌≡◌, ℕ, ◌+◌, ◌<◌, Bool, true, false, not, cond, List, [], ◌∷◌, ◌++◌, Option, Some, None, zero, suc, refl, ap, sym, ◌∙◌, subst, arith, ltb, eqb}
+use Rattle.std.proofs.Common.{◌≡◌, ℕ, ◌<◌, Bool, true, false, not, cond, List, [], ◌∷◌, ◌++◌, Option, Some, None, refl, ap, sym, ◌∙◌, arith, ltb, eqb}
 use Rattle.std.specs.Prelude.{◌||◌}
-use lib.IntN.{ℤ, pos}
+use lib.IntN.{ℤ}
 use Rattle.std.specs.List.{filter}
 use Rattle.std.specs.Ordering.{eq_by_cmp, is_eq, nat_cmp, ordering_then}
 use Rattle.std.specs.declared.cmp.Ordering.{Ordering}
@@ -11,13 +11,13 @@ use Rattle.std.proofs.lemmas.Cmp.{tied_itself}
 use Rattle.std.proofs.lemmas.Bool.Decides.{nat_tests}
 use Rattle.finite_sums.specs.Sums.{total}
 use Rattle.finite_sums.specs.Maps.{Text, text_cmp, is_among}
-use Rattle.envelope_cells.specs.Budget.{Budget, categories_of, categories, income, expense, expense_groups}
+use Rattle.envelope_cells.specs.Budget.{Budget, categories_of}
 use Rattle.envelope_cells.specs.declared.groups.BudgetGroup.{BudgetGroup}
 use Rattle.envelope_cells.specs.Cells.{leftover, total_income, from_last_month, available_funds, last_month_overspent, total_budgeted, to_budget, total_spent, total_leftover}
 use Rattle.envelope_cells.specs.Ids.{month_number}
 use Rattle.envelope_cells.specs.Names.{kind_number, cell_cmp}
 use Rattle.envelope_cells.specs.CellOf.{of_month, of_category, of_group, group_named, flag_value, value_of}
-use Rattle.envelope_cells.specs.SheetOf.{cell, month_cells, category_cells, categories_cells, group_cells, groups_cells, sheet_of, value_named}
+use Rattle.envelope_cells.specs.SheetOf.{cell, month_cells, categories_cells, group_cells, groups_cells, value_named}
 use Rattle.envelope_cells.specs.declared.name.Cell.{Cell}
 use Rattle.envelope_cells.specs.declared.name.CellName.{CellName}
 use Rattle.envelope_cells.specs.declared.name.CellKind.{CellKind}

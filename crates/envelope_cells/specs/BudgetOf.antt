@@ -10,7 +10,8 @@ use Rattle.book_rows.specs.Parts.{is_text}
 use Rattle.book_rows.specs.Months.{month_of_row}
 use Rattle.envelope_cells.specs.Budget.{Budget}
 use Rattle.envelope_cells.specs.declared.groups.BudgetGroup.{BudgetGroup}
-use Rattle.envelope_cells.specs.Ids.{month_at, budget_id, month_id}
+use Rattle.book_rows.specs.Ids.{budget_id, month_id}
+use Rattle.envelope_cells.specs.Ids.{month_at}
 use Rattle.envelope_cells.specs.Places.{placed, group_places, category_places, with_categories}
 
 -- the transaction is of the category and its day is in the month YYYYMM

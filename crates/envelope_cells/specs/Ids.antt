@@ -1,6 +1,5 @@
--- Months as numbers, and the ids of the rows that speak of a month.
-use Rattle.std.specs.Prelude.{ℕ, ◌+◌, ◌-◌, ◌*◌, ◌/◌, ◌%◌, List, [], ◌∷◌, ◌++◌}
-use Rattle.finite_sums.specs.Maps.{Text}
+-- Months as numbers.
+use Rattle.std.specs.Prelude.{ℕ, ◌+◌, ◌-◌, ◌*◌, ◌/◌, ◌%◌}
 
 -- the month YYYYMM, counted from January 1970
 abbrev pub month_number : ℕ → ℕ
@@ -9,18 +8,3 @@ month_number month = (month / 100 - 1970) * 12 + (month % 100 - 1)
 -- the month YYYYMM of a number
 abbrev pub month_at : ℕ → ℕ
 month_at m = (1970 + m / 12) * 100 + (m % 12 + 1)
-
--- the two, or the four, last digits of a number
-abbrev pub two_digits : ℕ → Text
-two_digits n = (48 + n / 10 % 10) ∷ (48 + n % 10) ∷ []
-
-abbrev pub four_digits : ℕ → Text
-four_digits n = two_digits (n / 100) ++ two_digits n
-
--- the id of the row of what a category is given in a month: YYYYMM, `-`, the category
-abbrev pub budget_id : Text → ℕ → Text
-budget_id c month = (four_digits (month / 100) ++ two_digits month) ++ 45 ∷ c
-
--- the id of the row of what is held back in a month: YYYY, `-`, MM
-abbrev pub month_id : ℕ → Text
-month_id month = four_digits (month / 100) ++ 45 ∷ two_digits month

@@ -1,10 +1,8 @@
 -- What the laws say.
-use Rattle.std.specs.Prelude.{ℕ, ◌≡◌, zero, suc, ◌+◌, ◌≤◌, Bool, true, false, not, ℤ, pos, ◌+ℤ◌, ◌-ℤ◌, ◌≤ℤ◌, List, map, Option, Some, None}
-use Rattle.finite_sums.specs.Sums.{total, hits}
+use Rattle.std.specs.Prelude.{ℕ, ◌≡◌, ◌+◌, true, false, pos, ◌+ℤ◌, ◌-ℤ◌, ◌≤ℤ◌, map, None}
+use Rattle.finite_sums.specs.Sums.{total}
 use Rattle.finite_sums.specs.Maps.{Text, text_cmp, is_among}
-use Rattle.std.specs.Ordering.{eq_by_cmp}
 use Rattle.envelope_cells.specs.Budget.{Budget, categories, income, expense}
-use Rattle.envelope_cells.specs.declared.groups.BudgetGroup.{BudgetGroup}
 use Rattle.envelope_cells.specs.Cells.{leftover, taken_from, total_income, from_last_month, available_funds, last_month_overspent, total_budgeted, to_budget, total_leftover, money}
 use Rattle.envelope_cells.specs.CellOf.{cell_of, is_of_category}
 use Rattle.envelope_cells.specs.SheetOf.{sheet_of, value_named}

@@ -5,7 +5,7 @@ use Rattle.std.specs.Ordering.{nat_cmp, ordering_then}
 use Rattle.std.specs.FinMap.{FinMap}
 use Rattle.std.specs.Cmp.{IsTotalOrder, on_total, nat_cmp_total}
 use Rattle.std.proofs.lemmas.Cmp.{then_total, nat_list_cmp_total}
-use Rattle.finite_sums.specs.Maps.{Text, text_cmp}
+use Rattle.finite_sums.specs.Maps.{text_cmp}
 use Rattle.envelope_cells.specs.declared.name.CellName.{CellName}
 use Rattle.envelope_cells.specs.declared.name.CellKind.{CellKind}
 use Rattle.envelope_cells.specs.declared.name.CellKind.TheVariants.{TotalIncome, FromLastMonth, AvailableFunds, LastMonthOverspent, TotalBudgeted, Buffered, ToBudget, TotalSpent, TotalLeftover, GroupSum, GroupBudget, GroupLeftover, Sum, Budget as OfBudget, Carryover, Leftover}

@@ -1,5 +1,5 @@
 -- What a category has in a month, and how much there is to add up.
-use Rattle.std.specs.Prelude.{◌≡◌, ℕ, zero, suc, ◌+◌, ◌≤◌, ◌^◌, Bool, ℤ, pos, ◌+ℤ◌, unsigned_abs, List, [], ◌∷◌, map, not, if◌then◌else◌}
+use Rattle.std.specs.Prelude.{◌≡◌, ℕ, zero, suc, ◌+◌, ◌≤◌, ◌^◌, Bool, ℤ, pos, ◌+ℤ◌, unsigned_abs, List, map, not, if◌then◌else◌}
 use Rattle.std.specs.Prelude.{unwrap_or}
 use Rattle.std.specs.FinMap as map
 use Rattle.finite_sums.specs.Sums.{total, only_if, weight}

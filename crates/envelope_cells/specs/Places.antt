@@ -1,5 +1,5 @@
 -- The order of groups and categories on a sheet.
-use Rattle.std.specs.Prelude.{ℕ, Bool, not, ◌&&◌, List, [], ◌∷◌, map, filter, Option}
+use Rattle.std.specs.Prelude.{Bool, not, List, [], ◌∷◌, map, filter, Option}
 use Rattle.std.specs.declared.cmp.Ordering.{Ordering}
 use Rattle.std.specs.Ordering.{int_cmp, ordering_then}
 use Rattle.std.specs.BTreeMap.{insert_entry}

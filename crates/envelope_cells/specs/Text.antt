@@ -1,5 +1,5 @@
 -- The text of a sheet.
-use Rattle.std.specs.Prelude.{ℕ, List, [], ◌∷◌, ◌++◌, codes}
+use Rattle.std.specs.Prelude.{List, [], ◌∷◌, ◌++◌, codes}
 use Rattle.std.specs.Fmt.{signed_decimal}
 use Rattle.finite_sums.specs.Maps.{Text}
 use Rattle.envelope_cells.specs.declared.name.Cell.{Cell}

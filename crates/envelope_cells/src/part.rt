@@ -10,10 +10,10 @@ ghost use Rattle.envelope_cells.specs.BudgetOf.{budget_of, category_sum, budgete
 ghost use Rattle.envelope_cells.specs.Parts.{AreSums, IsPast, IsMonth, weight_before, part_of, group_of, picked, part_weight, is_side, group_total, side_total, groups_weight};
 
 use crate::groups::BudgetGroup;
-use crate::ids::{budget_id, first_of, month_at, month_id};
+use crate::ids::{first_of, month_at};
 use crate::name::{CellKind, CellName};
 use crate::values::CellValues;
-use book_rows::Book;
+use book_rows::{Book, budget_id, month_id};
 use field_values::{Items, NoMemory, Txt};
 use std::alloc::Global;
 

@@ -71,7 +71,7 @@ pub(crate) fn outcome(
     let source_fails = row.source_fails.to_vec(rt.alloc())?;
     let sink_fails = row.sink_fails.to_vec(rt.alloc())?;
     let mut source = MemorySource::with_faults(input, source_fails);
-    let mut sink = MemorySink::with_faults(rt.alloc(), 1000, sink_fails)?;
+    let mut sink = MemorySink::with_faults(rt.alloc(), 4000, sink_fails)?;
     let words = words(rt.alloc())?;
     let mut clock = ListClock::new([1_704_448_800_000].to_vec(rt.alloc())?);
     let status = uncounted::<Brand>(

@@ -10,6 +10,8 @@ merge > Merge ................ local home home 1000 127.0.0.1:5006 127.0.0.1:500
 merge --count 5 > Merge ................ local home home 5 127.0.0.1:5006 127.0.0.1:5006
 device --node aa > Device 00000000000000aa local home home 1000 127.0.0.1:5006 127.0.0.1:5006
 --token=-t --file f_ --group=9 --count 1000000 --listen=--a --peer= --node=Z -- device > Device 000000000000000Z -t f_ 9 1000000 --a 
+serve > Serve ................ local home home 1000 127.0.0.1:5006 127.0.0.1:5006
+serve --listen 0.0.0.0:80 --token t --group g --file f --count 1000000 > Serve ................ t f g 1000000 0.0.0.0:80 127.0.0.1:5006
 merge x > Words
 merge -- x > Words
 -- merge --count 5 > Words
@@ -27,7 +29,8 @@ merge --help > Words
 merge -h > Words
 merge --version > Words
 help > Mode
-serve > Mode
+serves > Mode
+serve --count 1000001 > Count
 Merge > Mode
 - > Mode
 -- --help > Mode

@@ -1,6 +1,5 @@
 -- What is known of a store that is taken.
-use Rattle.std.proofs.Common.{◌≡◌, ◌⊎◌, false, IsTrue, inl, inr, Result, Ok, Err, IfOk, IfErr, ap, ◌∙◌}
-use Rattle.sqlite.specs.State.{HasCleanDisk}
+use Rattle.std.proofs.Common.{arith, ◌≡◌, ◌≤◌, false, IsTrue, inl, inr, Result, Ok, Err, IfOk, IfErr, ap, ◌∙◌}
 use Rattle.sqlite.specs.Held.{Held, state}
 use Rattle.sqlite.specs.Store.{Ghosts}
 use Rattle.sqlite.specs.Effect.{Database}
@@ -8,7 +7,8 @@ use Rattle.sqlite_keeper.specs.Contents.{Contents, Sound, MayLeave, contents_of,
 use Rattle.sqlite_keeper.proofs.Calls.{same_after, was_open}
 use Rattle.sqlite_keeper.specs.Queries.{LeavesAll}
 use Rattle.sqlite_keeper.specs.Tables.{keeper_schema, no_schema}
-use Rattle.sqlite_keeper.specs.Adopting.{IsInOrder, IsToTake, LeavesOrMakes, LeavesOrBegins}
+use Rattle.sqlite_keeper.specs.Adopting.{IsInOrder, IsToTake, HasReason, LeavesOrMakes, LeavesOrBegins}
+use Rattle.sqlite_keeper.proofs.CauseLemmas.{has_since}
 
 -- over the keeper's tables, in order, a connection outside a transaction is sound
 pub sound_taken : {S : Type 0} (g : Ghosts S) (h : Held S) → h.in_transaction ≡ false → (IsTrue (state g h).is_open → (state g h).now ≡ (state g h).committed) → IsInOrder g h → h.schema ≡ keeper_schema → Sound g h
@@ -51,6 +51,10 @@ pub if_both_ok : {T E : Type 0} {P Q R : T → Type 0} (r : Result T E) → ((x 
 if_both_ok (Ok x) f p q = f x p q
 if_both_ok (Err e) f p q = tt
 
+pub if_all_ok : {T E : Type 0} {P Q R X : T → Type 0} (r : Result T E) → ((x : T) → P x → Q x → R x → X x) → IfOk r P → IfOk r Q → IfOk r R → IfOk r X
+if_all_ok (Ok x) f p q s = f x p q s
+if_all_ok (Err e) f p q s = tt
+
 pub if_both_err : {T E : Type 0} {P Q R : E → Type 0} (r : Result T E) → ((x : E) → P x → Q x → R x) → IfErr r P → IfErr r Q → IfErr r R
 if_both_err (Ok x) f p q = tt
 if_both_err (Err e) f p q = f e p q
@@ -60,3 +64,11 @@ pub contents_stay : {S : Type 0} (g : Ghosts S) (old mid new : Held S) → (IsTr
     → contents_now g new ≡ contents_now g old
 contents_stay g old mid new settled all same =
     ap (λ (d : Database). contents_of d.trees) (same.0 ∙ same_after (state g old) (state g mid) (settled (was_open (state g old) (state g mid) all.back same.1)) all.back same.1)
+
+-- why a new store is shut: the first statement met a fault of the disk, or else the making has its reason
+pub reason_made : {S : Type 0} (g : Ghosts S) (old mid new : Held S) → LeavesAll g old mid → (state g mid).faults ≤ (state g new).faults → IsTrue (state g old).is_open → (IsTrue (state g mid).is_open → HasReason (state g mid) (state g new))
+    → HasReason (state g old) (state g new)
+reason_made g old mid new all counts is_open made = elim (all.closes is_open) [
+  | inl open_still ↦ has_since (state g old) (state g mid) (state g new) all.counts all.limit (made open_still)
+  | inr more ↦ inl (omega (arith, more, counts))
+]

@@ -1,6 +1,5 @@
 -- Why the first statement is refused over the keeper's tables.
-use Rattle.std.proofs.Common.{arith, ◌≡◌, ◌≢◌, ◌⊎◌, ◌≤◌, ℕ, true, false, List, [], ◌∷◌, Ok, Err, None, inl, inr, refl, sym, ap, subst, ◌∙◌, append-nil, length, IsTrue, IsSome, true≢false, Result, codes, IfErr}
-use Rattle.sqlite_value.specs.Order.{Row}
+use Rattle.std.proofs.Common.{arith, ◌≡◌, ◌≤◌, true, [], ◌∷◌, Ok, Err, inl, inr, refl, sym, ap, subst, ◌∙◌, append-nil, length, IsTrue, IsSome, true≢false, Result, codes, IfErr}
 use Rattle.sqlite_trees.specs.declared.error.StoreError.{StoreError}
 use Rattle.sqlite_trees.specs.declared.error.StoreError.TheVariants.{OutOfMemory, Io, Corrupt, Full, Broken, Unstorable}
 use Rattle.sqlite_typing.specs.Types.{accepts_program}
@@ -9,16 +8,14 @@ use Rattle.sqlite_sql.proofs.QueryLemmas.{no_fold_overflows}
 use Rattle.sqlite_resolve.specs.declared.compiled.Compiled.{Compiled}
 use Rattle.sqlite_resolve.specs.declared.error.CompileError.{CompileError}
 use Rattle.sqlite.specs.Command.TheVariants.{Select}
-use Rattle.sqlite_schema.specs.declared.command.Command.{Command}
 use Rattle.sqlite.specs.declared.error.Error.{Error}
 use Rattle.sqlite.specs.Effect.{Database, RefusesToRead}
 use Rattle.sqlite.specs.Listing.{understood, reads_listing, IsSourceOf}
-use Rattle.sqlite.specs.State.{State, Fails, HasCause, store_error, IsNoStatement, IsNotRun, FailsToQuery, FailsToShow}
-use Rattle.sqlite.specs.Clock.{timed}
+use Rattle.sqlite.specs.State.{State, Fails, HasCause, store_error, IsNoStatement, IsNotRun, FailsToQuery}
 use Rattle.sqlite.proofs.Callers.{IsPlain, command_of}
 use Rattle.sqlite_tied.specs.Compute.{everything}
 use Rattle.sqlite_keeper.specs.Tables.{keeper_schema}
-use Rattle.sqlite_keeper.specs.Adopting.{version_query, version_row, IsReason}
+use Rattle.sqlite_keeper.specs.Adopting.{version_row, HasReason, IsReason}
 use Rattle.sqlite_keeper.proofs.Texts.{get_text, get_query, get_is, get_plain, get_unlisted}
 
 -- the text has nothing behind it, and one parameter
@@ -77,9 +74,15 @@ module _ (old new : State) (e : Error) (has : old.now.schema ≡ keeper_schema) 
       let db : it.0 ≡ old.now = subst (λ b. IsSourceOf b old.now it.0) (ap (λ s. reads_listing s get_text) has ∙ get_unlisted) it.1 in
       refuses it.0 db (subst (λ k. RefusesToRead old.step_limit k it.0 version_row e) (ap command_of known) it.2)
 
--- what failed after a call that changed nothing had its reason since before it
+-- what has a reason after a call that changed nothing had it since before that call
+pub has_since : (old mid new : State) → old.faults ≤ mid.faults → mid.step_limit ≡ old.step_limit → HasReason mid new → HasReason old new
+has_since old mid new less limit (inl more) = inl (omega arith)
+has_since old mid new less limit (inr some) = inr (subst IsSome limit some)
+
+pub reason_since : (e : Error) (old mid new : State) → old.faults ≤ mid.faults → mid.step_limit ≡ old.step_limit → IsReason mid new e → IsReason old new e
+reason_since e old mid new less limit (inl memory) = inl memory
+reason_since e old mid new less limit (inr has) = inr (has_since old mid new less limit has)
+
 pub reason_after : {T : Type 0} (r : Result T Error) (old mid new : State) → old.faults ≤ mid.faults → mid.step_limit ≡ old.step_limit → IfErr r (IsReason mid new) → IfErr r (IsReason old new)
 reason_after (Ok x) old mid new less limit h = tt
-reason_after (Err e) old mid new less limit (inl memory) = inl memory
-reason_after (Err e) old mid new less limit (inr (inl more)) = inr (inl (omega arith))
-reason_after (Err e) old mid new less limit (inr (inr some)) = inr (inr (subst IsSome limit some))
+reason_after (Err e) old mid new less limit h = reason_since e old mid new less limit h

@@ -14,3 +14,7 @@ pub mod OrderLemmas
 pub mod Relisted
 pub mod AdoptLemmas
 pub mod CauseLemmas
+pub mod StopLemmas
+pub mod CreateLemmas
+pub mod InsertLemmas
+pub mod RefuseLemmas

@@ -45,11 +45,11 @@ does_create limit db text table tally after defined plain done =
     subst (λ d. Made db d table) (sym now) (record { schema = schema; empty = made.empty; others = made.others })
 
 -- the first statement of a new store, and the second
-items_made : command_of (understood no_schema items_text) ≡ CreateTable
+pub items_made : command_of (understood no_schema items_text) ≡ CreateTable
 unfolding understood everything
 items_made = refl
 
-named_made : command_of (understood (created no_schema (items 0)) named_text) ≡ CreateTable
+pub named_made : command_of (understood (created no_schema (items 0)) named_text) ≡ CreateTable
 unfolding understood everything
 named_made = refl
 
@@ -65,19 +65,19 @@ both_made limit other first second third a b none one two =
     let kept : third.trees 0 ≡ second.trees 0 = (subst (λ s. KeepsRows s.tables second.trees third.trees) mid q.others).0 in
     (q.schema ∙ ap (λ s. created s (named 0)) mid, kept ∙ zero, subst (λ s. third.trees (next_tree s) ≡ []) mid q.empty)
 
-items_plain : IsPlain (understood no_schema items_text)
+pub items_plain : IsPlain (understood no_schema items_text)
 unfolding understood everything
 items_plain = (refl, refl)
 
-named_plain : IsPlain (understood (created no_schema (items 0)) named_text)
+pub named_plain : IsPlain (understood (created no_schema (items 0)) named_text)
 unfolding understood everything
 named_plain = (refl, refl)
 
-items_whole : statement_of items_text (understood no_schema items_text) ≡ items_text
+pub items_whole : statement_of items_text (understood no_schema items_text) ≡ items_text
 unfolding understood everything
 items_whole = refl
 
-named_whole : statement_of named_text (understood (created no_schema (items 0)) named_text) ≡ named_text
+pub named_whole : statement_of named_text (understood (created no_schema (items 0)) named_text) ≡ named_text
 unfolding understood everything
 named_whole = refl
 

@@ -1,9 +1,10 @@
 -- The queries of the keeper, and what their rows are.
-use Rattle.std.specs.Prelude.{◌≡◌, ◌⊎◌, Err, ℕ, Bool, true, false, List, [], ◌∷◌, map, None, Some}
+use Rattle.std.specs.Prelude.{◌≡◌, ◌⊎◌, ◌≤◌, IsTrue, Err, ℕ, Bool, true, false, List, [], ◌∷◌, map, None, Some}
 use Rattle.std.specs.List.{AllByRecursion}
 use Rattle.std.specs.Ordering.{is_lt}
 use Rattle.std.specs.declared.cmp.Ordering.TheVariants.{Less}
 use Rattle.std.specs.FinMap.{get}
+use Rattle.sqlite_disk.specs.Disk.{MoreFaults}
 use Rattle.sqlite_value.specs.Order.{Row, column, bytes}
 use Rattle.sqlite_value.specs.declared.value.Value.TheVariants.{Text}
 use Rattle.sqlite_trees.specs.Tree.{Trees}
@@ -27,10 +28,13 @@ IsQuery sql = IsPlain (understood keeper_schema sql) × (reads_listing keeper_sc
 abbrev pub IsUnread : Schema → List ℕ → Type 0
 IsUnread schema sql = (fault : CompileError) × (understood schema sql ≡ Err fault)
 
--- nothing was changed, and a stop leaves no more
+-- nothing was changed, a stop leaves no more, and only a fault of the disk has shut the connection
 pub record LeavesAll {S : Type 0} (g : Ghosts S) (old new : Held S) : Type 0 where
   pub back : IsUnchanged (state g old) (state g new) ⊎ IsRolledBack (state g old) (state g new)
   pub left : (db : Trees) → (state g new).may_leave db → (state g old).may_leave db
+  pub counts : (state g old).faults ≤ (state g new).faults
+  pub limit : (state g new).step_limit ≡ (state g old).step_limit
+  pub closes : IsTrue (state g old).is_open → IsTrue (state g new).is_open ⊎ MoreFaults (state g old).faults (state g new).faults
 
 -- rows that show the text of a name
 pub record ShowsText (k : Contents) (name : Bytes) (rows : List Row) : Type 0 where

@@ -1,5 +1,5 @@
 //! The version of a store, and the making of a new one.
-ghost use Rattle.std.specs.Prelude.{◌≡◌, ◌↔◌, ◌≤◌, ◌⊎◌, ℕ, false, Ok, IsTrue, IfOk, IfErr, OnOk, OnErr};
+ghost use Rattle.std.specs.Prelude.{◌≡◌, ◌↔◌, ◌≤◌, ◌⊎◌, ℕ, false, Ok, Err, IsTrue, IfOk, IfErr, OnOk, OnErr};
 ghost use Rattle.sqlite.specs.State.{HasCleanDisk, Survives, ExecutesInside};
 ghost use Rattle.sqlite.specs.Held.{state};
 ghost use Rattle.sqlite.specs.Values.{bound};
@@ -71,6 +71,7 @@ fn run<S: Alter>(
     ensures same_reference { tx.new.conn.ghost_name ≡ tx.old.conn.ghost_name }
     ensures ran { HasCleanDisk (state S.Store tx.new.conn.now) → IsTrue tx.old.conn.now.in_transaction → OnOk result ((count : ℕ) × ExecutesInside 0 sql.now (bound params.now) (state S.Store tx.old.conn.now) (state S.Store tx.new.conn.now) (Ok count)) }
     ensures fell { HasCleanDisk (state S.Store tx.new.conn.now) → IsTrue tx.old.conn.now.in_transaction → OnErr result (Fell S.Store tx.old.conn.now tx.new.conn.now) }
+    ensures stopped { HasCleanDisk (state S.Store tx.new.conn.now) → IsTrue tx.old.conn.now.in_transaction → IfErr result (λ e. ExecutesInside 0 sql.now (bound params.now) (state S.Store tx.old.conn.now) (state S.Store tx.new.conn.now) (Err e)) }
     ensures survives { Survives (state S.Store tx.old.conn.now) (state S.Store tx.new.conn.now) (λ _. ⊥) }
 {
     match tx.execute(sql, params) {
@@ -85,6 +86,7 @@ fn make_in<S: Alter>(tx: &mut Transaction<'_, S>) -> Result<(), Error>
     ensures made { HasCleanDisk (state S.Store tx.new.conn.now) → Begins S.Store tx.old.conn.now → OnOk result (Makes S.Store tx.old.conn.now tx.new.conn.now) }
     ensures told { HasCleanDisk (state S.Store tx.new.conn.now) → IsTrue tx.old.conn.now.in_transaction → OnOk result (IsTrue (state S.Store tx.old.conn.now).is_open) }
     ensures fell { HasCleanDisk (state S.Store tx.new.conn.now) → IsTrue tx.old.conn.now.in_transaction → OnErr result (Fell S.Store tx.old.conn.now tx.new.conn.now) }
+    ensures reason { HasCleanDisk (state S.Store tx.new.conn.now) → Begins S.Store tx.old.conn.now → IfErr result (IsReason (state S.Store tx.old.conn.now) (state S.Store tx.new.conn.now)) }
     ensures survives { Survives (state S.Store tx.old.conn.now) (state S.Store tx.new.conn.now) (λ _. ⊥) }
 {
     run(
@@ -111,6 +113,8 @@ pub(crate) fn make<S: Alter>(conn: &mut Connection<S>) -> Result<(), Error>
     ensures told { HasCleanDisk (state S.Store conn.new) → OnOk result (IsTrue (state S.Store conn.old).is_open) }
     ensures opened { HasCleanDisk (state S.Store conn.new) → IsTrue (state S.Store conn.new).is_open → OnErr result (IsTrue (state S.Store conn.old).is_open) }
     ensures failed { HasCleanDisk (state S.Store conn.new) → IsBlank S.Store conn.old → IsTrue (state S.Store conn.new).is_open → OnErr result (IsBlank S.Store conn.new × ((state S.Store conn.new).now ≡ (state S.Store conn.old).now)) }
+    ensures reason { HasCleanDisk (state S.Store conn.new) → IsBlank S.Store conn.old → IfErr result (IsReason (state S.Store conn.old) (state S.Store conn.new)) }
+    ensures counts { (state S.Store conn.old).faults ≤ (state S.Store conn.new).faults }
     ensures left { HasCleanDisk (state S.Store conn.new) → IsBlank S.Store conn.old → (k : Contents) → MayLeave S.Store conn.new k → MayLeave S.Store conn.old k ⊎ (k ≡ new_contents) }
     ensures idle { conn.new.in_transaction ≡ false }
     ensures clean { doubt (state S.Store conn.old).is_clean ≤ doubt (state S.Store conn.new).is_clean }

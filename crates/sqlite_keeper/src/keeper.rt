@@ -1,5 +1,5 @@
 //! The keeper over a connection.
-ghost use Rattle.std.specs.Prelude.{◌≡◌, ◌≤◌, ◌⊎◌, true, false, if◌then◌else◌, Some, Result, Err, IsTrue, IfOk, IfErr};
+ghost use Rattle.std.specs.Prelude.{◌≡◌, ◌≢◌, ◌≤◌, ◌⊎◌, true, false, if◌then◌else◌, Some, Result, Err, IsTrue, IfOk, IfErr};
 ghost use Rattle.std.specs.FinMap.{get};
 ghost use Rattle.sqlite.specs.State.{HasCleanDisk};
 ghost use Rattle.sqlite.specs.Held.{state};
@@ -86,7 +86,9 @@ impl<S: Alter> SqliteKeeper<S> {
     /// The first statement asks for the text `version`. Where it is `1` the store is taken, and where it
     /// is another the fault tells it. Where the connection refuses the statement, the tables and the
     /// version are made in one commit; where it refuses that as well, the keeper is shut, its count is 1,
-    /// and the contents are as before. What `in_order` gives is what `ordered` asks.
+    /// and the contents are as before. Over an open connection to a store of this layout, or to one with
+    /// no tables, a keeper is shut only if the disk failed or a limit was set on the steps of a query.
+    /// What `in_order` gives is what `ordered` asks.
     pub fn adopt(alloc: Global, connection: Connection<S>) -> Result<SqliteKeeper<S>, Unadopted<S>>
         requires idle { connection.in_transaction ≡ false }
         requires ordered { IsInOrder S.Store connection }
@@ -98,7 +100,9 @@ impl<S: Alter> SqliteKeeper<S> {
         ensures clean { IfOk result (λ k. doubt (state S.Store connection).is_clean ≤ doubt (state S.Store k.conn).is_clean) }
         ensures version { IfErr result (λ u. connection.schema ≡ keeper_schema → HasCleanDisk (state S.Store u.connection) → TellsVersion (contents_now S.Store connection) u.fault) }
         ensures new { IfErr result (λ u. connection.schema ≡ no_schema → HasCleanDisk (state S.Store u.connection) → u.fault ≡ AdoptFault.NoMemory) }
-        ensures reason { IfOk result (λ k. k.is_shut ≡ true → connection.schema ≡ keeper_schema → IsTrue (state S.Store connection).is_open → HasCleanDisk (state S.Store k.conn) → HasReason (state S.Store connection) (state S.Store k.conn)) }
+        ensures reason { IfOk result (λ k. k.is_shut ≡ true → (connection.schema ≡ keeper_schema) ⊎ (connection.schema ≡ no_schema) → IsTrue (state S.Store connection).is_open → HasCleanDisk (state S.Store k.conn) → HasReason (state S.Store connection) (state S.Store k.conn)) }
+        ensures opened { IfOk result (λ k. k.is_shut ≡ false → (connection.schema ≡ keeper_schema) ⊎ (connection.schema ≡ no_schema) → HasCleanDisk (state S.Store k.conn) → IsTrue (state S.Store connection).is_open) }
+        ensures told { IfErr result (λ u. u.fault ≢ AdoptFault.NoMemory → connection.schema ≡ keeper_schema → HasCleanDisk (state S.Store u.connection) → IsTrue (state S.Store connection).is_open) }
         ensures shut { IfOk result (λ k. k.is_shut ≡ true → (connection.schema ≡ keeper_schema) ⊎ (connection.schema ≡ no_schema) → HasCleanDisk (state S.Store k.conn) → IsTrue (state S.Store k.conn).is_open → contents_now S.Store k.conn ≡ contents_now S.Store connection) }
         ensures left { IfOk result (λ k. IsToTake S.Store connection k.conn → HasCleanDisk (state S.Store k.conn) → LeavesOrBegins S.Store connection k.conn) }
         ensures left_back { IfErr result (λ u. IsToTake S.Store connection u.connection → HasCleanDisk (state S.Store u.connection) → LeavesOrBegins S.Store connection u.connection) }
@@ -162,6 +166,9 @@ impl<S: Alter> SqliteKeeper<S> {
         ensures alone { IfOk result (λ k. IsAlone (TellsAll S.Store k) (contents_now S.Store k.conn) (MayBeLeft S.Store k)) }
         ensures ours { IfOk result (λ k. k.is_ours ≡ true → IsTrue is_new) }
         ensures shut { IfOk result (λ k. k.is_shut ≡ true → IsTrue is_new → HasCleanDisk (state S.Store k.conn) → IsTrue (state S.Store k.conn).is_open → ((state S.Store k.conn).now ≡ (state S.Store connection).now) × IsTrue (state S.Store connection).is_open) }
+        ensures reason { IfOk result (λ k. k.is_shut ≡ true → IsTrue is_new → IsTrue (state S.Store connection).is_open → HasCleanDisk (state S.Store k.conn) → HasReason (state S.Store connection) (state S.Store k.conn)) }
+        ensures opened { IfOk result (λ k. k.is_shut ≡ false → HasCleanDisk (state S.Store k.conn) → IsTrue (state S.Store connection).is_open) }
+        ensures counts { IfOk result (λ k. (state S.Store connection).faults ≤ (state S.Store k.conn).faults) }
         ensures left { IfOk result (λ k. IsTrue is_new → HasCleanDisk (state S.Store k.conn) → IsTrue (state S.Store k.conn).is_open → LeavesOrMakes S.Store connection k.conn) }
         ensures left_back { IfErr result (λ u. IsTrue is_new → HasCleanDisk (state S.Store u.connection) → IsTrue (state S.Store u.connection).is_open → LeavesOrMakes S.Store connection u.connection) }
         ensures fault { IfErr result (λ u. u.fault ≡ AdoptFault.NoMemory) }

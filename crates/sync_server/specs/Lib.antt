@@ -1,2 +1,13 @@
 pub mod Answer
+pub mod Asking
+pub mod Headers
+pub mod Heads
+pub mod Keeping
 pub mod Laws
+pub mod Outside
+pub mod Replies
+pub mod Serving
+pub mod State
+pub mod Taking
+pub mod Texts
+pub mod Written

@@ -1,6 +1,8 @@
-use Rattle.std.proofs.Common.{rules}
+use Rattle.std.proofs.Common.{rules, ap, sym}
+use Rattle.budget_ports.specs.Faults.{count_after}
+use Rattle.budget_top.specs.Words.{planned}
 use Rattle.budget_top.specs.DeviceRun.{target_of}
-use Rattle.budget_top.proofs.Refusing.{refused_merge, device_not_refused, device_along}
+use Rattle.budget_top.proofs.Refusing.{refused_merge, device_not_refused, device_along, never_so, refused_serve, serve_along}
 use Rattle.budget_top.proofs.dispatch.run.Goals as goal
 
 pub returns-clause-ran : goal.returns-clause-ran
@@ -9,6 +11,7 @@ returns-clause-ran g c = record {
   refused = search rules;
   merge = λ named. rw c.refusal_status.ensures (refused_merge c.args.words.now c.in-Err.fault (g.S.Source.left c.args.source.now) (g.W.Sink.taken c.args.sink.now) c.in-Err.ensures.err named);
   device = search rules;
+  serve = λ plan is mode. rw c.refusal_status.ensures (refused_serve c.args.words.now c.in-Err.fault plan _ c.in-Err.ensures.err is);
   source = search rules;
   sink = search rules;
   keeper = λ mode named ends. search rules;
@@ -21,7 +24,20 @@ returns-in-Device-Some-clause-ran g c = record {
   merge = search rules;
   device = λ plan node is mode has.
       device_along _ c.in-Ok.plan plan c.in-Device-Some.node node _ _ _ _ _ _ _ c.in-Ok.ensures.ok c.in-Device-Some.is-1 is has (c.run_device.ensures.run (target_of c.in-Ok.plan));
+  serve = search rules;
   source = search rules;
   sink = search rules;
   keeper = λ mode named ends. c.run_device.ensures.keeper;
+}
+
+pub returns-in-Serve-default-clause-ran : goal.returns-in-Serve-default-clause-ran
+returns-in-Serve-default-clause-ran g c = record {
+  words = λ two. absurd (never_so c.run_serve.result 2 two c.run_serve.ensures.words);
+  refused = search rules;
+  merge = search rules;
+  device = search rules;
+  serve = λ plan is mode. serve_along (planned c.args.words.now) c.in-Ok.plan plan c.run_serve.result _ _ c.in-Ok.ensures.ok is c.run_serve.ensures.run;
+  source = ap (λ b. count_after b (g.S.Source.faults c.args.source.now)) (sym c.run_serve.ensures.source);
+  sink = λ other. c.run_serve.ensures.sink;
+  keeper = λ mode named ends. search rules;
 }

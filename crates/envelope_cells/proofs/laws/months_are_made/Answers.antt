@@ -1,4 +1,3 @@
-use Rattle.envelope_cells.proofs.Parts.{has_all_money}
 use Rattle.envelope_cells.proofs.Made.{months_are_made_lem}
 use Rattle.envelope_cells.proofs.laws.months_are_made.Goals as goal
 

@@ -1,9 +1,9 @@
-use Rattle.std.proofs.Common.{◌≡◌, ℕ, ◌+◌, ◌<◌, ◌≤◌, ◌^◌, List, map, refl, ap, sym, ◌∙◌, subst, arith}
+use Rattle.std.proofs.Common.{◌+◌, ◌≤◌, ◌^◌, List, map, ap, sym, ◌∙◌, subst, arith}
 use Rattle.finite_sums.specs.Sums.{weight}
 use Rattle.envelope_cells.specs.declared.groups.BudgetGroup.{BudgetGroup}
 use Rattle.envelope_cells.specs.declared.part.GroupParts.{GroupParts}
 use Rattle.envelope_cells.specs.Budget.{categories, categories_of}
-use Rattle.envelope_cells.specs.BudgetOf.{budget_of, groups_of}
+use Rattle.envelope_cells.specs.BudgetOf.{budget_of}
 use Rattle.envelope_cells.specs.Parts.{group_of, groups_weight, weight_before, IsSmall}
 use Rattle.envelope_cells.proofs.Bounds.{rows_are_small}
 use Rattle.envelope_cells.proofs.Parts.{groups_small}

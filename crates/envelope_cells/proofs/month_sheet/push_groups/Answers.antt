@@ -1,6 +1,6 @@
-use Rattle.std.proofs.Common.{◌≡◌, ◌++◌, ◌∷◌, [], ap, sym, ◌∙◌, refl, arith, drop, ◌+◌, ◌≤◌, ◌^◌, append_assoc}
+use Rattle.std.proofs.Common.{◌++◌, ap, ◌∙◌, refl, arith, drop, ◌+◌, append_assoc}
 use Rattle.finite_sums.specs.Sums.{weight}
-use Rattle.envelope_cells.specs.Parts.{groups_weight, part_weight}
+use Rattle.envelope_cells.specs.Parts.{part_weight}
 use Rattle.envelope_cells.specs.Whole.{all_cells, own_cells, parts_cells}
 use Rattle.envelope_cells.proofs.Lists.{turn, weight_here}
 use Rattle.envelope_cells.proofs.month_sheet.push_groups.Goals as goal

@@ -1,4 +1,4 @@
-use Rattle.std.proofs.Common.{◌≡◌, ◌++◌, ap, sym, ◌∙◌, refl, arith, drop, ◌+◌}
+use Rattle.std.proofs.Common.{◌++◌, ap, ◌∙◌, refl, arith, drop, ◌+◌}
 use Rattle.envelope_cells.specs.Whole.{parts_cells, part_cells}
 use Rattle.envelope_cells.proofs.Lists.{turn}
 use Rattle.envelope_cells.proofs.month_sheet.push_parts.Goals as goal

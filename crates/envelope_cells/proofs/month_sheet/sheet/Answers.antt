@@ -1,9 +1,9 @@
-use Rattle.std.proofs.Common.{◌≡◌, ◌++◌, ℕ, rules, ap, sym, ◌∙◌, to_z, of_z}
+use Rattle.std.proofs.Common.{◌++◌, rules, ap, ◌∙◌, to_z, of_z}
 use mir.Syntax.{w64}
 use mir.Val.{SFits}
 use Rattle.std.proofs.lemmas.Int.{to_z-of_z}
 use Rattle.envelope_cells.specs.BudgetOf.{budget_of, groups_of}
-use Rattle.envelope_cells.specs.SheetOf.{sheet_of, month_cells, groups_cells}
+use Rattle.envelope_cells.specs.SheetOf.{month_cells, groups_cells}
 use Rattle.envelope_cells.proofs.Parts.{made, has_all_money}
 use Rattle.envelope_cells.proofs.month_sheet.sheet.Goals as goal
 

@@ -1,4 +1,4 @@
-use Rattle.std.proofs.Common.{◌≡◌, ◌<◌, ◌≤◌, arith}
+use Rattle.std.proofs.Common.{arith}
 use Rattle.envelope_cells.proofs.Quiet.{quiet_none, quiet_some}
 use Rattle.envelope_cells.proofs.part.first_month.Goals as goal
 

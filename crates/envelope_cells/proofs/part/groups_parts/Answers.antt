@@ -1,10 +1,10 @@
-use Rattle.std.proofs.Common.{◌≡◌, ◌++◌, ◌∷◌, [], map, ap, sym, ◌∙◌, refl, arith, drop, ◌+◌, ◌≤◌, ◌^◌, ◌<◌, ℕ, List, length, get_or, suc, zero}
+use Rattle.std.proofs.Common.{◌≡◌, ◌++◌, ◌∷◌, [], map, ap, ◌∙◌, refl, arith, drop, ◌+◌, ◌≤◌, ◌<◌, ℕ, List, length, get_or, suc, zero}
 use Rattle.finite_sums.specs.Sums.{weight}
 use Rattle.finite_sums.specs.Maps.{Text}
 use Rattle.envelope_cells.specs.Budget.{categories_of}
 use Rattle.envelope_cells.specs.declared.groups.BudgetGroup.{BudgetGroup}
 use Rattle.envelope_cells.specs.BudgetOf.{budget_of}
-use Rattle.envelope_cells.specs.Parts.{group_of, part_of, weight_before}
+use Rattle.envelope_cells.specs.Parts.{group_of, weight_before}
 use Rattle.envelope_cells.proofs.Lists.{turn, weight-append}
 use Rattle.envelope_cells.proofs.part.groups_parts.Goals as goal
 

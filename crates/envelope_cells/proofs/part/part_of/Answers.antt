@@ -1,4 +1,4 @@
-use Rattle.std.proofs.Common.{◌≡◌, ◌+◌, ◌≤◌, ◌^◌, unsigned_abs, arith}
+use Rattle.std.proofs.Common.{◌+◌, ◌≤◌, ◌^◌, unsigned_abs, arith}
 use Rattle.envelope_cells.specs.BudgetOf.{budget_of}
 use Rattle.envelope_cells.proofs.Past.{left_within, moved_within, sum_within}
 use Rattle.envelope_cells.proofs.part.part_of.Goals as goal

@@ -1,4 +1,4 @@
-use Rattle.std.proofs.Common.{◌≡◌, ◌++◌, ◌∷◌, [], map, ap, sym, ◌∙◌, refl, arith, drop, ◌+◌, ◌≤◌, ◌^◌}
+use Rattle.std.proofs.Common.{◌++◌, ◌∷◌, [], map, ap, ◌∙◌, refl, arith, drop, ◌+◌}
 use Rattle.envelope_cells.specs.BudgetOf.{budget_of}
 use Rattle.envelope_cells.specs.Parts.{part_of, weight_before}
 use Rattle.envelope_cells.proofs.Lists.{turn, weight_here}

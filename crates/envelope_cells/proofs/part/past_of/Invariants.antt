@@ -1,4 +1,3 @@
-use Rattle.std.proofs.Common.{◌≡◌}
 use Rattle.envelope_cells.specs.BudgetOf.{budget_of}
 use Rattle.envelope_cells.specs.Parts.{IsPast}
 use Rattle.envelope_cells.proofs.part.past_of.Given as goal

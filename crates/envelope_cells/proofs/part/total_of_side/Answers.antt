@@ -1,13 +1,13 @@
-use Rattle.std.proofs.Common.{◌≡◌, ◌+◌, ◌*◌, ◌≤◌, ◌^◌, ◌+ℤ◌, Bool, true, false, unsigned_abs, rules, arith, drop, to_z, of_z, ap}
+use Rattle.std.proofs.Common.{◌≡◌, ◌+◌, ◌*◌, ◌≤◌, ◌+ℤ◌, Bool, true, false, unsigned_abs, rules, arith, drop, to_z, ap}
 use mir.Syntax.{w128}
 use mir.Val.{SFits}
 use Rattle.std.proofs.lemmas.Int.{ints}
-use lib.IntN.{ℤ, pos}
+use lib.IntN.{ℤ}
 use Rattle.std.proofs.Common.{ℕ}
 use Rattle.finite_sums.specs.Sums.{total, weight, only_if}
 use Rattle.envelope_cells.specs.declared.part.GroupParts.{GroupParts}
 use Rattle.envelope_cells.specs.declared.part.Pick.{Pick}
-use Rattle.envelope_cells.specs.Parts.{picked, part_weight, is_side, group_total, side_total}
+use Rattle.envelope_cells.specs.Parts.{picked, part_weight, is_side, group_total}
 use Rattle.envelope_cells.proofs.Lists.{weight_here, total_within, sum_within, sum_turn, sum_ended}
 use Rattle.envelope_cells.proofs.part.total_of_side.Goals as goal
 

@@ -1,4 +1,4 @@
-use Rattle.std.proofs.Common.{◌≡◌, ap, sym, ◌∙◌, rules, arith, to_z, of_z, Some, ◌/◌}
+use Rattle.std.proofs.Common.{◌≡◌, ap, sym, ◌∙◌, rules, arith, to_z, of_z, ◌/◌}
 use lib.IntN.{◌+ℤ◌}
 use mir.Val.{SFits}
 use mir.Syntax.{w64, w128}

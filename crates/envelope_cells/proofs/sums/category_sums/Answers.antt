@@ -1,4 +1,4 @@
-use Rattle.std.proofs.Common.{◌≡◌, ℕ, ◌+ℤ◌, ◌+◌, ◌*◌, ◌<◌, ◌≤◌, ◌^◌, List, ◌∷◌, ap, sym, ◌∙◌, arith, length, unsigned_abs, rules}
+use Rattle.std.proofs.Common.{◌≡◌, ◌+◌, ◌≤◌, ◌∷◌, ap, ◌∙◌, arith, length, unsigned_abs, rules}
 use Rattle.std.specs.Map.Iter.{deref_pair}
 use Rattle.std.specs.FinMap.{entries, get-empty}
 use Rattle.std.specs.Prelude.{unwrap_or}

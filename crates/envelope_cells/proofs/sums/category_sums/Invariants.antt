@@ -1,4 +1,4 @@
-use Rattle.std.proofs.Common.{◌≡◌, ℕ, ◌+ℤ◌, ◌+◌, ◌*◌, ◌^◌, ◌≤◌, length, unsigned_abs}
+use Rattle.std.proofs.Common.{◌≡◌, ℕ, ◌+ℤ◌, ◌+◌, ◌*◌, ◌≤◌, length}
 use Rattle.std.specs.FinMap.{entries}
 use Rattle.finite_sums.specs.Sums.{total, weight}
 use Rattle.finite_sums.specs.Maps.{Text}

@@ -1,4 +1,4 @@
-use Rattle.std.proofs.Common.{◌≡◌, ◌++◌, ap, sym, ◌∙◌, refl, arith, drop, ◌+◌, string_bytes}
+use Rattle.std.proofs.Common.{◌++◌, ap, ◌∙◌, refl, arith, drop, ◌+◌, string_bytes}
 use Rattle.envelope_cells.specs.Text.{sheet_text, cell_line}
 use Rattle.envelope_cells.proofs.Lists.{turn}
 use Rattle.envelope_cells.proofs.text.sheet_text.Goals as goal

@@ -1,11 +1,11 @@
-use Rattle.std.proofs.Common.{◌≡◌, rules, to_z, of_z, true, false, pos, ◌+ℤ◌, ◌-ℤ◌, ap, ◌∙◌}
+use Rattle.std.proofs.Common.{◌≡◌, rules, to_z, of_z, true, false, ◌+ℤ◌, ◌-ℤ◌, ap, ◌∙◌}
 use lib.IntN.{neg_ℤ}
 use mir.Syntax.{w64, w128}
 use mir.Val.{SFits}
 use Rattle.std.proofs.lemmas.Int.{to_z-of_z}
 use Rattle.envelope_cells.specs.Parts.{side_total}
 use Rattle.envelope_cells.specs.Whole.{from_last}
-use Rattle.envelope_cells.specs.declared.part.Pick.TheVariants.{Sum, Budget as OfBudget, Leftover, Before, Taken, Moved}
+use Rattle.envelope_cells.specs.declared.part.Pick.TheVariants.{Sum, Budget as OfBudget, Leftover, Taken}
 use Rattle.envelope_cells.proofs.whole.whole_of.Goals as goal
 
 pub returns : goal.returns

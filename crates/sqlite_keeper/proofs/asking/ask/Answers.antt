@@ -68,6 +68,9 @@ returns-in_err-_ready-clause-unread g c clean unread =
       record {
         back = not_run _ [] _ _ _ (c.in_err-_ready.ensures.err clean []);
         left = λ db left. elim (c.prepare.ensures.survives.crash clean db left) [ inl there ↦ there | inr never ↦ absurd never ];
+        counts = c.prepare.ensures.survives.counts;
+        limit = c.prepare.ensures.survives.limit;
+        closes = c.prepare.ensures.survives.closes clean;
       },
       none,
     )

@@ -1,0 +1,38 @@
+-- Commands that only read: they leave the state, and are answered.
+use Rattle.std.proofs.Common.{◌≡◌, ℕ, sym, ap, Result, Ok, Err, IfOk, OnOk}
+use Rattle.device_core.specs.Device.{State}
+use Rattle.command_lines.specs.declared.command.Command.{Command}
+use Rattle.command_lines.specs.declared.command.Command.TheVariants.{Edit, Receive, Fields, Messages, Value, Trie, Balance, Register, Cell, Sheet}
+use Rattle.command_lines.specs.declared.reply.Reply.{Reply}
+use Rattle.command_lines.specs.Readings.{answer, IsReading}
+use Rattle.budget_top.specs.Session.{obeyed}
+
+-- such a command is obeyed so, with this reply
+abbrev IsObeyed : State → Command → Reply → ℕ → Type 0
+IsObeyed s command reply reading = obeyed s reading (Ok command) ≡ (s, reply)
+
+replied : (s : State) (command : Command) (reply : Reply) → IsReading command → reply ≡ answer s.messages command → (reading : ℕ) → IsObeyed s command reply reading
+replied s (Edit edit) reply h e reading = absurd h
+replied s (Receive message) reply h e reading = absurd h
+replied s Fields reply h e reading = ap (λ (r : Reply). (s, r)) (sym e)
+replied s (Messages since) reply h e reading = ap (λ (r : Reply). (s, r)) (sym e)
+replied s (Value dataset row column) reply h e reading = ap (λ (r : Reply). (s, r)) (sym e)
+replied s Trie reply h e reading = ap (λ (r : Reply). (s, r)) (sym e)
+replied s (Balance account) reply h e reading = ap (λ (r : Reply). (s, r)) (sym e)
+replied s (Register account) reply h e reading = ap (λ (r : Reply). (s, r)) (sym e)
+replied s (Cell month name) reply h e reading = ap (λ (r : Reply). (s, r)) (sym e)
+replied s (Sheet month) reply h e reading = ap (λ (r : Reply). (s, r)) (sym e)
+
+pub reads : {E : Type 0} (s : State) (command : Command) (result : Result Reply E) → IsReading command → IfOk result (λ reply. reply ≡ answer s.messages command)
+    → IfOk result (λ reply. (reading : ℕ) → obeyed s reading (Ok command) ≡ (s, reply))
+reads s command (Ok reply) h e = replied s command reply h e
+reads s command (Err fault) h e = tt
+
+pub at_reading : {E : Type 0} (s : State) (command : Command) (reading : ℕ) (result : Result Reply E) → IfOk result (λ reply. (at : ℕ) → obeyed s at (Ok command) ≡ (s, reply))
+    → IfOk result (λ reply. obeyed s reading (Ok command) ≡ (s, reply))
+at_reading s command reading (Ok reply) h = h reading
+at_reading s command reading (Err fault) h = tt
+
+pub on_any : {T E P : Type 0} (result : Result T E) → P → OnOk result P
+on_any (Ok value) p = p
+on_any (Err fault) p = tt

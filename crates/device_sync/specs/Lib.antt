@@ -1,0 +1,7 @@
+pub mod Replies
+pub mod Judged
+pub mod Requests
+pub mod Talk
+pub mod Honest
+pub mod Laws
+pub mod Sync
