@@ -15,12 +15,13 @@ use Rattle.field_merge.specs.Log.{IsRising}
 use Rattle.field_merge.specs.Messages.{message_line, AreMessages}
 use Rattle.minute_trie.specs.Trie.{Pair, stamp_pair, trie_of}
 use Rattle.minute_trie.specs.Faults.{fault_of_text, map_of_text}
-use Rattle.command_lines.specs.declared.command.Command.TheVariants.{Fields, Messages, Value, Trie, Balance, Register, Cell, Sheet}
+use Rattle.command_lines.specs.declared.command.Command.TheVariants.{Fields, Messages, Value, Trie, Balance, Register, Cell, Sheet, Broken}
 use Rattle.command_lines.specs.declared.reply.Reply.TheVariants.{Done}
 use Rattle.field_merge.specs.Lines.{ended}
 use Rattle.book_rows.specs.Live.{is_live_account}
 use Rattle.book_rows.specs.Balances.{balance_of}
 use Rattle.book_rows.specs.Months.{is_month}
+use Rattle.split_transfer.specs.Broken.{broken}
 use Rattle.envelope_cells.specs.declared.name.CellName.{CellName}
 use Rattle.envelope_cells.specs.declared.name.CellKind.{CellKind}
 use Rattle.envelope_cells.specs.BudgetOf.{budget_of}
@@ -76,6 +77,8 @@ pub record BooksAreTold (ms : List Message) : Type 0 where
   pub no_kind : (month : ℕ) (text : List ℕ) → is_month month ≡ true → ((name : CellName) → MayHaveId name.kind name.id → name_text name ≢ text) → answer ms (Cell month text) ≡ faulty 2
   -- `sheet` of a month: the lines of its sheet
   pub sheet : (month : ℕ) → is_month month ≡ true → (lines : List (List ℕ)) × (answer ms (Sheet month) ≡ Done lines) × (flat_map ended lines ≡ sheet_text (sheet_of (budget_of (rows_of ms)) month))
+  -- `broken`: the lines that tell which pairs and splits are wrong
+  pub broken : (lines : List (List ℕ)) × (answer ms Broken ≡ Done lines) × (flat_map ended lines ≡ broken (rows_of ms))
   -- `cell` and `sheet` of no month
   pub no_cell : (month : ℕ) (text : List ℕ) → is_month month ≡ false → answer ms (Cell month text) ≡ bad_month month
   pub no_sheet : (month : ℕ) → is_month month ≡ false → answer ms (Sheet month) ≡ bad_month month

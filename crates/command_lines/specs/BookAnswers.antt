@@ -1,6 +1,7 @@
 -- What the lines that ask of the books are answered, of a book's rows.
-use Rattle.std.specs.Prelude.{ℕ, ℤ, List, [], ◌∷◌, ◌++◌, map as list_map, Option, None, Some, if◌then◌else◌}
+use Rattle.std.specs.Prelude.{ℕ, ℤ, ◌-◌, ◌==◌, List, [], ◌∷◌, ◌++◌, length, take, map as list_map, Option, None, Some, if◌then◌else◌}
 use Rattle.std.specs.Fmt.{signed_decimal}
+use Rattle.std.specs.List.{slice_split}
 use Rattle.finite_sums.specs.Maps.{Text}
 use Rattle.book_rows.specs.declared.rows.Rows.{Rows}
 use Rattle.book_rows.specs.Live.{is_live_account}
@@ -12,6 +13,7 @@ use Rattle.envelope_cells.specs.BudgetOf.{budget_of}
 use Rattle.envelope_cells.specs.CellOf.{cell_of}
 use Rattle.envelope_cells.specs.SheetOf.{sheet_of}
 use Rattle.envelope_cells.specs.Text.{kind_text}
+use Rattle.split_transfer.specs.Broken.{broken}
 use Rattle.command_lines.specs.declared.reply.Reply.{Reply}
 use Rattle.command_lines.specs.declared.reply.Reply.TheVariants.{Done}
 use Rattle.command_lines.specs.Refusals.{no_such_account, no_such_group, no_such_category, bad_month}
@@ -49,3 +51,15 @@ cell_text c = kind_text c.name.kind ++ c.name.id ++ 32 ∷ signed_decimal c.valu
 -- `sheet`: all cells of a month
 abbrev pub sheet_answer : Rows → ℕ → Reply
 sheet_answer rows month = if is_month month then Done (list_map cell_text (sheet_of (budget_of rows) month)) else bad_month month
+
+-- the pieces of a text that its line feeds cut
+abbrev pub pieces : Text → List Text
+pieces text = slice_split (λ b. b == 10) text
+
+-- the lines of a text, of which each has its end: all pieces but the last
+abbrev pub lines_of : Text → List Text
+lines_of text = take (length (pieces text) - 1) (pieces text)
+
+-- `broken`: the lines that tell which pairs and splits are wrong
+abbrev pub broken_answer : Rows → Reply
+broken_answer rows = Done (lines_of (broken rows))

@@ -1,19 +1,24 @@
 -- The lines of a device: which words each has, and what it commands.
-use Rattle.std.specs.Prelude.{◌≡◌, ℕ, List, [], ◌∷◌, length, Bool, nat_lt, if◌then◌else◌, codes, Result, Ok, Err}
+use Rattle.std.specs.Prelude.{◌≡◌, ℕ, List, [], ◌∷◌, length, map, Bool, nat_lt, if◌then◌else◌, codes, Result, Ok, Err}
 use Rattle.std.specs.Str.{bytes_eq}
 use Rattle.field_values.specs.Names.{field_of}
 use Rattle.field_values.specs.Value.{value_of}
 use Rattle.field_merge.specs.Lines.{parts}
 use Rattle.field_merge.specs.Messages.{IsMessage, message_of}
-use Rattle.device_core.specs.declared.edit.Edit.TheVariants.{Book}
+use Rattle.device_core.specs.declared.edit.Edit.TheVariants.{Book, Pair}
 use Rattle.device_core.specs.Edits.{IsEdit}
 use Rattle.book_edits.specs.declared.edit.BookEdit.{BookEdit}
 use Rattle.book_edits.specs.declared.edit.BookEdit.TheVariants.{Set, AccountAdd, AccountRename, AccountOffbudget, AccountReopen, AccountClose, GroupAdd, GroupRename, GroupDelete, CategoryAdd, CategoryRename, CategoryMove, CategoryDelete, PayeeAdd, PayeeRename, PayeeDelete, TxAdd, Budget, Carryover, Hold, Move, Note}
+use Rattle.split_transfer.specs.declared.edit.PairEdit.{PairEdit}
+use Rattle.split_transfer.specs.declared.edit.PairEdit.TheVariants.{TxSet, TxDelete, Split, Transfer}
+use Rattle.split_transfer.specs.declared.edit.TxChange.{TxChange}
+use Rattle.split_transfer.specs.declared.edit.TxChange.TheVariants.{Date, Amount, Account, Payee, Category, Notes, Cleared, Schedule}
+use Rattle.split_transfer.specs.declared.edit.SplitPart.{SplitPart}
 use Rattle.command_lines.specs.declared.command.Command.{Command}
-use Rattle.command_lines.specs.declared.command.Command.TheVariants.{Edit, Receive, Fields, Messages, Value, Trie, Balance, Register, Cell, Sheet}
+use Rattle.command_lines.specs.declared.command.Command.TheVariants.{Edit, Undo, Redo, Receive, Fields, Messages, Value, Trie, Balance, Register, Cell, Sheet, Broken, Sync}
 use Rattle.command_lines.specs.declared.command.CommandFault.{CommandFault}
 use Rattle.command_lines.specs.declared.command.CommandFault.TheVariants.{BadCommand, NoMemory}
-use Rattle.command_lines.specs.Forms.{Wanted, word, no_more, misfit, stamp_word, name_word, amount_word, flag_word, date_word, month_word, id_word, command_of}
+use Rattle.command_lines.specs.Forms.{Share, Wanted, word, some_shares, no_more, misfit, stamp_word, name_word, amount_word, flag_word, date_word, month_word, id_word, command_of}
 
 -- an edit of the books
 abbrev pub edit : BookEdit → Command
@@ -125,6 +130,40 @@ cell_words = month_word (λ month. word (λ name. no_more (Cell month name)))
 abbrev pub sheet_words : Wanted
 sheet_words = month_word (λ month. no_more (Sheet month))
 
+-- `broken`: no word
+abbrev pub broken_words : Wanted
+broken_words = no_more Broken
+
+-- an edit of a transaction and of those that hang together with it
+abbrev pub pair : PairEdit → Command
+pair e = Edit (Pair e)
+
+-- `tx-delete`: a transaction
+abbrev pub tx_delete_words : Wanted
+tx_delete_words = word (λ id. no_more (pair (TxDelete id)))
+
+-- a part of a split: an amount, and a category or a hyphen for none
+abbrev pub part_of : Share → SplitPart
+part_of share = record { amount = share.0; category = share.1 }
+
+-- `split`: a transaction, and its parts, one or more
+abbrev pub split_words : Wanted
+split_words = word (λ id. some_shares [] (λ shares. pair (Split id (map part_of shares))))
+
+-- `transfer`: from which account, to which, the day, the amount, and what is noted of it
+abbrev pub transfer_words : Wanted
+transfer_words = word (λ from. word (λ to. date_word (λ date. amount_word (λ amount. word (λ notes. no_more (pair (Transfer from to date amount notes)))))))
+
+-- the lines that take back the latest edit or the latest undo, and the one that syncs with the server: no word
+abbrev pub undo_words : Wanted
+undo_words = no_more Undo
+
+abbrev pub redo_words : Wanted
+redo_words = no_more Redo
+
+abbrev pub sync_words : Wanted
+sync_words = no_more Sync
+
 -- a line: its name, and the words that it wants behind it
 abbrev pub LineForm : Type 0
 LineForm = List ℕ × Wanted
@@ -133,6 +172,29 @@ LineForm = List ℕ × Wanted
 abbrev pub words_in : List LineForm → List ℕ → Wanted → Wanted
 words_in [] name others = others
 words_in (line ∷ lines) name others = if bytes_eq name line.0 then line.1 else words_in lines name others
+
+-- what a transaction's change wants behind the name of what is changed
+abbrev pub change : TxChange → List ℕ → Wanted
+change c id = no_more (pair (TxSet id c))
+
+abbrev pub change_forms : List ℕ → List LineForm
+change_forms id =
+    (codes "date", date_word (λ date. change (Date date) id))
+    ∷ (codes "amount", amount_word (λ amount. change (Amount amount) id))
+    ∷ (codes "account", word (λ account. change (Account account) id))
+    ∷ (codes "payee", id_word (λ payee. change (Payee payee) id))
+    ∷ (codes "category", id_word (λ category. change (Category category) id))
+    ∷ (codes "notes", word (λ notes. change (Notes notes) id))
+    ∷ (codes "cleared", flag_word (λ cleared. change (Cleared cleared) id))
+    ∷ (codes "schedule", id_word (λ schedule. change (Schedule schedule) id))
+    ∷ []
+
+-- `tx-set`: a transaction, which of its columns is changed, and what it gets
+unfoldable pub change_words : List ℕ → List ℕ → Wanted
+change_words id column = words_in (change_forms id) column misfit
+
+abbrev pub tx_set_words : Wanted
+tx_set_words = word (λ id. word (λ column. change_words id column))
 
 -- the lines about messages and fields
 abbrev pub field_lines : List LineForm
@@ -193,11 +255,35 @@ book_lines =
     ∷ (codes "register", register_words)
     ∷ (codes "cell", cell_words)
     ∷ (codes "sheet", sheet_words)
+    ∷ (codes "broken", broken_words)
+    ∷ []
+
+-- the lines that edit a transaction and those that hang together with it
+abbrev pub pair_lines : List LineForm
+pair_lines =
+    (codes "tx-set", tx_set_words)
+    ∷ (codes "tx-delete", tx_delete_words)
+    ∷ (codes "split", split_words)
+    ∷ (codes "transfer", transfer_words)
+    ∷ []
+
+-- the lines of a session
+abbrev pub session_lines : List LineForm
+session_lines =
+    (codes "undo", undo_words)
+    ∷ (codes "redo", redo_words)
+    ∷ (codes "sync", sync_words)
     ∷ []
 
 -- the words that a line with this name wants: those of a line about messages and fields, of the next kind, or of the one behind it
+unfoldable pub words_of_session_lines : List ℕ → Wanted
+words_of_session_lines name = words_in session_lines name misfit
+
+unfoldable pub words_of_pair_lines : List ℕ → Wanted
+words_of_pair_lines name = words_in pair_lines name (words_of_session_lines name)
+
 unfoldable pub words_of_book_lines : List ℕ → Wanted
-words_of_book_lines name = words_in book_lines name misfit
+words_of_book_lines name = words_in book_lines name (words_of_pair_lines name)
 
 unfoldable pub words_of_month_lines : List ℕ → Wanted
 words_of_month_lines name = words_in month_lines name (words_of_book_lines name)
@@ -252,4 +338,8 @@ abbrev pub HoldsText : Command → Type 0
 HoldsText Fields = ⊥
 HoldsText Trie = ⊥
 HoldsText (Sheet month) = ⊥
+HoldsText Broken = ⊥
+HoldsText Undo = ⊥
+HoldsText Redo = ⊥
+HoldsText Sync = ⊥
 HoldsText _ = Unit {0}

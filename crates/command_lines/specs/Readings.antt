@@ -11,10 +11,10 @@ use Rattle.minute_trie.specs.Trie.{trie_of}
 use Rattle.minute_trie.specs.Json.{trie_text}
 use Rattle.kept_messages.specs.Pairs.{pairs_of}
 use Rattle.command_lines.specs.declared.command.Command.{Command}
-use Rattle.command_lines.specs.declared.command.Command.TheVariants.{Edit, Receive, Fields, Messages, Value, Trie, Balance, Register, Cell, Sheet}
+use Rattle.command_lines.specs.declared.command.Command.TheVariants.{Edit, Undo, Redo, Receive, Fields, Messages, Value, Trie, Balance, Register, Cell, Sheet, Broken, Sync}
 use Rattle.book_rows.specs.declared.rows.Rows.{Rows}
 use Rattle.device_core.specs.Books.{rows_of}
-use Rattle.command_lines.specs.BookAnswers.{balance_answer, register_answer, cell_answer, sheet_answer}
+use Rattle.command_lines.specs.BookAnswers.{balance_answer, register_answer, cell_answer, sheet_answer, broken_answer}
 use Rattle.command_lines.specs.declared.reply.Reply.{Reply}
 use Rattle.command_lines.specs.declared.reply.Reply.TheVariants.{Done}
 
@@ -29,6 +29,7 @@ book_answer rows (Balance account) = balance_answer rows account
 book_answer rows (Register account) = register_answer rows account
 book_answer rows (Cell month name) = cell_answer rows month name
 book_answer rows (Sheet month) = sheet_answer rows month
+book_answer rows Broken = broken_answer rows
 book_answer rows other = Done []
 
 -- what a line that only reads is answered: the latest message of each field, the messages with a greater timestamp's text,
@@ -43,13 +44,20 @@ answer messages (Balance account) = book_answer (rows_of messages) (Balance acco
 answer messages (Register account) = book_answer (rows_of messages) (Register account)
 answer messages (Cell month name) = book_answer (rows_of messages) (Cell month name)
 answer messages (Sheet month) = book_answer (rows_of messages) (Sheet month)
+answer messages Broken = book_answer (rows_of messages) Broken
 answer messages (Edit edit) = Done []
+answer messages Undo = Done []
+answer messages Redo = Done []
 answer messages (Receive message) = Done []
+answer messages Sync = Done []
 
 -- a line that only reads
 abbrev pub IsReading : Command → Type 0
 IsReading (Edit edit) = ⊥
+IsReading Undo = ⊥
+IsReading Redo = ⊥
 IsReading (Receive message) = ⊥
+IsReading Sync = ⊥
 IsReading _ = Unit {0}
 
 -- a line that asks of the books
@@ -58,4 +66,5 @@ AsksBooks (Balance account) = Unit {0}
 AsksBooks (Register account) = Unit {0}
 AsksBooks (Cell month name) = Unit {0}
 AsksBooks (Sheet month) = Unit {0}
+AsksBooks Broken = Unit {0}
 AsksBooks other = ⊥

@@ -1,7 +1,7 @@
 -- The replies to lines, and their texts.
-use Rattle.std.specs.Prelude.{ℕ, List, [], ◌∷◌, ◌++◌, length, map, codes, Option, None, Some}
+use Rattle.std.specs.Prelude.{ℕ, ℤ, List, [], ◌∷◌, ◌++◌, length, map, codes, Option, None, Some}
 use Rattle.std.specs.List.{flat_map}
-use Rattle.std.specs.Fmt.{decimal}
+use Rattle.std.specs.Fmt.{decimal, signed_decimal}
 use Rattle.hybrid_clock.specs.declared.clock.ClockFault.{ClockFault}
 use Rattle.hybrid_clock.specs.declared.clock.ClockFault.TheVariants.{Drift, Overflow, Beyond}
 use Rattle.field_merge.specs.Escapes.{escaped}
@@ -19,6 +19,27 @@ wrote writes made = Done ((codes "writes " ++ decimal writes) ∷ map (λ id. co
 -- messages that were added
 abbrev pub added : ℕ → Reply
 added count = Done ((codes "added " ++ decimal count) ∷ [])
+
+-- a sync that ended with equal tries, after so many requests, and so many messages that were new
+abbrev pub synced : ℕ → ℕ → Reply
+synced requests received = Done ((codes "requests " ++ decimal requests ++ codes " received " ++ decimal received) ∷ [])
+
+-- a sync that failed, and where: the link to the server did, the reply was bad at this byte, its status was this one, or the tries
+-- differed still after the last request, with these roots
+abbrev pub sync_failed : List ℕ → Reply
+sync_failed part = Refused 29 (codes "sync-failed") part
+
+abbrev pub lost_link : Reply
+lost_link = sync_failed (codes "link")
+
+abbrev pub bad_answer : ℕ → Reply
+bad_answer at = sync_failed (codes "reply " ++ decimal at)
+
+abbrev pub bad_status : ℕ → Reply
+bad_status status = sync_failed (codes "status " ++ decimal status)
+
+abbrev pub out_of_sync : ℤ → ℤ → Reply
+out_of_sync mine theirs = sync_failed (codes "out-of-sync " ++ signed_decimal mine ++ 32 ∷ signed_decimal theirs)
 
 -- a line whose word at this index is the first that is not of its form
 abbrev pub faulty : ℕ → Reply

@@ -1,20 +1,25 @@
 -- How a command is written as a line, that the line reads back, and that a line that was read is written back.
 use Rattle.std.specs.Prelude.{◌≡◌, ◌≢◌, ◌≤◌, ◌<◌, ℕ, ◌/◌, List, [], ◌∷◌, ◌++◌, ◌↔◌, length, codes, ℤ, Bool, true, false, Option, None, Some, Ok}
-use Rattle.std.specs.List.{flat_map}
+use Rattle.std.specs.List.{flat_map, AllByRecursion}
 use Rattle.field_values.specs.Value.{value_text}
 use Rattle.field_merge.specs.declared.message.Message.{Message}
 use Rattle.field_merge.specs.Escapes.{raw_escaped}
 use Rattle.field_merge.specs.Lines.{reading}
 use Rattle.field_merge.specs.Messages.{message_texts, line_of_texts}
-use Rattle.device_core.specs.declared.edit.Edit.TheVariants.{Book}
+use Rattle.device_core.specs.declared.edit.Edit.TheVariants.{Book, Pair}
 use Rattle.book_edits.specs.declared.edit.BookEdit.{BookEdit}
 use Rattle.book_edits.specs.declared.edit.BookEdit.TheVariants.{Set, AccountAdd, AccountRename, AccountOffbudget, AccountReopen, AccountClose, GroupAdd, GroupRename, GroupDelete, CategoryAdd, CategoryRename, CategoryMove, CategoryDelete, PayeeAdd, PayeeRename, PayeeDelete, TxAdd, Budget, Carryover, Hold, Move, Note}
+use Rattle.split_transfer.specs.declared.edit.PairEdit.{PairEdit}
+use Rattle.split_transfer.specs.declared.edit.PairEdit.TheVariants.{TxSet, TxDelete, Split, Transfer}
+use Rattle.split_transfer.specs.declared.edit.TxChange.{TxChange}
+use Rattle.split_transfer.specs.declared.edit.TxChange.TheVariants.{Date, Amount, Account, Payee, Category, Notes, Cleared, Schedule}
+use Rattle.split_transfer.specs.declared.edit.SplitPart.{SplitPart}
 use Rattle.std.specs.Fmt.{signed_decimal}
 use Rattle.book_rows.specs.Ids.{two_digits, four_digits, month_id}
 use Rattle.command_lines.specs.Forms.{is_amount}
 use Rattle.command_lines.specs.FormLaws.{id_text}
 use Rattle.command_lines.specs.declared.command.Command.{Command}
-use Rattle.command_lines.specs.declared.command.Command.TheVariants.{Edit, Receive, Fields, Messages, Value, Trie, Balance, Register, Cell, Sheet}
+use Rattle.command_lines.specs.declared.command.Command.TheVariants.{Edit, Undo, Redo, Receive, Fields, Messages, Value, Trie, Balance, Register, Cell, Sheet, Broken, Sync}
 use Rattle.command_lines.specs.Commands.{command, longest_line, IsCommand}
 
 -- how a flag is written, a number YYYYMMDD and a number YYYYMM
@@ -54,6 +59,27 @@ edit_texts (Hold month amount) = codes "hold" ∷ month_text month ∷ signed_de
 edit_texts (Move month from to amount) = codes "move" ∷ month_text month ∷ from ∷ to ∷ signed_decimal amount ∷ []
 edit_texts (Note id text) = codes "note" ∷ id ∷ text ∷ []
 
+-- what is changed of a transaction, and what it gets
+abbrev pub change_texts : TxChange → List (List ℕ)
+change_texts (Date date) = codes "date" ∷ date_text date ∷ []
+change_texts (Amount amount) = codes "amount" ∷ signed_decimal amount ∷ []
+change_texts (Account account) = codes "account" ∷ account ∷ []
+change_texts (Payee payee) = codes "payee" ∷ id_text payee ∷ []
+change_texts (Category category) = codes "category" ∷ id_text category ∷ []
+change_texts (Notes notes) = codes "notes" ∷ notes ∷ []
+change_texts (Cleared cleared) = codes "cleared" ∷ flag_text cleared ∷ []
+change_texts (Schedule schedule) = codes "schedule" ∷ id_text schedule ∷ []
+
+-- the two words of a part of a split
+abbrev pub part_texts : SplitPart → List (List ℕ)
+part_texts part = signed_decimal part.amount ∷ id_text part.category ∷ []
+
+abbrev pub pair_texts : PairEdit → List (List ℕ)
+pair_texts (TxSet id change) = codes "tx-set" ∷ id ∷ change_texts change
+pair_texts (TxDelete id) = codes "tx-delete" ∷ id ∷ []
+pair_texts (Split id parts) = codes "split" ∷ id ∷ flat_map part_texts parts
+pair_texts (Transfer from to date amount notes) = codes "transfer" ∷ from ∷ to ∷ date_text date ∷ signed_decimal amount ∷ notes ∷ []
+
 -- an id that is given is no hyphen, a date has eight digits at most and a month six, and an amount has 64 bits
 abbrev pub IsGiven : Option (List ℕ) → Type 0
 IsGiven id = id ≢ Some (codes "-")
@@ -80,9 +106,28 @@ CanWriteEdit (Hold month amount) = HasSix month × Has64Bits amount
 CanWriteEdit (Move month from to amount) = HasSix month × Has64Bits amount
 CanWriteEdit other = Unit {0}
 
+abbrev pub CanWriteChange : TxChange → Type 0
+CanWriteChange (Date date) = HasEight date
+CanWriteChange (Amount amount) = Has64Bits amount
+CanWriteChange (Payee payee) = IsGiven payee
+CanWriteChange (Category category) = IsGiven category
+CanWriteChange (Schedule schedule) = IsGiven schedule
+CanWriteChange other = Unit {0}
+
+abbrev pub CanWritePart : SplitPart → Type 0
+CanWritePart part = Has64Bits part.amount × IsGiven part.category
+
+-- a split has a part
+abbrev pub CanWritePair : PairEdit → Type 0
+CanWritePair (TxSet id change) = CanWriteChange change
+CanWritePair (TxDelete id) = Unit {0}
+CanWritePair (Split id parts) = (parts ≢ []) × AllByRecursion CanWritePart parts
+CanWritePair (Transfer from to date amount notes) = HasEight date × Has64Bits amount
+
 -- the words of a line can write what the command holds
 abbrev pub CanBeWritten : Command → Type 0
 CanBeWritten (Edit (Book edit)) = CanWriteEdit edit
+CanBeWritten (Edit (Pair edit)) = CanWritePair edit
 CanBeWritten (Cell month name) = HasSix month
 CanBeWritten (Sheet month) = HasSix month
 CanBeWritten other = Unit {0}
@@ -90,6 +135,9 @@ CanBeWritten other = Unit {0}
 -- the name of a command and its words, each as a text
 abbrev pub command_texts : Command → List (List ℕ)
 command_texts (Edit (Book edit)) = edit_texts edit
+command_texts (Edit (Pair edit)) = pair_texts edit
+command_texts Undo = codes "undo" ∷ []
+command_texts Redo = codes "redo" ∷ []
 command_texts (Receive message) = codes "receive" ∷ message_texts message
 command_texts Fields = codes "fields" ∷ []
 command_texts (Messages since) = codes "messages" ∷ since ∷ []
@@ -99,6 +147,8 @@ command_texts (Balance account) = codes "balance" ∷ account ∷ []
 command_texts (Register account) = codes "register" ∷ account ∷ []
 command_texts (Cell month name) = codes "cell" ∷ month_text month ∷ name ∷ []
 command_texts (Sheet month) = codes "sheet" ∷ month_text month ∷ []
+command_texts Broken = codes "broken" ∷ []
+command_texts Sync = codes "sync" ∷ []
 
 -- the line of a command
 abbrev pub command_line : Command → List ℕ

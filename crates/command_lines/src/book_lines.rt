@@ -1,9 +1,10 @@
 //! The lines that budget a month, and those that ask of the books.
 ghost use Rattle.std.specs.Prelude.{◌≡◌, IfOk, IfErr};
-ghost use Rattle.command_lines.specs.Commands.{budget_words, carryover_words, hold_words, move_amount_words, balance_words, register_words, cell_words, sheet_words, words_of_month_lines, words_of_book_lines, IsRead, IsCommand};
+ghost use Rattle.command_lines.specs.Commands.{budget_words, carryover_words, hold_words, move_amount_words, balance_words, register_words, cell_words, sheet_words, broken_words, words_of_month_lines, words_of_book_lines, IsRead, IsCommand};
 ghost use Rattle.command_lines.specs.Unread.{command_of_unread, IsFaultOf};
 
 use crate::command::{Command, CommandFault};
+use crate::pair_lines::pair_line;
 use crate::words::Words;
 use device_core::{BookEdit, Edit};
 use std::alloc::Global;
@@ -118,6 +119,16 @@ fn sheet(alloc: Global, words: &mut Words<'_>) -> Result<Command, CommandFault>
     Ok(Command::Sheet { month })
 }
 
+/// The words behind `broken`.
+fn broken(words: &Words<'_>) -> Result<Command, CommandFault>
+    ensures read { IsRead (command_of_unread broken_words words.now) result }
+    ensures valid { IfOk result IsCommand }
+    ensures memory { IfErr result (IsFaultOf broken_words words.now) }
+{
+    words.end()?;
+    Ok(Command::Broken)
+}
+
 /// The words behind a name that may be one of the lines that budget a month.
 #[tactic(auto, unfolding(crate::specs::Commands::words_of_month_lines))]
 pub(crate) fn month_line(
@@ -156,6 +167,7 @@ pub(crate) fn book_line(
         "register" => register(alloc, words),
         "cell" => cell(alloc, words),
         "sheet" => sheet(alloc, words),
-        _ => Err(CommandFault::BadCommand { word: 0 }),
+        "broken" => broken(words),
+        _ => pair_line(alloc, name, words),
     }
 }

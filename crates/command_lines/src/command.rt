@@ -15,8 +15,12 @@ use std::alloc::Global;
 /// What a line commands.
 #[derive(Debug, Drop)]
 pub enum Command {
-    /// `set DATASET ROW COLUMN VALUE`: an edit of the device's own.
+    /// `set DATASET ROW COLUMN VALUE`, or another line that edits the books: an edit of the device's own.
     Edit(Edit),
+    /// `undo`: takes back the latest edit that was not undone.
+    Undo,
+    /// `redo`: takes back the latest undo.
+    Redo,
     /// `receive STAMP DATASET ROW COLUMN VALUE`: a message of another device.
     Receive { message: Message },
     /// `fields`: the latest message of each field.
@@ -35,6 +39,10 @@ pub enum Command {
     Cell { month: u32, name: Txt },
     /// `sheet MONTH`: all cells of a month YYYYMM.
     Sheet { month: u32 },
+    /// `broken`: the transfers and splits that are wrong.
+    Broken,
+    /// `sync`: hands the server what the device has, and takes what the server has.
+    Sync,
 }
 
 impl Command {
@@ -50,6 +58,8 @@ impl Command {
             Command::Receive { message } => Ok(Command::Receive {
                 message: message.copy()?,
             }),
+            Command::Undo => Ok(Command::Undo),
+            Command::Redo => Ok(Command::Redo),
             Command::Fields => Ok(Command::Fields),
             Command::Messages { since } => Ok(Command::Messages {
                 since: since.copy()?,
@@ -75,6 +85,8 @@ impl Command {
                 name: name.copy()?,
             }),
             Command::Sheet { month } => Ok(Command::Sheet { month: *month }),
+            Command::Broken => Ok(Command::Broken),
+            Command::Sync => Ok(Command::Sync),
         }
     }
 }

@@ -12,9 +12,12 @@ mod command;
 mod edit_lines;
 mod forms;
 mod laws;
+mod pair_lines;
 mod refusal;
 mod register;
 mod reply;
+mod session_lines;
+mod sync_reply;
 mod words;
 
 pub use answer::read_reply;
@@ -24,3 +27,6 @@ pub use laws::{
     receives_message_lines, replies_are_lines,
 };
 pub use reply::{Reply, added_reply, faulty_reply, refusal_reply, reply_text, wrote_reply};
+pub use sync_reply::{
+    bad_answer_reply, bad_status_reply, lost_link_reply, out_of_sync_reply, synced_reply,
+};

@@ -7,7 +7,7 @@ use Rattle.field_merge.specs.Log.{join}
 use Rattle.kept_messages.specs.Records.{record_of}
 use Rattle.kept_messages.specs.News.{new_in}
 use Rattle.device_core.specs.declared.edit.Edit.{Edit}
-use Rattle.device_core.specs.Device.{State, DeviceState, Accepted, IsAhead, edited, received}
+use Rattle.device_core.specs.Device.{State, DeviceState, Accepted, IsAhead, edited, undone, redone, received}
 
 -- some messages have joined those of before, and the records of the new ones are those that are not kept yet
 pub record Brings (old : List Message) (device : DeviceState) : Type 0 where
@@ -34,7 +34,9 @@ pub record IsJoined (before : State) (accepted : Accepted) : Type 0 where
   -- and is not behind a message, where it was not before
   pub ahead : IsAhead before.clock before.messages → IsAhead accepted.state.clock accepted.state.messages
 
--- so it is with every accepted line: an edit, and messages that come
+-- so it is with every accepted line: an edit, an undo, a redo, and messages that come
 pub record AcceptedAreJoined : Type 0 where
   pub of_edits : (s : State) (edit : Edit) (reading : ℕ) (accepted : Accepted) → edited s edit reading ≡ Ok accepted → IsJoined s accepted
+  pub of_undo : (s : State) (reading : ℕ) (accepted : Accepted) → undone s reading ≡ Ok accepted → IsJoined s accepted
+  pub of_redo : (s : State) (reading : ℕ) (accepted : Accepted) → redone s reading ≡ Ok accepted → IsJoined s accepted
   pub of_messages : (s : State) (ns : List Message) (reading : ℕ) (accepted : Accepted) → received s ns reading ≡ Ok accepted → IsJoined s accepted

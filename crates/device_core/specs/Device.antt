@@ -1,4 +1,4 @@
--- A device: its state, and what an edit and received messages make of it.
+-- A device: its state, and what an edit, an undo, a redo and received messages make of it.
 use Rattle.std.specs.Prelude.{◌≡◌, ◌⊎◌, ℕ, ◌-◌, ◌<◌, ◌≤◌, List, [], ◌∷◌, length, map, Bool, true, false, nat_lt, if◌then◌else◌, Option, None, Some, Result, Ok, Err}
 use Rattle.std.specs.List.{AllByRecursion}
 use Rattle.std.specs.Ordering.{is_lt}
@@ -9,13 +9,18 @@ use Rattle.hybrid_clock.specs.Clock.{clock_after, draw, receive}
 use Rattle.budget_ports.specs.declared.keeper.Record.{Record}
 use Rattle.field_merge.specs.declared.message.Message.{Message}
 use Rattle.budget_ports.specs.Keeper.{HaveKeys}
-use Rattle.field_merge.specs.Log.{join, last_stamp}
+use Rattle.field_merge.specs.Log.{join, last_stamp, value_in}
 use Rattle.kept_messages.specs.Records.{record_of}
 use Rattle.kept_messages.specs.News.{new_in}
 use Rattle.device_core.specs.declared.edit.Edit.{Edit}
 use Rattle.book_rows.specs.declared.write.Write.{Write}
 use Rattle.book_rows.specs.declared.fault.EditFault.{EditFault}
-use Rattle.book_rows.specs.declared.fault.EditFault.TheVariants.{TooManyWrites}
+use Rattle.book_rows.specs.declared.fault.EditFault.TheVariants.{TooManyWrites, NothingToUndo, NothingToRedo}
+use Rattle.edit_history.specs.declared.before.Before.{Before}
+use Rattle.edit_history.specs.declared.history.Turn.{Turn}
+use Rattle.edit_history.specs.declared.history.Turn.TheVariants.{New, Undo, Redo}
+use Rattle.edit_history.specs.Undo.{entry_over, undo_writes}
+use Rattle.edit_history.specs.History.{Entries, no_entries, latest_of, after}
 use Rattle.device_core.specs.declared.edit.LineRefusal.{LineRefusal}
 use Rattle.device_core.specs.declared.edit.LineRefusal.TheVariants.{Edit as OfEdit, Clock as OfClock, NoMemory}
 use Rattle.device_core.specs.declared.known.Known.{Known}
@@ -24,10 +29,11 @@ use Rattle.device_core.specs.Books.{rows_of}
 use Rattle.device_core.specs.Known.{IsKnown}
 use Rattle.device_core.specs.Placing.{stamped, made_ids}
 
--- the message set, and the timestamp at which the clock stands, with the device's own node
+-- the message set, the timestamp at which the clock stands, with the device's own node, and what can be undone and redone
 pub record State : Type 0 where
   pub messages : List Message
   pub clock : Stamp
+  pub history : Entries
 
 -- the state, the records that are not kept yet, the ids that the last accepted line made for rows, and whether a want of memory has spoilt the device
 pub record DeviceState : Type 0 where
@@ -40,18 +46,23 @@ pub record DeviceState : Type 0 where
 abbrev pub at_rest : State → DeviceState
 at_rest s = record { state = s; batch = []; made = []; spent = false }
 
--- a device that begins with a message set: its clock goes on after the last message
+-- a device that begins with a message set: its clock goes on after the last message, and nothing can be undone or redone
 abbrev pub begun : List ℕ → List Message → State
-begun node ms = record { messages = ms; clock = clock_after node (last_stamp ms) }
+begun node ms = record { messages = ms; clock = clock_after node (last_stamp ms); history = no_entries }
 
--- the messages joined, with the clock where it now stands, the new ones pending, and the ids that were made
-abbrev pub with_messages : List Message → List Message → Stamp → List (List ℕ) → DeviceState
-with_messages ms ns clock made = record
-    { state = record { messages = join ms ns; clock = clock }; batch = map record_of (new_in ms ns); made = made; spent = false }
+-- the messages joined, with the clock where it now stands, what can then be undone and redone, the new ones pending, and the ids that were made
+abbrev pub with_messages : List Message → List Message → Stamp → Entries → List (List ℕ) → DeviceState
+with_messages ms ns clock history made = record
+    { state = record { messages = join ms ns; clock = clock; history = history }; batch = map record_of (new_in ms ns); made = made; spent = false }
 
--- the messages of writes joined, the first of which has this timestamp, with the clock where it now stands
-abbrev pub with_writes : List Message → Stamp → List Write → Stamp → DeviceState
-with_writes ms first ws clock = with_messages ms (stamped first ws) clock (made_ids first ws)
+-- what messages write over: the fields that they write, as they are before
+abbrev pub written_over : List Message → List Message → List Before
+written_over ms ns = entry_over (value_in ms) (map (λ n. n.field) ns)
+
+-- the messages of writes joined, the first of which has this timestamp, with the clock where it now stands; what they wrote over can be undone or redone
+abbrev pub with_writes : State → Turn → Stamp → List Write → Stamp → DeviceState
+with_writes s turn first ws clock =
+    with_messages s.messages (stamped first ws) clock (after turn s.history (written_over s.messages (stamped first ws))) (made_ids first ws)
 
 -- what an accepted line leaves: the state, the records that are not kept yet and the ids that it made for rows; and how many writes or new messages it was
 pub record Accepted : Type 0 where
@@ -69,21 +80,34 @@ abbrev pub first_in_row : Stamp → ℕ → Stamp
 first_in_row clock n = record clock { counter = clock.counter - (n - 1) }
 
 -- writes under the timestamp that the clock drew, or its refusal
-abbrev pub written : State → List Write → Result Stamp ClockFault → Result Accepted LineRefusal
-written s ws (Err fault) = Err (OfClock fault)
-written s ws (Ok clock) = Ok (accepted_as (with_writes s.messages (first_in_row clock (length ws)) ws clock) (length ws))
+abbrev pub written : State → Turn → List Write → Result Stamp ClockFault → Result Accepted LineRefusal
+written s turn ws (Err fault) = Err (OfClock fault)
+written s turn ws (Ok clock) = Ok (accepted_as (with_writes s turn (first_in_row clock (length ws)) ws clock) (length ws))
 
 -- writes are made at a reading of the wall clock: none need no timestamp, and 65,536 are the most
-abbrev pub writing : State → ℕ → Result (List Write) EditFault → Result Accepted LineRefusal
-writing s reading (Err fault) = Err (OfEdit fault)
-writing s reading (Ok []) = Ok (accepted_as (at_rest s) 0)
-writing s reading (Ok (w ∷ ws)) =
+abbrev pub writing : State → Turn → ℕ → Result (List Write) EditFault → Result Accepted LineRefusal
+writing s turn reading (Err fault) = Err (OfEdit fault)
+writing s turn reading (Ok []) = Ok (accepted_as (at_rest s) 0)
+writing s turn reading (Ok (w ∷ ws)) =
     if nat_lt 65_536 (length (w ∷ ws)) then Err (OfEdit (TooManyWrites (length (w ∷ ws))))
-    else written s (w ∷ ws) (draw s.clock reading (length (w ∷ ws)))
+    else written s turn (w ∷ ws) (draw s.clock reading (length (w ∷ ws)))
 
 -- an edit is made in the book of the messages: first its own checks, then the number of its writes, then the clock
 abbrev pub edited : State → Edit → ℕ → Result Accepted LineRefusal
-edited s edit reading = writing s reading (writes_of (rows_of s.messages) edit)
+edited s edit reading = writing s New reading (writes_of (rows_of s.messages) edit)
+
+-- the writes that undo an entry, taken from the entry alone; where there is none, this fault
+abbrev pub writes_back : EditFault → Option (List Before) → Result (List Write) EditFault
+writes_back fault None = Err fault
+writes_back fault (Some entry) = Ok (undo_writes entry)
+
+-- the latest entry that can be undone is undone
+abbrev pub undone : State → ℕ → Result Accepted LineRefusal
+undone s reading = writing s Undo reading (writes_back NothingToUndo (latest_of s.history.undo))
+
+-- the latest entry that can be redone is undone in its turn
+abbrev pub redone : State → ℕ → Result Accepted LineRefusal
+redone s reading = writing s Redo reading (writes_back NothingToRedo (latest_of s.history.redo))
 
 -- the later of two timestamps
 abbrev pub later_of : Stamp → Stamp → Stamp
@@ -102,7 +126,7 @@ greatest_of (m ∷ ms) = Some (greatest m.stamp ms)
 -- messages joined where the clock took their greatest timestamp, or its refusal
 abbrev pub taken_in : State → List Message → Result Stamp ClockFault → Result Accepted LineRefusal
 taken_in s ns (Err fault) = Err (OfClock fault)
-taken_in s ns (Ok clock) = Ok (accepted_as (with_messages s.messages ns clock []) (length (new_in s.messages ns)))
+taken_in s ns (Ok clock) = Ok (accepted_as (with_messages s.messages ns clock s.history []) (length (new_in s.messages ns)))
 
 -- messages with this greatest timestamp are received; where there are none, the clock stays as it is
 abbrev pub receiving : State → List Message → ℕ → Option Stamp → Result Accepted LineRefusal

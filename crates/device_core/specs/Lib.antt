@@ -9,3 +9,4 @@ pub mod ReadBack
 pub mod Answering
 pub mod Accepting
 pub mod Several
+pub mod Undoing

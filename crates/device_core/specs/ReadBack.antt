@@ -41,6 +41,8 @@ pub record AreTakenIn (before : State) (ns : List Message) (reading : ℕ) (acce
   pub pending : accepted.batch ≡ map record_of (new_in before.messages ns)
   -- no id was made
   pub none_made : accepted.made ≡ []
+  -- what can be undone and redone stays
+  pub same_history : accepted.state.history ≡ before.history
   -- the clock received their greatest timestamp, once
   pub at_clock : (s : Stamp) → greatest_of ns ≡ Some s → receive before.clock reading s ≡ Ok accepted.state.clock
   -- of no messages it stays

@@ -9,6 +9,7 @@ use book_edits::{BookEdit, writes};
 use book_rows::{Book, EditFault, Write};
 use field_values::NoMemory;
 use hybrid_clock::ClockFault;
+use split_transfer::{PairEdit, pair_writes};
 use std::alloc::Global;
 
 /// Why a device refuses a line.
@@ -41,6 +42,8 @@ impl LineRefusal {
 pub enum Edit {
     /// An edit of the household's data.
     Book(BookEdit),
+    /// An edit of a transaction and of those that hang together with it.
+    Pair(PairEdit),
 }
 
 impl Edit {
@@ -50,6 +53,7 @@ impl Edit {
     {
         match self {
             Edit::Book(edit) => Ok(Edit::Book(edit.copy()?)),
+            Edit::Pair(edit) => Ok(Edit::Pair(edit.copy()?)),
         }
     }
 }
@@ -65,5 +69,6 @@ pub(crate) fn edit_writes(alloc: Global, book: &Book, edit: &Edit) -> Result<Vec
 {
     match edit {
         Edit::Book(edit) => writes(alloc, book, edit),
+        Edit::Pair(edit) => pair_writes(alloc, book, edit),
     }
 }
