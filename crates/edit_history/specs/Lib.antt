@@ -1,3 +1,4 @@
 pub mod Undo
+pub mod There
 pub mod History
 pub mod Laws

@@ -8,6 +8,7 @@
 mod before;
 mod history;
 mod laws;
+mod there;
 mod undo;
 
 pub use before::{Before, entry_over};

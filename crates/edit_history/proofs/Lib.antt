@@ -1,0 +1,6 @@
+pub mod Basics
+pub mod Rows
+pub mod Listing
+pub mod UndoLaw
+pub mod Growing
+pub mod Valid
