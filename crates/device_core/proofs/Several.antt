@@ -108,7 +108,7 @@ pub later_at : (clock first : Stamp) (n : ℕ) → IsLater clock first → IsLat
 later_at clock first n (inl p) = inl p
 later_at clock first n (inr p) = inr (p.0, (let x = p.1 in omega arith))
 
-row_length : (first : Stamp) (n : ℕ) (ws : List Write) → length (messages_from first n ws) ≡ length ws
+pub row_length : (first : Stamp) (n : ℕ) (ws : List Write) → length (messages_from first n ws) ≡ length ws
 row_length first n [] = refl
 row_length first n (w ∷ ws) = ap suc (row_length first (n + 1) ws)
 

@@ -30,7 +30,7 @@ use Rattle.device_core.specs.declared.edit.LineRefusal.{LineRefusal}
 use Rattle.device_core.specs.declared.edit.LineRefusal.TheVariants.{Edit as OfEdit, Clock as OfClock}
 use Rattle.device_core.specs.Books.{rows_of}
 use Rattle.device_core.specs.Edits.{writes_of}
-use Rattle.device_core.specs.Placing.{messages_from, stamped}
+use Rattle.device_core.specs.Placing.{stamp_at, messages_from, stamped}
 use Rattle.device_core.specs.Device.{State, Accepted, IsAhead, at_rest, accepted_as, first_in_row, with_writes, written, written_over, writing, writes_back, edited, undone, redone}
 use Rattle.device_core.specs.Several.{AreJoinedWrites}
 use Rattle.device_core.specs.Undoing.{IsTakenBack, EntriesAreTakenBack, IsRestored, LinesAreUndone}
@@ -56,19 +56,20 @@ or_assoc None b c = refl
 or_assoc (Some x) b c = refl
 
 latest_append : (ms ns : List Message) (f : FieldNames) → latest (ms ++ ns) f ≡ option_or (latest ns f) (latest ms f)
-latest_append [] ns f = sym (or_none (latest ns f))
+latest_append [] ns f = or_none (latest ns f)
 latest_append (m ∷ ms) ns f =
     latest-cons m (ms ++ ns) f ∙ ap (λ (o : Option Message). option_or o (cond (has_field f m) (Some m) None)) (latest_append ms ns f)
     ∙ or_assoc (latest ns f) (latest ms f) (cond (has_field f m) (Some m) None) ∙ ap (option_or (latest ns f)) (sym (latest-cons m ms f))
+
+-- what a message gives its field
+abbrev value : Message → Value
+value m = m.value
 
 values_append : (ms ns : List Message) (f : FieldNames) → value_in (ms ++ ns) f ≡ with_values (value_in ms) (map pair_of ns) f
 values_append ms ns f =
     ap (option_map value) (latest_append ms ns f) ∙ two (latest ns f) (latest ms f) ∙ sym (after_is (value_in ms) ns f)
     ∙ sym (ap (λ (values : Values). values f) (as_pairs (value_in ms) ns))
   where
-    abbrev value : Message → Value
-    value m = m.value
-
     two : (a b : Option Message) → option_map value (option_or a b) ≡ option_or (option_map value a) (option_map value b)
     two None b = refl
     two (Some a) b = refl
@@ -92,7 +93,7 @@ has_joined s turn reading w ws a ahead h =
     let d = is_drawn s.clock x.clock reading (length (w ∷ ws)) x.drawn in
     let first = first_in_row x.clock (length (w ∷ ws)) in
     let same : d.first ≡ first = sym (first_is x.clock d.first (length (w ∷ ws)) d.row) in
-    let b = join_row s.messages d.first 0 (w ∷ ws) (all_past s.clock _ s.messages ahead (later_at s.clock d.first 0 d.later)) in
+    let b = join_row s.messages d.first 0 (w ∷ ws) (all_past s.clock (stamp_at d.first 0) s.messages ahead (later_at s.clock d.first 0 d.later)) in
     subst (HasJoined s turn (w ∷ ws)) x.is (record {
       first = first;
       behind = subst (λ (t : Stamp). join s.messages (stamped t (w ∷ ws)) ≡ s.messages ++ stamped t (w ∷ ws)) same b.joined;
@@ -178,16 +179,16 @@ restored_by s s1 s2 first second ws one two =
     let ms = stamped first ws in
     let entry = written_over s.messages ms in
     let mid : (f : FieldNames) → with_values (value_in s.messages) (map pair_of ms) f ≡ value_in s1.messages f =
-        λ f. sym (values_append s.messages ms f) ∙ ap (λ (l : List Message). value_in l f) (sym one) in
+    λ f. sym (values_append s.messages ms f) ∙ ap (λ (l : List Message). value_in l f) (sym one) in
     let end : (f : FieldNames) → with_values (value_in s1.messages) (undo_values entry) f ≡ value_in s2.messages f =
-        λ f. sym (ap (λ (l : List Message). value_in l f) two ∙ values_append s1.messages (stamped second (undo_writes entry)) f
-        ∙ ap (λ (l : List FieldWrite). with_values (value_in s1.messages) l f) (pairs_back second 0 (undo_values entry))) in
+    λ f. sym (ap (λ (l : List Message). value_in l f) two ∙ values_append s1.messages (stamped second (undo_writes entry)) f
+    ∙ ap (λ (l : List FieldWrite). with_values (value_in s1.messages) l f) (pairs_back second 0 (undo_values entry))) in
     let law = entries_undo (value_in s.messages) (map pair_of ms) in
     let fields = fields_of_pairs ms in
     let own : IsUndone (value_in s.messages) (with_values (value_in s.messages) (map pair_of ms)) (with_values (with_values (value_in s.messages) (map pair_of ms)) (undo_values entry)) =
-        subst (λ (fs : List FieldNames). IsUndone (value_in s.messages) (with_values (value_in s.messages) (map pair_of ms)) (with_values (with_values (value_in s.messages) (map pair_of ms)) (undo_values (entry_over (value_in s.messages) fs)))) fields law in
+    subst (λ (fs : List FieldNames). IsUndone (value_in s.messages) (with_values (value_in s.messages) (map pair_of ms)) (with_values (with_values (value_in s.messages) (map pair_of ms)) (undo_values (entry_over (value_in s.messages) fs)))) fields law in
     let there : IsUndone (value_in s.messages) (value_in s1.messages) (with_values (value_in s1.messages) (undo_values entry)) =
-        subst (λ (values : Values). IsUndone (value_in s.messages) values (with_values values (undo_values entry))) (λ i f. mid f i) own in
+    subst (λ (values : Values). IsUndone (value_in s.messages) values (with_values values (undo_values entry))) (λ i f. mid f i) own in
     subst (λ (values : Values). IsUndone (value_in s.messages) (value_in s1.messages) values) (λ i f. end f i) there
 
 -- the list of entries in which the next line finds what the last one wrote over
