@@ -83,8 +83,10 @@ fn push_part(
     ensures memory { IfErr result (λ fault. fault ≡ CommandFault.NoMemory → HasText words.old.words) }
 {
     let part = part(alloc, words)?;
-    parts.push(part)?;
-    Ok(())
+    match parts.push(part) {
+        Ok(()) => Ok(()),
+        Err(_) => Err(CommandFault::NoMemory),
+    }
 }
 
 /// The parts of a split, one or more, to the end of the line.

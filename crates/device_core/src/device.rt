@@ -232,7 +232,7 @@ impl Device {
         ensures memory { result ≡ Err EditFault.NoMemory → self.now.state.history.redo ≢ [] }
     {
         match self.history.redo() {
-            Some(entry) => Ok(undo_writes(self.alloc, entry.as_slice())?),
+            Some(undone) => Ok(undo_writes(self.alloc, undone.as_slice())?),
             None => Err(EditFault::NothingToRedo),
         }
     }
