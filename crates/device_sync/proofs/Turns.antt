@@ -178,10 +178,13 @@ module _ (target : Target) (group : List ℕ) (reading : ℕ) (since : List ℕ)
     adds = adds;
     is_late = record {
       unjudged = inr (came, ap (λ (t : List ℕ). ended t came ∷ []) is);
-      stops = λ a c may. let is_one = stops a c may in (is_one.0, elim is_one.1 [
-        | inl same ↦ inl same
-        | inr kept ↦ inr (record { turn = record { sent = sent; came = came; got = got }; sent = record { text = is; means = means }; judged = judged; is_late = refl; kept = kept })
-      ]);
+      stops = λ a c may. let is_one = stops a c may in (
+        is_one.0,
+        elim is_one.1 [
+          | inl same ↦ inl same
+          | inr kept ↦ inr (record { turn = record { sent = sent; came = came; got = got }; sent = record { text = is; means = means }; judged = judged; is_late = refl; kept = kept })
+        ],
+      );
     };
   }
 
