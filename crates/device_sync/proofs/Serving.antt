@@ -1,8 +1,7 @@
 -- What a server did for the request of a device is an honest exchange.
-use Rattle.std.proofs.Common.{◌≡◌, ◌≢◌, ◌⊎◌, inl, inr, ◌∙◌, ℕ, ◌+◌, ◌^◌, ◌<◌, ◌≤◌, List, [], ◌∷◌, ◌++◌, ◌==◌, length, take, drop, Bool, true, false, cond, nat_lt, Option, Some, None, Result, Ok, Err, refl, sym, ap, subst, arith, codes, length-append}
+use Rattle.std.proofs.Common.{◌≡◌, ◌≢◌, ◌⊎◌, inl, inr, ◌∙◌, ℕ, ◌^◌, ◌<◌, List, [], ◌∷◌, ◌++◌, ◌==◌, length, take, drop, Bool, true, false, cond, nat_lt, Option, Some, Result, Ok, Err, refl, sym, ap, subst, arith, codes, length-append}
 use Rattle.std.specs.Fmt.{decimal}
 use Rattle.std.specs.Str.{bytes_eq}
-use Rattle.std.proofs.lemmas.Bool.{ltb-false, ltb-true}
 use Rattle.std.proofs.lemmas.Bool.Decides.{nat_tests}
 use Rattle.std.proofs.lemmas.List.{take_all, take-append-drop}
 use Rattle.std.proofs.lemmas.Slice.Eq.{bytes_eq-Decides}
@@ -11,21 +10,19 @@ use Rattle.httparse.proofs.GrammarLemmas.{request_unique}
 use Rattle.budget_ports.specs.Contents.{Contents, records_after}
 use Rattle.budget_ports.specs.Exchanges.{ended}
 use Rattle.field_merge.specs.declared.message.Message.{Message}
-use Rattle.field_merge.specs.Log.{join}
 use Rattle.kept_messages.specs.Records.{kept_set}
 use Rattle.sync_wire.specs.declared.request.SyncRequest.{SyncRequest}
 use Rattle.sync_wire.specs.Laws.{IsEither}
-use Rattle.sync_wire.specs.Wire.{IsRequest, IsRequestFault, IsResponse}
+use Rattle.sync_wire.specs.Wire.{IsRequest, IsRequestFault}
 use Rattle.sync_wire.specs.Canon.{request_bytes, response_bytes}
 use Rattle.sync_wire.proofs.Readings.{is_either, request_reads as request_is_read}
 use Rattle.sync_server.specs.declared.refusal.Refusal.{Refusal}
 use Rattle.sync_server.specs.declared.refusal.Refusal.TheVariants.{TooLarge, KeeperFault, NoMemory, EncryptedMessage, SinceRequired, FileHasReset}
-use Rattle.sync_server.specs.declared.served.Served.TheVariants as served
 use Rattle.sync_server.specs.Answer.{answer_of}
-use Rattle.sync_server.specs.Heads.{HasHead, judge_head}
+use Rattle.sync_server.specs.Heads.{judge_head}
 use Rattle.sync_server.specs.Outside.{HasFound}
 use Rattle.sync_server.specs.Replies.{refusal_bytes, reply_bytes}
-use Rattle.sync_server.specs.Serving.{Found, found_in, Verdict, Accepts, Refuses, judge_request, judge_found, judge_set, DecidesBody, no_request, request, DecidesRest, refused, short, whole, Decides, by_head, too_large, no_head, bytes_end, Means, decided, keeper_fault, no_memory, reply_of, kept_after, Visit, IsServed, answered}
+use Rattle.sync_server.specs.Serving.{Found, found_in, Verdict, Accepts, Refuses, judge_request, judge_found, judge_set, DecidesBody, no_request, request, DecidesRest, refused, short, whole, Decides, by_head, too_large, no_head, bytes_end, Means, decided, keeper_fault, no_memory, reply_of, kept_after, answered}
 use Rattle.sync_server.specs.Laws.{AcceptedAreKept}
 use Rattle.device_sync.specs.Replies.{IsReply}
 use Rattle.device_sync.specs.Requests.{head_text, request_text, IsAsked}
