@@ -1,18 +1,18 @@
-//! Examples of devices, lines and runs, one file for each crate or side of it: their public calls with ample memory, on
-//! values that were written out by hand from the rules or that another program gave.
+//! Examples of runs and of lines: the public calls of `budget_top` and `command_lines` over objects in memory, as rows that were
+//! written out by hand from the rules or that another program gave.
 #![tactic(auto)]
 
 #[cfg(test)]
 mod books;
 #[cfg(test)]
-mod device;
+mod calls;
 #[cfg(test)]
-mod devices;
+mod checks;
 #[cfg(test)]
-mod kept;
-#[cfg(test)]
-mod lines;
+mod reads;
 #[cfg(test)]
 mod runs;
+#[cfg(test)]
+mod table;
 #[cfg(test)]
 mod words;

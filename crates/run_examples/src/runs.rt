@@ -1,171 +1,258 @@
-ghost use Rattle.std.specs.Prelude.{◌≡◌, ◌≤◌};
-
-use budget_ports::{ListClock, MemoryDoor, MemoryKeeper, MemorySink, MemorySource, ScriptLink};
-use budget_top::run_in_memory;
-use field_values::{Items, Steps, Txt};
+//! Runs of `merge` and of devices, while calls fail.
+use crate::table::{Run, T0, outcome};
+use budget_ports::{Keeper, MemoryKeeper, PortFault, Record};
+use field_values::Txt;
 use std::alloc::Global;
-use std::collections::VecDeque;
-use std::marker::Brand;
-use std::sync::ledger::{Blank, Ledger};
 use std::test::Fail;
 
-pub(crate) const FOOD: &str =
+const FOOD: &str =
     "2024-01-05T10:00:00.000Z-0000-00000000000000aa\tcategories\tfood\tname\tS:Food\n";
 
 const MEALS: &str =
     "2024-01-05T10:00:01.000Z-0000-00000000000000bb\tcategories\tfood\tname\tS:Meals\n";
 
-const X: &str = "2024-01-05T10:00:00.000Z-0000-00000000000000aa\tcategories\tfood\tname\tS:x\n";
-
-const Y: &str = "2024-01-05T10:00:00.000Z-0000-00000000000000aa\tcategories\tfood\tname\tS:y\n";
-
-/// A run: its words, the parts of its input, the calls of the source and of the sink that fail, the
-/// status, and the parts of its output.
-#[derive(Drop)]
-struct Row<'a> {
-    words: &'a [&'a str],
-    input: &'a [&'a str],
-    source_fails: &'a [u64],
-    sink_fails: &'a [u64],
-    status: u8,
-    output: &'a [&'a str],
-}
-
-/// A run of `merge` in which nothing fails.
-fn merged<'a>(input: &'a [&'a str], status: u8, output: &'a [&'a str]) -> Row<'a> {
-    Row {
-        words: &["merge"],
-        input,
-        source_fails: &[],
-        sink_fails: &[],
-        status,
-        output,
-    }
-}
-
-/// A run of `merge` of two lines that are no messages, while calls fail.
-fn failing<'a>(
-    source_fails: &'a [u64],
-    sink_fails: &'a [u64],
-    status: u8,
-    output: &'a [&'a str],
-) -> Row<'a> {
-    Row {
-        words: &["merge"],
-        input: &["x\n", "y\n"],
-        source_fails,
-        sink_fails,
-        status,
-        output,
-    }
-}
-
-/// A run whose words are refused.
-fn refused<'a>(words: &'a [&'a str]) -> Row<'a> {
-    Row {
-        words,
-        input: &[FOOD],
-        source_fails: &[],
-        sink_fails: &[],
-        status: 2,
-        output: &[],
-    }
-}
-
-/// A run without a server and without connections, with a counter of steps that nobody reads.
-pub(crate) fn uncounted<G: Ledger>(
-    blank: Blank,
-    alloc: Global,
-    words: &Items<Txt>,
-    source: &mut MemorySource,
-    sink: &mut MemorySink,
-    keeper: &mut MemoryKeeper,
-    clock: &mut ListClock,
-) -> Result<u8, Fail>
-    requires name { blank.name ≡ G.name }
-    requires parts { blank.parts ≡ G.parts }
-    requires some { 1 ≤ G.parts }
-{
-    let mut link = ScriptLink::new(alloc, VecDeque::new(alloc));
-    let mut door = MemoryDoor::new(alloc, Vec::new(alloc), Vec::new(alloc), 0)?;
-    let mut steps = Steps::<G>::new(blank);
-    Ok(run_in_memory(
-        alloc, words, source, sink, keeper, &mut link, &mut door, clock, &mut steps,
-    ))
-}
-
-/// All parts, one behind the other.
-pub(crate) fn joined(rt: &HostRuntime, parts: &[&str]) -> Result<Vec<u8>, Fail> {
-    let mut all = Vec::new(rt.alloc());
-    for part in parts {
-        all.extend_from_slice(part.as_bytes())?;
-    }
-    Ok(all)
-}
-
-fn texts(rt: &HostRuntime, parts: &[&str]) -> Result<Items<Txt>, Fail> {
-    let mut all = Vec::new(rt.alloc());
-    for part in parts {
-        all.push(Txt::from_text(rt.alloc(), part)?)?;
-    }
-    Ok(Items::new(all))
-}
-
-/// The status and the output of a run.
-fn outcome(rt: &HostRuntime, row: &Row<'_>) -> Result<(u8, Vec<u8>), Fail> {
-    let words = texts(rt, row.words)?;
-    let input = joined(rt, row.input)?;
-    let source_fails = row.source_fails.to_vec(rt.alloc())?;
-    let sink_fails = row.sink_fails.to_vec(rt.alloc())?;
-    let mut source = MemorySource::with_faults(input, source_fails);
-    let mut sink = MemorySink::with_faults(rt.alloc(), 1000, sink_fails)?;
-    let mut keeper = MemoryKeeper::new(rt.alloc());
-    let mut clock = ListClock::new([0].to_vec(rt.alloc())?);
-    let status = uncounted::<Brand>(
-        Blank::new(1),
-        rt.alloc(),
-        &words,
-        &mut source,
-        &mut sink,
-        &mut keeper,
-        &mut clock,
-    )?;
-    Ok((status, sink.written().to_vec(rt.alloc())?))
-}
+/// Inputs of `merge`, its status, and what it writes.
+const MERGES: [(&str, u8, &str); 9] = [
+    ("", 0, ""),
+    (
+        "2024-01-05T10:00:00.000Z-0000-00000000000000aa\tcategories\tfood\tname\tS:Food\n2024-01-05T10:00:01.000Z-0000-00000000000000bb\tcategories\tfood\tname\tS:Meals\n",
+        0,
+        MEALS,
+    ),
+    (
+        "2024-01-05T10:00:01.000Z-0000-00000000000000bb\tcategories\tfood\tname\tS:Meals\n2024-01-05T10:00:00.000Z-0000-00000000000000aa\tcategories\tfood\tname\tS:Food\n",
+        0,
+        MEALS,
+    ),
+    (
+        "2024-01-05T10:00:01.000Z-0000-00000000000000bb\tcategories\tfood\tname\tS:Meals\n2024-01-05T10:00:01.000Z-0000-00000000000000bb\tcategories\tfood\tname\tS:Meals\n",
+        0,
+        MEALS,
+    ),
+    // of equal timestamps the first counts
+    (
+        "2024-01-05T10:00:00.000Z-0000-00000000000000aa\tcategories\tfood\tname\tS:Food\n2024-01-05T10:00:00.000Z-0000-00000000000000aa\tcategories\tfood\tname\tS:x\n",
+        0,
+        FOOD,
+    ),
+    (
+        "2024-01-05T10:00:00.000Z-0000-00000000000000aa\tcategories\tfood\tname\tS:x\n2024-01-05T10:00:00.000Z-0000-00000000000000aa\tcategories\tfood\tname\tS:Food\n",
+        0,
+        "2024-01-05T10:00:00.000Z-0000-00000000000000aa\tcategories\tfood\tname\tS:x\n",
+    ),
+    ("x\n", 1, "bad-line 1 columns\n"),
+    ("\n", 1, "bad-line 1 columns\n"),
+    (
+        "2024-01-05T10:00:00.000Z-0000-00000000000000aa\tcategories\tfood\tname\tS:Food\n\nx",
+        1,
+        "bad-line 2 columns\nbad-line 3 columns\n2024-01-05T10:00:00.000Z-0000-00000000000000aa\tcategories\tfood\tname\tS:Food\n",
+    ),
+];
 
 #[test]
-fn rows(rt: HostRuntime) -> Result<(), Fail> {
-    let both_bad = ["bad-line 1 columns\n", "bad-line 2 columns\n"];
-    let rows = [
-        merged(&[], 0, &[]),
-        merged(&[FOOD, MEALS], 0, &[MEALS]),
-        merged(&[MEALS, FOOD], 0, &[MEALS]),
-        merged(&[FOOD, MEALS, FOOD, MEALS], 0, &[MEALS]),
-        merged(&[X, Y], 0, &[X]),
-        merged(&[Y, X], 0, &[Y]),
-        merged(&["x\n"], 1, &["bad-line 1 columns\n"]),
-        merged(&["\n"], 1, &["bad-line 1 columns\n"]),
-        merged(
-            &[FOOD, "\n", "x"],
-            1,
-            &["bad-line 2 columns\n", "bad-line 3 columns\n", FOOD],
-        ),
-        // the second read, after all bytes
-        failing(&[1], &[], 4, &both_bad),
-        // a third read, which isn't made: the second one has told the end
-        failing(&[2], &[], 1, &both_bad),
-        // the second write, and the flush
-        failing(&[], &[1], 5, &["bad-line 1 columns\n"]),
-        failing(&[], &[2], 5, &both_bad),
-        refused(&["merge", "x"]),
-        refused(&[]),
-        refused(&["device"]),
-        refused(&["merge", "--count", "0"]),
-    ];
-    for row in &rows {
-        let (status, written) = outcome(&rt, row)?;
-        assert_eq!(rt; status, row.status);
-        assert_eq!(rt; written, joined(&rt, row.output)?);
+fn merges(rt: HostRuntime) -> Result<(), Fail> {
+    for (input, status, output) in MERGES {
+        let run = Run {
+            words: "merge",
+            input,
+            source_fails: &[],
+            sink_fails: &[],
+            reading: 0,
+        };
+        let mut keeper = MemoryKeeper::new(rt.alloc());
+        let (ended, told) = outcome(rt.alloc(), &mut keeper, &run)?;
+        assert_eq!(rt; (ended, told.as_str()), (status, output), "at {input}");
+    }
+    Ok(())
+}
+
+/// Words that are refused: nothing is read or written.
+#[test]
+fn refuses_words(rt: HostRuntime) -> Result<(), Fail> {
+    for words in ["merge x", "", "device", "merge --count 0"] {
+        let run = Run {
+            words,
+            input: FOOD,
+            source_fails: &[],
+            sink_fails: &[],
+            reading: 0,
+        };
+        let mut keeper = MemoryKeeper::new(rt.alloc());
+        let (ended, told) = outcome(rt.alloc(), &mut keeper, &run)?;
+        assert_eq!(rt; (ended, told.as_str()), (2, ""), "at {words}");
+    }
+    Ok(())
+}
+
+/// The calls of the source, of the sink and of the keeper that fail, the status, and what is written.
+type Failing = (
+    &'static [u64],
+    &'static [u64],
+    &'static [u64],
+    u8,
+    &'static str,
+);
+
+/// The rows' runs, each over a keeper of its own.
+fn failing(alloc: Global, words: &str, input: &str, row: &Failing) -> Result<(u8, String), Fail> {
+    let mut keeper = MemoryKeeper::with_faults(alloc, row.2.to_vec(alloc)?);
+    let run = Run {
+        words,
+        input,
+        source_fails: row.0,
+        sink_fails: row.1,
+        reading: T0,
+    };
+    outcome(alloc, &mut keeper, &run)
+}
+
+/// `merge` of two lines that are no messages.
+const FAILING_MERGES: [Failing; 4] = [
+    // the second read, after all bytes
+    (
+        &[1],
+        &[],
+        &[],
+        4,
+        "bad-line 1 columns\nbad-line 2 columns\n",
+    ),
+    // a third read, which isn't made: the second one has told the end
+    (
+        &[2],
+        &[],
+        &[],
+        1,
+        "bad-line 1 columns\nbad-line 2 columns\n",
+    ),
+    // the second write, and the flush
+    (&[], &[1], &[], 5, "bad-line 1 columns\n"),
+    (
+        &[],
+        &[2],
+        &[],
+        5,
+        "bad-line 1 columns\nbad-line 2 columns\n",
+    ),
+];
+
+#[test]
+fn tells_what_failed_of_a_merge(rt: HostRuntime) -> Result<(), Fail> {
+    for row in &FAILING_MERGES {
+        let (ended, told) = failing(rt.alloc(), "merge", "x\ny\n", row)?;
+        assert_eq!(rt; (ended, told.as_str()), (row.3, row.4));
+    }
+    Ok(())
+}
+
+/// A device that is told `set` twice.
+const FAILING_DEVICES: [Failing; 7] = [
+    // the first read, and the second one after all bytes
+    (&[0], &[], &[], 4, ""),
+    (&[1], &[], &[], 4, "ok 1\nwrites 1\nok 1\nwrites 1\n"),
+    // the first write, the first flush, the second write
+    (&[], &[0], &[], 5, ""),
+    (&[], &[1], &[], 5, "ok 1\nwrites 1\n"),
+    (&[], &[2], &[], 5, "ok 1\nwrites 1\n"),
+    // the opening, and the second append
+    (&[], &[], &[0], 6, ""),
+    (&[], &[], &[2], 6, "ok 1\nwrites 1\n"),
+];
+
+const SETS: &str = "set\tcategories\tfood\tname\tS:Food\nset\tcategories\tfood\tname\tS:x\n";
+
+#[test]
+fn tells_what_failed_of_a_device(rt: HostRuntime) -> Result<(), Fail> {
+    for row in &FAILING_DEVICES {
+        let (ended, told) = failing(rt.alloc(), "device --node aa", SETS, row)?;
+        assert_eq!(rt; (ended, told.as_str()), (row.3, row.4));
+    }
+    Ok(())
+}
+
+/// A run of the device `aa` in which nothing but the keeper and the sink may fail.
+fn device<'a>(input: &'a str, sink_fails: &'a [u64], reading: u64) -> Run<'a> {
+    Run {
+        words: "device --node aa",
+        input,
+        source_fails: &[],
+        sink_fails,
+        reading,
+    }
+}
+
+/// The second append fails, so a later run has the first edit alone.
+#[test]
+fn keeps_what_was_answered(rt: HostRuntime) -> Result<(), Fail> {
+    let mut keeper = MemoryKeeper::with_faults(rt.alloc(), [2].to_vec(rt.alloc())?);
+    let (ended, told) = outcome(rt.alloc(), &mut keeper, &device(SETS, &[], T0))?;
+    assert_eq!(rt; (ended, told.as_str()), (6, "ok 1\nwrites 1\n"));
+    let (ended, told) = outcome(rt.alloc(), &mut keeper, &device("messages\t\n", &[], T0))?;
+    assert_eq!(rt; ended, 0);
+    assert_eq!(rt;
+        told.as_str(),
+        "ok 1\n2024-01-05T10:00:00.000Z-0000-00000000000000aa\tcategories\tfood\tname\tS:Food\n"
+    );
+    Ok(())
+}
+
+/// Keeps a record of the device whose body is `x`.
+fn keep_bad(alloc: Global, keeper: &mut MemoryKeeper) -> Result<(), PortFault> {
+    let group = Txt::from_text(alloc, "device")?;
+    let record = Record {
+        key: Txt::from_text(alloc, "2024-01-05T10:00:00.000Z-0000-00000000000000aa")?,
+        body: Txt::from_text(alloc, "x")?,
+    };
+    keeper.append(&group, &[record])
+}
+
+/// A record that keeps no message is reported, and decides the status where the sink fails too.
+#[test]
+fn tells_bad_records(rt: HostRuntime) -> Result<(), Fail> {
+    let mut keeper = MemoryKeeper::new(rt.alloc());
+    assert!(rt; keep_bad(rt.alloc(), &mut keeper).is_ok());
+    let (ended, told) = outcome(rt.alloc(), &mut keeper, &device(SETS, &[], T0))?;
+    assert_eq!(rt; (ended, told.as_str()), (3, "bad-record 0\n"));
+    let (ended, told) = outcome(rt.alloc(), &mut keeper, &device(SETS, &[0], T0))?;
+    assert_eq!(rt; (ended, told.as_str()), (3, ""));
+    Ok(())
+}
+
+/// Lines at readings of the clock, and their replies.
+const READINGS: [(u64, &str, &str); 5] = [
+    (
+        2_582_803_260_000,
+        "set\tcategories\tfood\tname\tS:x\n",
+        "refused E28 clock-beyond 2582803260000\n",
+    ),
+    (
+        2_582_803_259_999,
+        "set\tcategories\tfood\tname\tS:x\nmessages\t\n",
+        "ok 1\nwrites 1\nok 1\n2051-11-05T13:20:59.999Z-0000-00000000000000aa\tcategories\tfood\tname\tS:x\n",
+    ),
+    (
+        T0,
+        "receive\t2024-01-05T10:05:00.001Z-0000-00000000000000bb\tcategories\tfood\tname\tS:x\n",
+        "refused E26 clock-drift 1704449100001 1704448800000\n",
+    ),
+    (
+        T0,
+        "receive\t2024-01-05T10:05:00.000Z-0000-00000000000000bb\tcategories\tfood\tname\tS:x\nset\tcategories\tfood\tname\tS:y\nmessages\t2024-01-05T10:05:00.000Z-0000-00000000000000bb\n",
+        "ok 1\nadded 1\nok 1\nwrites 1\nok 1\n2024-01-05T10:05:00.000Z-0002-00000000000000aa\tcategories\tfood\tname\tS:y\n",
+    ),
+    (
+        T0,
+        "receive\t2024-01-05T10:00:00.000Z-FFFF-00000000000000bb\tcategories\tfood\tname\tS:x\n",
+        "refused E27 clock-overflow 65536\n",
+    ),
+];
+
+#[test]
+fn follows_the_clock(rt: HostRuntime) -> Result<(), Fail> {
+    for (reading, input, output) in READINGS {
+        let mut keeper = MemoryKeeper::new(rt.alloc());
+        let run = device(input, &[], reading);
+        let (_, told) = outcome(rt.alloc(), &mut keeper, &run)?;
+        assert_eq!(rt; told.as_str(), output, "at {input}");
     }
     Ok(())
 }

@@ -22,6 +22,9 @@ const FIRST: &str = "2024-01-05T10:00:00.000Z-0000-00000000000000aa";
 /// The timestamp of `bb` a second later, whose hash is 195473800; the hashes of both, XORed, are 16148298.
 const SECOND: &str = "2024-01-05T10:00:01.000Z-0000-00000000000000bb";
 
+/// The hashes of the first two timestamps of `aa` in that millisecond, XORed.
+const TWO: i32 = 1_294_069_467;
+
 /// Values that are written into the name of a category at 1,704,448,800,000, and the body of the record
 /// that is then pending.
 const WRITES: [(&str, &str, &str); 3] = [
@@ -77,10 +80,11 @@ fn naming(alloc: Global, row: &str, value: &str) -> Result<Edit, Fail>
     }))
 }
 
+/// Prepares the edit, which ends here: whoever holds an edit beside other values has a case for each kind of it.
 fn prepare<G: Ledger>(
     blank: Blank,
     device: &mut Device,
-    edit: &Edit,
+    edit: Edit,
     reading: u64,
 ) -> Result<u32, LineRefusal>
     requires name { blank.name ≡ G.name }
@@ -88,11 +92,11 @@ fn prepare<G: Ledger>(
     requires some { 1 ≤ G.parts }
     requires live { device.old.spent ≡ false }
     requires idle { device.old.batch ≡ [] }
-    requires valid { IsEdit edit.now }
+    requires valid { IsEdit edit }
     ensures live { OnOk result (device.new.spent ≡ false) }
 {
     let mut steps = Steps::<G>::new(blank);
-    device.prepare(edit, reading, &mut steps)
+    device.prepare(&edit, reading, &mut steps)
 }
 
 fn receive<G: Ledger>(
@@ -113,13 +117,21 @@ fn receive<G: Ledger>(
     device.incoming(batch, reading, &mut steps)
 }
 
-/// A device of `aa` that names a category at 1,704,448,800,000, by a copy of the edit.
+/// A copy of that edit.
+fn naming_again(alloc: Global, row: &str, value: &str) -> Result<Edit, Fail>
+    ensures { IfOk result IsEdit }
+{
+    let edit = naming(alloc, row, value)?;
+    Ok(edit.copy()?)
+}
+
+/// A device of `aa` that names a category at 1,704,448,800,000.
 fn named(alloc: Global, row: &str, value: &str) -> Result<Device, Fail>
     ensures { IfOk result (λ d. d.spent ≡ false) }
 {
     let mut device = device_of(alloc, &[])?;
-    let edit = naming(alloc, row, value)?.copy()?;
-    prepare::<Brand>(Blank::new(1), &mut device, &edit, 1_704_448_800_000)?;
+    let edit = naming_again(alloc, row, value)?;
+    prepare::<Brand>(Blank::new(1), &mut device, edit, 1_704_448_800_000)?;
     Ok(device)
 }
 
@@ -252,7 +264,7 @@ fn receives(rt: HostRuntime) -> Result<(), Fail> {
 fn refusal_of(alloc: Global, row: &str, reading: u64) -> Result<Option<LineRefusal>, Fail> {
     let mut device = device_of(alloc, &[])?;
     let edit = naming(alloc, row, "S:a")?;
-    let refused = prepare::<Brand>(Blank::new(1), &mut device, &edit, reading);
+    let refused = prepare::<Brand>(Blank::new(1), &mut device, edit, reading);
     Ok(refused.err())
 }
 
@@ -304,21 +316,36 @@ fn pending(alloc: Global, device: &Device) -> Result<String, Fail>
     Ok(text)
 }
 
+/// The edit that adds a group under a new id.
+fn grouping(alloc: Global) -> Result<Edit, Fail>
+    ensures { IfOk result IsEdit }
+{
+    let name = Txt::from_text(alloc, "Usual")?;
+    Ok(Edit::Book(BookEdit::GroupAdd {
+        id: None,
+        name,
+        income: false,
+    }))
+}
+
+/// A device of `aa` that adds a group at 1,704,448,800,000.
+fn grouped(alloc: Global) -> Result<Device, Fail>
+    ensures { IfOk result (λ d. d.spent ≡ false) }
+{
+    let mut device = device_of(alloc, &[])?;
+    let edit = grouping(alloc)?;
+    prepare::<Brand>(Blank::new(1), &mut device, edit, 1_704_448_800_000)?;
+    Ok(device)
+}
+
 #[test]
 fn makes_rows(rt: HostRuntime) -> Result<(), Fail> {
-    let alloc = rt.alloc();
-    let mut device = device_of(alloc, &[])?;
-    let edit = Edit::Book(BookEdit::GroupAdd {
-        id: None,
-        name: Txt::from_text(alloc, "Usual")?,
-        income: false,
-    });
-    let count = prepare::<Brand>(Blank::new(1), &mut device, &edit, 1_704_448_800_000)?;
-    assert_eq!(rt; count, 2);
+    let device = grouped(rt.alloc())?;
+    assert_eq!(rt; told_by(&device), (2, 1_704_448_800_000, 1, TWO, 2, 1));
     for id in device.made().as_slice() {
         assert_eq!(rt; id.as_str(), FIRST);
     }
-    let text = pending(alloc, &device)?;
+    let text = pending(rt.alloc(), &device)?;
     assert_eq!(rt;
         text.as_str(),
         "category_groups\t2024-01-05T10:00:00.000Z-0000-00000000000000aa\tname\tS:Usual\ncategory_groups\t2024-01-05T10:00:00.000Z-0000-00000000000000aa\tis_income\tN:0\n"
