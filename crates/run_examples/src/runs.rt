@@ -1,5 +1,5 @@
 //! Runs of `merge` and of devices, while calls fail.
-use crate::table::{Run, T0, outcome};
+use crate::table::{DEVICE, Run, T0, outcome};
 use budget_ports::{Keeper, MemoryKeeper, PortFault, Record};
 use field_values::Txt;
 use std::alloc::Global;
@@ -55,9 +55,7 @@ fn merges(rt: HostRuntime) -> Result<(), Fail> {
         let run = Run {
             words: "merge",
             input,
-            source_fails: &[],
-            sink_fails: &[],
-            reading: 0,
+            ..DEVICE
         };
         let mut keeper = MemoryKeeper::new(rt.alloc());
         let (ended, told) = outcome(rt.alloc(), &mut keeper, &run)?;
@@ -73,9 +71,7 @@ fn refuses_words(rt: HostRuntime) -> Result<(), Fail> {
         let run = Run {
             words,
             input: FOOD,
-            source_fails: &[],
-            sink_fails: &[],
-            reading: 0,
+            ..DEVICE
         };
         let mut keeper = MemoryKeeper::new(rt.alloc());
         let (ended, told) = outcome(rt.alloc(), &mut keeper, &run)?;
@@ -101,7 +97,7 @@ fn failing(alloc: Global, words: &str, input: &str, row: &Failing) -> Result<(u8
         input,
         source_fails: row.0,
         sink_fails: row.1,
-        reading: T0,
+        ..DEVICE
     };
     outcome(alloc, &mut keeper, &run)
 }
@@ -172,11 +168,10 @@ fn tells_what_failed_of_a_device(rt: HostRuntime) -> Result<(), Fail> {
 /// A run of the device `aa` in which nothing but the keeper and the sink may fail.
 fn device<'a>(input: &'a str, sink_fails: &'a [u64], reading: u64) -> Run<'a> {
     Run {
-        words: "device --node aa",
         input,
-        source_fails: &[],
         sink_fails,
         reading,
+        ..DEVICE
     }
 }
 
@@ -253,6 +248,39 @@ fn follows_the_clock(rt: HostRuntime) -> Result<(), Fail> {
         let run = device(input, &[], reading);
         let (_, told) = outcome(rt.alloc(), &mut keeper, &run)?;
         assert_eq!(rt; told.as_str(), output, "at {input}");
+    }
+    Ok(())
+}
+
+/// What three connections send: a request for all messages, one with another token, and a part of one.
+const CONNECTIONS: [&[u8]; 3] = [
+    b"POST /sync/sync HTTP/1.1\r\nX-ACTUAL-TOKEN: local\r\nContent-Length: 15\r\n\r\n\x12\x04home\x1a\x04home2\x010",
+    b"POST /sync/sync HTTP/1.1\r\nX-ACTUAL-TOKEN: x\r\nContent-Length: 15\r\n\r\n\x12\x04home\x1a\x04home2\x010",
+    b"POST /sync/sync",
+];
+
+/// The calls of the keeper, of the sink and of the door that fail, the status, and what is written.
+const SERVES: [Failing; 4] = [
+    (&[], &[], &[], 0, "1 200\n2 401\n3 cut\n"),
+    // the put of the file's group, the first write, and the first connection
+    (&[0], &[], &[], 6, ""),
+    (&[], &[0], &[], 5, ""),
+    (&[], &[], &[0], 8, ""),
+];
+
+#[test]
+fn serves(rt: HostRuntime) -> Result<(), Fail> {
+    for (keeper_fails, sink_fails, door_fails, status, output) in SERVES {
+        let mut keeper = MemoryKeeper::with_faults(rt.alloc(), keeper_fails.to_vec(rt.alloc())?);
+        let run = Run {
+            words: "serve --count 3",
+            connections: CONNECTIONS.as_slice(),
+            sink_fails,
+            door_fails,
+            ..DEVICE
+        };
+        let (ended, told) = outcome(rt.alloc(), &mut keeper, &run)?;
+        assert_eq!(rt; (ended, told.as_str()), (status, output));
     }
     Ok(())
 }
