@@ -1,0 +1,18 @@
+//! Examples of runs and of lines: the public calls of `budget_top` and `command_lines` over objects in memory, as rows that were
+//! written out by hand from the rules or that another program gave.
+#![tactic(auto)]
+
+#[cfg(test)]
+mod books;
+#[cfg(test)]
+mod calls;
+#[cfg(test)]
+mod checks;
+#[cfg(test)]
+mod reads;
+#[cfg(test)]
+mod runs;
+#[cfg(test)]
+mod table;
+#[cfg(test)]
+mod words;
