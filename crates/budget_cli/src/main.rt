@@ -14,6 +14,7 @@ mod stdin_source;
 mod stdout_sink;
 mod system_clock;
 mod tcp_door;
+mod telling;
 #[cfg(test)]
 mod tests;
 
@@ -31,6 +32,10 @@ use std::sync::ledger::{Blank, Ledger};
 use stdin_source::StdinSource;
 use stdout_sink::StdoutSink;
 use tcp_door::TcpDoor;
+use telling::{USAGE, failure};
+
+/// The status of a run whose store failed.
+const STORE_FAILED: u8 = 6;
 
 /// The words of the command line, without the program's name. Words that are not UTF-8 are none
 /// that a run knows.
@@ -53,10 +58,13 @@ fn words_of(rt: &HostRuntime) -> Result<Items<Txt>, WordFault> {
     Ok(Items::new(words))
 }
 
-/// Tells what is wrong with the words.
+/// Tells what is wrong with the words, and how the program is used.
 fn tell(rt: &HostRuntime, fault: WordFault) {
     let name = fault.name();
     let _ = eprintln!(rt; "{name}");
+    if fault != WordFault::NoMemory {
+        let _ = eprint!(rt; "{USAGE}");
+    }
 }
 
 /// Tells why there is no run, and gives the status.
@@ -97,23 +105,23 @@ fn status_over<G: Ledger, S: Source, W: Sink, K: Keeper, L: Link, D: Door, C: Wa
 }
 
 /// Does what the words ask for over the standard streams, this keeper and this door, with the clock of the
-/// system. What a run that broke off has written is handed on when the writer is dropped.
+/// system, and answers the status. What a run that broke off has written is handed on when the writer is dropped.
 fn run_with<K: Keeper, D: Door>(
     rt: &HostRuntime,
     words: &Items<Txt>,
     keeper: &mut K,
     door: &mut D,
-) -> ExitCode {
+) -> u8 {
     let alloc = rt.alloc();
     let Ok(writer) = BufWriter::new(alloc, rt.stdout()) else {
-        return without_run(rt, WordFault::NoMemory);
+        return refusal_status(WordFault::NoMemory);
     };
     let mut source = StdinSource::new(rt.stdin());
     let mut sink = StdoutSink::new(writer);
     let ports = Ports::new(rt);
     let mut link = ports.link;
     let mut clock = ports.clock;
-    ExitCode::from(status_over::<Brand, _, _, _, _, _, _>(
+    status_over::<Brand, _, _, _, _, _, _>(
         alloc,
         words,
         &mut source,
@@ -123,7 +131,17 @@ fn run_with<K: Keeper, D: Door>(
         door,
         &mut clock,
         Blank::new(1),
-    ))
+    )
+}
+
+/// Ends with the status of a run, and tells what failed where something did.
+fn ended(rt: &HostRuntime, status: u8) -> ExitCode
+    ensures { exit_status result ≡ status }
+{
+    if let Some(text) = failure(status) {
+        let _ = eprintln!(rt; "{text}");
+    }
+    ExitCode::from(status)
 }
 
 /// Tells why a store isn't there: it can't be opened, or it is of another version.
@@ -150,12 +168,15 @@ fn run_over_store<D: Door>(
             let status = run_with(rt, words, &mut keeper, door);
             // what was answered is committed already
             let _ = keeper.into_connection().close();
-            status
+            ended(rt, status)
         }
         Err(StoreFault::NoMemory) => without_run(rt, WordFault::NoMemory),
         Err(fault) => {
             tell_store(rt, &fault);
-            run_with(rt, words, &mut ShutKeeper::new(), door)
+            match run_with(rt, words, &mut ShutKeeper::new(), door) {
+                STORE_FAILED => ExitCode::from(STORE_FAILED),
+                status => ended(rt, status),
+            }
         }
     }
 }
@@ -179,6 +200,9 @@ fn main(rt: HostRuntime) -> ExitCode {
         (Mode::Device | Mode::Serve, Some(path)) => {
             run_over_store(&rt, &words, path.as_str(), &mut door)
         }
-        _ => run_with(&rt, &words, &mut memory_keeper(rt.alloc()), &mut door),
+        _ => {
+            let status = run_with(&rt, &words, &mut memory_keeper(rt.alloc()), &mut door);
+            ended(&rt, status)
+        }
     }
 }

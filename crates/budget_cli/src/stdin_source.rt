@@ -7,7 +7,29 @@ ghost use Rattle.std.specs.Io.KnownBytes.{ReadConsumes};
 ghost use Rattle.budget_ports.specs.Faults.{risen, count_after};
 
 use budget_ports::{Failed, Source};
-use std::io::Read;
+use std::io;
+use std::io::{ErrorKind, Read};
+
+/// How often a read is tried that signals interrupt.
+const MOST_TRIES: usize = 1_000_000;
+
+/// Takes what a reader gives. A read that a signal interrupts is tried again.
+fn read_on<R: Read>(reader: &mut R, buffer: &mut [u8]) -> io::Result<usize>
+    ensures bound { ReadsAtMost result buffer.new }
+    ensures reader { ReadConsumes (R.remaining reader.old) (R.remaining reader.new) result buffer.new }
+{
+    'tries: for _ in 0..MOST_TRIES {
+        match reader.read(buffer) {
+            Ok(count) => return Ok(count),
+            Err(error) => {
+                if error.kind() != ErrorKind::Interrupted {
+                    return Err(error);
+                }
+            }
+        }
+    }
+    Err(ErrorKind::Interrupted.into())
+}
 
 /// A reader, and how often it has failed.
 #[derive(Drop)]
@@ -49,7 +71,7 @@ impl<R: Read> Source for StdinSource<R> {
         // what this one does
         ensures reader { ReadConsumes (R.remaining self.old.reader) (R.remaining self.new.reader) result buffer.new }
     {
-        match self.reader.read(buffer) {
+        match read_on(&mut self.reader, buffer) {
             Ok(count) => Ok(count),
             Err(_) => Err(self.fail()),
         }
