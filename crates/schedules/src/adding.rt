@@ -1,0 +1,92 @@
+//! Adding a schedule.
+ghost use Rattle.std.specs.Prelude.{◌≡◌, ◌<◌, ◌++◌, ◌∷◌, [], codes, IfOk, IfErr, OnOk, Ok};
+ghost use Rattle.field_values.specs.declared.value.Value.TheVariants.{Null, Text as IsText};
+ghost use Rattle.book_edits.specs.Faults.{IsEditFault};
+ghost use Rattle.schedules.specs.Days.{said};
+ghost use Rattle.schedules.specs.Edits.{first_day, rule_write, rule_writes, row_writes, add_writes, schedule_add};
+
+use crate::conditions_text::conditions_text;
+use crate::given::{an_amount, live_account, maybe_live_payee, new_schedule};
+use crate::reading::read_recur;
+use crate::recurrence::Recurrence;
+use crate::upcoming::first_from;
+use crate::writing::{date, flag, push, push_rule, text, word};
+use book_rows::{Book, EditFault, RecurPart, RowName, Write};
+use field_values::{NoMemory, Txt, Value};
+use std::alloc::Global;
+
+/// The place among the writes of a new schedule of the one that makes its rule.
+const RULE_AT: u32 = 0;
+
+/// The first day of a recurrence, which has to have one.
+fn first_day(recurrence: &Recurrence) -> Result<u32, EditFault>
+    ensures ok { IfOk result (λ day. first_day (said recurrence.now) ≡ Ok day) }
+    ensures calendar { IfOk result (λ day. day < 84_006) }
+    ensures err { IfErr result (IsEditFault (first_day (said recurrence.now))) }
+{
+    match first_from(recurrence, 0) {
+        Some(day) => Ok(day),
+        None => Err(EditFault::BadRecur {
+            part: RecurPart::EndMode,
+        }),
+    }
+}
+
+/// The writes of the rule of a new schedule.
+fn rule_writes(alloc: Global, conditions: Txt) -> Result<Vec<Write>, NoMemory>
+    ensures { IfOk result (λ ws. ws.items ≡ rule_writes conditions) }
+{
+    let rule = RowName::Made(RULE_AT);
+    let mut writes = Vec::new(alloc);
+    push(alloc, &mut writes, "rules", &rule, "stage", Value::Null)?;
+    let op = word(alloc, "and")?;
+    push(alloc, &mut writes, "rules", &rule, "conditions_op", op)?;
+    let conditions = Value::Text(conditions);
+    push(alloc, &mut writes, "rules", &rule, "conditions", conditions)?;
+    let actions = word(alloc, "[]")?;
+    push(alloc, &mut writes, "rules", &rule, "actions", actions)?;
+    Ok(writes)
+}
+
+/// The writes of a new schedule behind those of its rule.
+fn push_row(
+    alloc: Global,
+    writes: &mut Vec<Write>,
+    row: &RowName,
+    name: &Txt,
+    day: u32,
+) -> Result<(), NoMemory>
+    requires { day < 84_006 }
+    ensures { OnOk result (writes.new.items ≡ writes.old.items ++ row_writes row.now name.now day) }
+{
+    push_rule(alloc, writes, row, RULE_AT)?;
+    push(alloc, writes, "schedules", row, "name", text(name)?)?;
+    push(alloc, writes, "schedules", row, "next_date", date(day))?;
+    push(alloc, writes, "schedules", row, "completed", flag(false))
+}
+
+/// Adds a schedule with a rule of its own.
+pub(crate) fn schedule_add(
+    alloc: Global,
+    book: &Book,
+    id: &Option<Txt>,
+    name: &Txt,
+    account: &Txt,
+    payee: &Option<Txt>,
+    amount: i64,
+    recur: &Txt,
+) -> Result<Vec<Write>, EditFault>
+    ensures ok { IfOk result (λ ws. schedule_add book.now.rows id.now name.now account.now payee.now amount recur.now ≡ Ok ws.items) }
+    ensures err { IfErr result (IsEditFault (schedule_add book.now.rows id.now name.now account.now payee.now amount recur.now)) }
+{
+    let row = new_schedule(book, id)?;
+    live_account(book, account)?;
+    maybe_live_payee(book, payee)?;
+    an_amount(amount)?;
+    let recurrence = read_recur(alloc, recur)?;
+    let day = first_day(&recurrence)?;
+    let conditions = conditions_text(alloc, account, payee, amount, recur)?;
+    let mut writes = rule_writes(alloc, conditions)?;
+    push_row(alloc, &mut writes, &row, name, day)?;
+    Ok(writes)
+}
