@@ -5,9 +5,8 @@ use Rattle.std.specs.Int.{div_ceil}
 use Rattle.std.proofs.lemmas.Bool.{and_parts, and_from, false_from_ne_true, lt-ltb, le-leb, ltb-true, leb-true, both_ways}
 use Rattle.schedules.specs.declared.month.MonthDay.{MonthDay}
 use Rattle.schedules.specs.declared.recurrence.Pattern.{Pattern}
-use Rattle.schedules.specs.Days.{Said, Places}
 use Rattle.schedules.specs.Months.{month_length, month_start, month_day}
-use Rattle.schedules.specs.Days.{is_multiple, is_month_step, falls_on, falls_by, is_at, IsFirstFrom, IsFirstFromIn}
+use Rattle.schedules.specs.Days.{Places, is_multiple, is_month_step, falls_on, falls_by, is_at, IsFirstFrom, IsFirstFromIn}
 use Rattle.schedules.proofs.Calendar.{by_lt, month_day_is, month_within, placed, day_of, month_rises, start_before, start_end}
 use Rattle.schedules.proofs.Steps.{ceil_times, not_below, apart, one_more, multiple}
 
@@ -20,7 +19,7 @@ falls_by_some [] first m h = absurd (omega arith)
 falls_by_some (p ∷ ps) first m h = refl
 
 -- so many days of a month, from one day on, do not fall
-abbrev pub NoneFalls : Said → ℕ → ℕ → ℕ → Type 0
+abbrev pub NoneFalls : Places → ℕ → ℕ → ℕ → Type 0
 NoneFalls r month from n =
     (p : ℕ) → p < n → from ≤ month_start month + p → falls_on r (record { month = month; place = p + 1 }) ≡ false
 
@@ -39,7 +38,7 @@ place_of d month within same =
     let first = (day_of d).first in
     (omega arith, omega arith, first)
 
-pub none_falls : (r : Said) (month from n : ℕ) → month < 2_760 → NoneFalls r month from n → (d : ℕ) → from ≤ d → d < month_start month + n → (month_day d).month ≡ month → falls_on r (month_day d) ≡ false
+pub none_falls : (r : Places) (month from n : ℕ) → month < 2_760 → NoneFalls r month from n → (d : ℕ) → from ≤ d → d < month_start month + n → (month_day d).month ≡ month → falls_on r (month_day d) ≡ false
 none_falls r month from n within none d reached below same =
     let at = place_of d month within same in
     let p = (month_day d).place - 1 in
@@ -47,12 +46,12 @@ none_falls r month from n within none d reached below same =
     ap month_day (sym at.0) ∙ at_place month p within (omega (arith, at.1, at.2)) in
     ap (falls_on r) there ∙ none p (omega (arith, at.0)) (omega (arith, at.0))
 
-pub none_in_month : (r : Said) (month from : ℕ) → month < 2_760 → NoneFalls r month from (month_length month) → (d : ℕ) → from ≤ d → (month_day d).month ≡ month → falls_on r (month_day d) ≡ false
+pub none_in_month : (r : Places) (month from : ℕ) → month < 2_760 → NoneFalls r month from (month_length month) → (d : ℕ) → from ≤ d → (month_day d).month ≡ month → falls_on r (month_day d) ≡ false
 none_in_month r month from within none d reached same =
     let at = place_of d month within same in
     none_falls r month from (month_length month) within none d reached (omega (arith, at.0, at.1, at.2)) same
 
-pub found : (r : Said) (month from before : ℕ) → month < 2_760 → before < month_length month → NoneFalls r month from before → from ≤ month_start month + before → falls_on r (record { month = month; place = before + 1 }) ≡ true → IsFirstFromIn r month from (month_start month + before)
+pub found : (r : Places) (month from before : ℕ) → month < 2_760 → before < month_length month → NoneFalls r month from before → from ≤ month_start month + before → falls_on r (record { month = month; place = before + 1 }) ≡ true → IsFirstFromIn r month from (month_start month + before)
 found r month from before within short none reached falls =
     let there = at_place month before within short in
     record {
@@ -67,13 +66,13 @@ found r month from before within short none reached falls =
     end_bound month before within short = omega (arith, start_before month 2_760 within, start_end)
 
 -- what a test of whole months says
-pub record IsMonthStep (step : ℕ) (r : Said) (d : ℕ) : Type 0 where
+pub record IsMonthStep (step : ℕ) (r : Places) (d : ℕ) : Type 0 where
   pub within : d < 84_006
   pub from : r.start ≤ d
   pub whole : is_multiple step ((month_day d).month - (month_day r.start).month) ≡ true
   pub falls : falls_on r (month_day d) ≡ true
 
-pub month_step : (step : ℕ) (r : Said) (d : ℕ) → is_month_step step r d ≡ true → IsMonthStep step r d
+pub month_step : (step : ℕ) (r : Places) (d : ℕ) → is_month_step step r d ≡ true → IsMonthStep step r d
 unfolding is_month_step
 month_step step r d h =
     let a = and_parts (nat_lt d 84_006) (nat_le r.start d && (is_multiple step ((month_day d).month - (month_day r.start).month) && falls_on r (month_day d))) h in
@@ -81,19 +80,19 @@ month_step step r d h =
     let e = and_parts (is_multiple step ((month_day d).month - (month_day r.start).month)) (falls_on r (month_day d)) b.1 in
     record { within = ltb-true d 84_006 a.0; from = leb-true r.start d b.0; whole = e.0; falls = e.1 }
 
-pub is_step_of : (step : ℕ) (r : Said) (d : ℕ) → IsMonthStep step r d → is_month_step step r d ≡ true
+pub is_step_of : (step : ℕ) (r : Places) (d : ℕ) → IsMonthStep step r d → is_month_step step r d ≡ true
 unfolding is_month_step
 is_step_of step r d h =
     and_from _ _ (lt-ltb d 84_006 h.within) (and_from _ _ (le-leb r.start d h.from) (and_from _ _ h.whole h.falls))
 
 -- no raw day from `begin` on lies in an earlier month
-pub record IsAhead (step : ℕ) (r : Said) (begin month : ℕ) : Type 0 where
+pub record IsAhead (step : ℕ) (r : Places) (begin month : ℕ) : Type 0 where
   pub whole : is_multiple step (month - (month_day r.start).month) ≡ true
   pub from : (month_day r.start).month ≤ month
   pub below : month < 14_760
   pub least : (d : ℕ) → begin ≤ d → is_month_step step r d ≡ true → month ≤ (month_day d).month
 
-pub ahead_first : (step : ℕ) (r : Said) (begin month : ℕ) → 1 ≤ step → step ≤ 12_000 → r.start ≤ begin → begin < 84_006 → month ≡ (month_day r.start).month + div_ceil ((month_day begin).month - (month_day r.start).month) step * step → IsAhead step r begin month
+pub ahead_first : (step : ℕ) (r : Places) (begin month : ℕ) → 1 ≤ step → step ≤ 12_000 → r.start ≤ begin → begin < 84_006 → month ≡ (month_day r.start).month + div_ceil ((month_day begin).month - (month_day r.start).month) step * step → IsAhead step r begin month
 ahead_first step r begin month one most from within e =
     let first = (month_day r.start).month in
     let x = (month_day begin).month - first in
@@ -113,7 +112,7 @@ ahead_first step r begin month one most from within e =
           omega (arith, least, e, later, rises);
     }
 
-pub ahead_next : (step : ℕ) (r : Said) (begin month : ℕ) → 1 ≤ step → step ≤ 12_000 → month < 2_760 → IsAhead step r begin month → ((d : ℕ) → begin ≤ d → (month_day d).month ≡ month → falls_on r (month_day d) ≡ false) → IsAhead step r begin (month + step)
+pub ahead_next : (step : ℕ) (r : Places) (begin month : ℕ) → 1 ≤ step → step ≤ 12_000 → month < 2_760 → IsAhead step r begin month → ((d : ℕ) → begin ≤ d → (month_day d).month ≡ month → falls_on r (month_day d) ≡ false) → IsAhead step r begin (month + step)
 ahead_next step r begin month one most within is none =
     let first = (month_day r.start).month in
     let from = is.from in
@@ -132,7 +131,7 @@ ahead_next step r begin month one most within is none =
           (λ ge. absurd (both_ways (falls_on r (month_day d)) (none d reached (omega arith)) at.falls));
     }
 
-pub ahead_found : (step : ℕ) (r : Said) (from begin month n : ℕ) → begin ≡ max from r.start → IsAhead step r begin month → IsFirstFromIn r month begin n → IsFirstFrom (is_month_step step r) from n
+pub ahead_found : (step : ℕ) (r : Places) (from begin month n : ℕ) → begin ≡ max from r.start → IsAhead step r begin month → IsFirstFromIn r month begin n → IsFirstFrom (is_month_step step r) from n
 ahead_found step r from begin month n e is first =
     let same = first.there in
     let reached = first.reached in
@@ -150,14 +149,14 @@ ahead_found step r from begin month n e is first =
           both_ways (falls_on r (month_day d)) (first.before d far below (omega arith)) at.falls);
     }
 
-pub ahead_none : (step : ℕ) (r : Said) (from begin month : ℕ) → begin ≡ max from r.start → 2_760 ≤ month → IsAhead step r begin month → (d : ℕ) → from ≤ d → is_month_step step r d ≡ false
+pub ahead_none : (step : ℕ) (r : Places) (from begin month : ℕ) → begin ≡ max from r.start → 2_760 ≤ month → IsAhead step r begin month → (d : ℕ) → from ≤ d → is_month_step step r d ≡ false
 ahead_none step r from begin month e end is d reached =
     false_from_ne_true (is_month_step step r d) (λ t.
     let at = month_step step r d t in
     let start = at.from in
     omega (arith, is.least d (omega (arith, e)) t, month_within d at.within))
 
-pub none_late : (step : ℕ) (r : Said) (from begin : ℕ) → begin ≡ max from r.start → 84_006 ≤ begin → (d : ℕ) → from ≤ d → is_month_step step r d ≡ false
+pub none_late : (step : ℕ) (r : Places) (from begin : ℕ) → begin ≡ max from r.start → 84_006 ≤ begin → (d : ℕ) → from ≤ d → is_month_step step r d ≡ false
 none_late step r from begin e end d reached =
     false_from_ne_true (is_month_step step r d) (λ t.
     let at = month_step step r d t in
@@ -165,9 +164,9 @@ none_late step r from begin e end d reached =
     omega (arith, at.within, e))
 
 -- the month where the code begins
-pub rises_made : (r : Said) (begin : ℕ) (first here : MonthDay) → first ≡ month_day r.start → here ≡ month_day begin → r.start ≤ begin → begin < 84_006 → (first.month ≤ here.month) × (here.month < 2_760)
+pub rises_made : (r : Places) (begin : ℕ) (first here : MonthDay) → first ≡ month_day r.start → here ≡ month_day begin → r.start ≤ begin → begin < 84_006 → (first.month ≤ here.month) × (here.month < 2_760)
 rises_made r begin first here a b from within = rw (a, b) (month_rises r.start begin from within, month_within begin within)
 
-pub ahead_made : (step : ℕ) (r : Said) (begin k : ℕ) (first here : MonthDay) → 1 ≤ step → step ≤ 12_000 → first ≡ month_day r.start → here ≡ month_day begin → k ≡ div_ceil (here.month - first.month) step → r.start ≤ begin → begin < 84_006 → IsAhead step r begin (first.month + k * step)
+pub ahead_made : (step : ℕ) (r : Places) (begin k : ℕ) (first here : MonthDay) → 1 ≤ step → step ≤ 12_000 → first ≡ month_day r.start → here ≡ month_day begin → k ≡ div_ceil (here.month - first.month) step → r.start ≤ begin → begin < 84_006 → IsAhead step r begin (first.month + k * step)
 ahead_made step r begin k first here one most a b e from within =
     ahead_first step r begin (first.month + k * step) one most from within (rw (e, a, b) refl)

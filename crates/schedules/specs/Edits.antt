@@ -91,14 +91,16 @@ rule_writes conditions =
     ∷ rule_write (codes "actions") (IsText (codes "[]"))
     ∷ []
 
+-- its first day, and that it hasn't ended
+abbrev pub day_writes : RowName → ℕ → List Write
+day_writes row day = schedule_write row (codes "next_date") (Number (pos (date_of day))) ∷ schedule_write row (codes "completed") (flag false) ∷ []
+
 -- a new schedule with that rule
 abbrev pub row_writes : RowName → Text → ℕ → List Write
 row_writes row name day =
     record { dataset = codes "schedules"; row = row; column = codes "rule"; value = IdOf 0 }
     ∷ schedule_write row (codes "name") (IsText name)
-    ∷ schedule_write row (codes "next_date") (Number (pos (date_of day)))
-    ∷ schedule_write row (codes "completed") (flag false)
-    ∷ []
+    ∷ day_writes row day
 
 abbrev pub add_writes : RowName → Text → ℕ → Text → List Write
 add_writes row name day conditions = rule_writes conditions ++ row_writes row name day

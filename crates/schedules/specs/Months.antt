@@ -1,6 +1,6 @@
 -- Days by month, and the dates that write them: days are numbered from 1 January 1970, and months from January 1970.
-use Rattle.std.specs.Prelude.{ℕ, zero, suc, ◌+◌, ◌-◌, ◌*◌, ◌/◌, ◌%◌, nat_lt, if◌then◌else◌, pos, unsigned_abs, Option, Some, None}
-use Rattle.jiff_core.specs.Calendar.{days_in_month, weekday_number, days_from_civil}
+use Rattle.std.specs.Prelude.{ℕ, zero, suc, ◌+◌, ◌-◌, ◌*◌, ◌/◌, ◌%◌, nat_lt, if◌then◌else◌, pos, Option, Some, None}
+use Rattle.jiff_core.specs.Calendar.{days_in_month, weekday_number}
 use Rattle.book_rows.specs.Kinds.{is_day}
 use Rattle.schedules.specs.declared.month.MonthDay.{MonthDay}
 
@@ -36,6 +36,10 @@ written m = (1970 + m.month / 12) * 10_000 + (m.month % 12 + 1) * 100 + m.place
 abbrev pub date_of : ℕ → ℕ
 date_of d = written (month_day d)
 
+-- the month of a number YYYYMMDD
+abbrev pub month_in : ℕ → ℕ
+month_in n = (n / 10_000 - 1970) * 12 + n / 100 % 100 - 1
+
 -- the day that a number YYYYMMDD writes, if it writes one
 unfoldable pub day_in : ℕ → Option ℕ
-day_in n = if is_day n then Some (unsigned_abs (days_from_civil (pos (n / 10_000)) (n / 100 % 100) (n % 100))) else None
+day_in n = if is_day n then Some (month_start (month_in n) + n % 100 - 1) else None

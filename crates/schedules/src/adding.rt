@@ -3,7 +3,7 @@ ghost use Rattle.std.specs.Prelude.{◌≡◌, ◌<◌, ◌++◌, ◌∷◌, [],
 ghost use Rattle.field_values.specs.declared.value.Value.TheVariants.{Null, Text as IsText};
 ghost use Rattle.book_edits.specs.Faults.{IsEditFault};
 ghost use Rattle.schedules.specs.Days.{said};
-ghost use Rattle.schedules.specs.Edits.{first_day, rule_write, rule_writes, row_writes, add_writes, schedule_add};
+ghost use Rattle.schedules.specs.Edits.{first_day, rule_writes, day_writes, row_writes, schedule_add};
 
 use crate::conditions_text::conditions_text;
 use crate::given::{an_amount, live_account, maybe_live_payee, new_schedule};
@@ -48,7 +48,21 @@ fn rule_writes(alloc: Global, conditions: Txt) -> Result<Vec<Write>, NoMemory>
     Ok(writes)
 }
 
-/// The writes of a new schedule behind those of its rule.
+/// Puts the first day of a new schedule, and that it hasn't ended, behind other writes.
+fn push_day(
+    alloc: Global,
+    writes: &mut Vec<Write>,
+    row: &RowName,
+    day: u32,
+) -> Result<(), NoMemory>
+    requires { day < 84_006 }
+    ensures { OnOk result (writes.new.items ≡ writes.old.items ++ day_writes row.now day) }
+{
+    push(alloc, writes, "schedules", row, "next_date", date(day))?;
+    push(alloc, writes, "schedules", row, "completed", flag(false))
+}
+
+/// Puts the row of a new schedule behind other writes.
 fn push_row(
     alloc: Global,
     writes: &mut Vec<Write>,
@@ -61,8 +75,7 @@ fn push_row(
 {
     push_rule(alloc, writes, row, RULE_AT)?;
     push(alloc, writes, "schedules", row, "name", text(name)?)?;
-    push(alloc, writes, "schedules", row, "next_date", date(day))?;
-    push(alloc, writes, "schedules", row, "completed", flag(false))
+    push_day(alloc, writes, row, day)
 }
 
 /// Adds a schedule with a rule of its own.

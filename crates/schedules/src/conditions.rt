@@ -1,6 +1,7 @@
 //! Whether the JSON of a rule's conditions and actions can be read.
-ghost use Rattle.std.specs.Prelude.{◌≡◌, Some, option_map, option_and_then};
+ghost use Rattle.std.specs.Prelude.{◌≡◌, Some, IfSome, option_map, option_and_then};
 ghost use Rattle.serde_json.specs.View.{view, items_view};
+ghost use Rattle.field_values.specs.Value.{HoldsNumber};
 ghost use Rattle.schedules.specs.Conditions.{says, is_words, is_id, all_of, are_words, exact, amount_at, is_between, is_date, is_keyed, is_flag, is_same_op, is_list_op, is_part_op, is_near_op, is_order_op, is_account_field, is_payee_field, is_id_field, is_words_field, is_id_test, is_words_test, is_amount_test, is_date_test, is_flag_test, is_test, is_set, asks_way, is_condition, is_set_op, is_words_op, is_setting, is_action};
 
 use crate::dates::day_of_text;
@@ -69,7 +70,8 @@ fn are_words(value: Option<&Value>) -> bool
 
 /// A number that JSON writes exactly.
 fn exact(number: i64) -> Option<i64>
-    ensures { result ≡ exact number }
+    ensures value { result ≡ exact number }
+    ensures held { IfSome result (λ n. HoldsNumber n) }
 {
     if -LARGEST <= number && number <= LARGEST {
         Some(number)
@@ -80,7 +82,8 @@ fn exact(number: i64) -> Option<i64>
 
 /// The whole number of a value.
 pub(crate) fn amount_at(value: Option<&Value>) -> Option<i64>
-    ensures { result ≡ amount_at (option_map (λ v. view v.now) value.entry) }
+    ensures value { result ≡ amount_at (option_map (λ v. view v.now) value.entry) }
+    ensures held { IfSome result (λ n. HoldsNumber n) }
 {
     match value {
         None => None,

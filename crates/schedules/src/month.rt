@@ -1,7 +1,8 @@
 //! Days by month, and the dates that write them: months are numbered from January 1970.
-ghost use Rattle.std.specs.Prelude.{◌≡◌, ◌+◌, ◌-◌, ◌<◌, ◌≤◌, pos, ◌≤ℤ◌, IfSome, length};
+ghost use Rattle.std.specs.Prelude.{◌≡◌, ◌<◌, ◌≤◌, pos, ◌≤ℤ◌, true, Some, IfSome};
 ghost use Rattle.jiff_core.specs.Date.{epoch_day, weekday_of};
-ghost use Rattle.schedules.specs.Months.{month_day, month_start, month_length, weekday, written, date_of, day_in};
+ghost use Rattle.book_rows.specs.Kinds.{is_day};
+ghost use Rattle.schedules.specs.Months.{month_day, month_start, month_length, weekday, date_of, day_in};
 
 use book_rows::is_day;
 use jiff_core::civil::{Date, Weekday};
@@ -54,20 +55,27 @@ pub(crate) fn date_of(day: u32) -> u32
     (1970 + day.month / 12) * 10_000 + (day.month % 12 + 1) * 100 + day.place
 }
 
+/// The day that a date YYYYMMDD writes.
+pub(crate) fn day_of(date: u32) -> u32
+    requires { is_day date ≡ true }
+    ensures value { day_in date ≡ Some result }
+    ensures calendar { result < 84_006 }
+{
+    let month = (date / 10_000 - 1970) * 12 + date / 100 % 100 - 1;
+    month_start(month) + date % 100 - 1
+}
+
 /// The day that a number YYYYMMDD writes, if it writes one.
 #[tactic(auto, unfolding(crate::specs::Months::day_in))]
 pub(crate) fn day_in(date: u32) -> Option<u32>
-    ensures { result ≡ day_in date }
+    ensures value { result ≡ day_in date }
+    ensures calendar { IfSome result (λ d. d < 84_006) }
 {
-    if !is_day(date) {
-        return None;
+    if is_day(date) {
+        Some(day_of(date))
+    } else {
+        None
     }
-    let civil = Date::constrain(
-        (date / 10_000) as i16,
-        (date / 100 % 100) as u8,
-        (date % 100) as u8,
-    );
-    Some(civil.to_unix_epoch_day() as u32)
 }
 
 /// The day number of a month's first day.

@@ -8,7 +8,7 @@ ghost use Rattle.finite_sums.specs.Maps.{some_and};
 ghost use Rattle.schedules.specs.Months.{day_in};
 ghost use Rattle.schedules.specs.Status.{next_day, pays, is_paid, by_days, live_row, status_of, status_in};
 
-use crate::month::day_in;
+use crate::month::{day_in, day_of};
 use crate::uncounted::{tx, txs};
 use book_rows::{Book, ScheduleRow, TxRow};
 use field_values::Txt;
@@ -159,8 +159,5 @@ pub fn status(book: &Book, id: &Txt, day: u32) -> Option<ScheduleStatus>
     requires { is_day day ≡ true }
     ensures { result ≡ status_in book.now.rows id.now day }
 {
-    match day_in(day) {
-        Some(day) => status_on(book, id, day),
-        None => None,
-    }
+    status_on(book, id, day_of(day))
 }

@@ -97,7 +97,7 @@ fn names(entry: &Value) -> bool
 
 /// The first entry about this.
 fn first_about(about: About, entries: &Vec<Value>) -> Option<&Value>
-    ensures { option_map (λ v. view v.now) result.entry ≡ first_where (fits about) (items_view entries.now.items) }
+    ensures { option_map (λ v. view v.now) result ≡ first_where (fits about) (items_view entries.now.items) }
 {
     for entry in entries {
         if fits(about, entry) {

@@ -1,11 +1,10 @@
 //! Occurrences: the next one after a day, and those between two days.
-ghost use Rattle.std.specs.Prelude.{◌≡◌, ◌<◌, ◌+◌, true, map, IfSome, IfOk, option_map};
+ghost use Rattle.std.specs.Prelude.{◌≡◌, ◌<◌, ◌+◌, true, IfSome, IfOk, option_map};
 ghost use Rattle.book_rows.specs.Kinds.{is_day};
-ghost use Rattle.schedules.specs.Months.{date_of};
-ghost use Rattle.schedules.specs.Days.{asked_from, is_within, moved, said, next_from, occurrences_in, IsPast};
+ghost use Rattle.schedules.specs.Days.{asked_from, is_within, moved, said, next_from, IsPast};
 ghost use Rattle.schedules.specs.Upcoming.{IsNext, AreBetween};
 
-use crate::month::{DAYS, date_of, day_in, weekday};
+use crate::month::{date_of, day_of, weekday};
 use crate::raw::first_raw;
 use crate::recurrence::{Ending, Recurrence, Weekends};
 use field_values::NoMemory;
@@ -70,8 +69,7 @@ pub fn next(recurrence: &Recurrence, after: u32) -> Option<u32>
     requires { is_day after ≡ true }
     ensures { IsNext (said recurrence.now) after result }
 {
-    let from = day_in(after)? + 1;
-    match first_from(recurrence, from) {
+    match first_from(recurrence, day_of(after) + 1) {
         Some(day) => Some(date_of(day)),
         None => None,
     }
@@ -89,11 +87,9 @@ pub fn occurrences(
     requires last { is_day last ≡ true }
     ensures { IfOk result (λ v. AreBetween (said recurrence.now) first last v.items) }
 {
+    let to = day_of(last);
     let mut dates = Vec::new(alloc);
-    let (Some(from), Some(to)) = (day_in(first), day_in(last)) else {
-        return Ok(dates);
-    };
-    let mut from = from;
+    let mut from = day_of(first);
     let mut place = begun(recurrence, from);
     while let Some((day, next)) = search(recurrence, place, from) {
         if day > to {
@@ -130,8 +126,7 @@ fn is_within(ending: Ending, passed: u32, raw: u32) -> bool
 /// Where a day moves.
 fn moved(weekends: Weekends, day: u32) -> u32
     requires { day < 84_006 }
-    ensures value { result ≡ moved weekends day }
-    ensures calendar { result < 84_006 }
+    ensures { result ≡ moved weekends day }
 {
     match weekends {
         Weekends::Stay => day,

@@ -1,5 +1,5 @@
 //! The writes of edits, one by one.
-ghost use Rattle.std.specs.Prelude.{◌≡◌, ◌++◌, ◌∷◌, [], pos, codes, OnOk, IfOk};
+ghost use Rattle.std.specs.Prelude.{◌≡◌, ◌<◌, ◌++◌, ◌∷◌, [], pos, codes, OnOk, IfOk};
 ghost use Rattle.field_values.specs.declared.value.Value.TheVariants.{Number, Text as IsText};
 ghost use Rattle.book_rows.specs.declared.write.RowName.TheVariants.{Given};
 ghost use Rattle.book_rows.specs.declared.write.WriteValue.TheVariants.{IdOf};
