@@ -158,6 +158,6 @@ civil d h =
     let p = (month_day d).place in
     let few : p ≤ days_in_month (pos (1970 + m / 12)) (m % 12 + 1) = is.few in
     record {
-      civil = ((omega (arith, ints, is.month), omega (arith, ints, is.month)), ((omega arith, omega arith), (is.some, few)));
+      civil = ((omega (arith, ints, is.month), omega (arith, ints, is.month)), (omega arith, omega arith), (is.some, few));
       number = omega (arith, signed_arith, days_from_civil-day_count (pos (1970 + m / 12)) (m % 12 + 1) p, start_civil m, day_count-day (pos (1970 + m / 12)) (m % 12 + 1) 1 p (omega arith) is.some, is.at);
     }

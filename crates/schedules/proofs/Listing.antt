@@ -1,5 +1,5 @@
 -- The occurrences between two days, in order.
-use Rattle.std.proofs.Common.{◌≡◌, ◌↔◌, ℕ, zero, suc, ◌+◌, ◌-◌, ◌<◌, ◌≤◌, Bool, true, false, cond, List, [], ◌∷◌, ◌++◌, map, refl, sym, ap, ◌∙◌, subst, arith}
+use Rattle.std.proofs.Common.{◌≡◌, ◌↔◌, ℕ, zero, suc, ◌+◌, ◌-◌, ◌<◌, ◌≤◌, Bool, true, false, cond, List, [], ◌∷◌, ◌++◌, map, Some, refl, sym, ap, ◌∙◌, subst, arith}
 use Rattle.std.specs.Prelude.{◌==◌, ◌||◌}
 use Rattle.std.specs.List.{list_any, AllByRecursion}
 use Rattle.std.specs.List.Sorted.{IsStrictlySortedBy}
@@ -15,9 +15,6 @@ use Rattle.schedules.proofs.Calendar.{by_lt}
 use Rattle.schedules.proofs.Dating.{date_back, date_rises, date_from}
 use Rattle.schedules.proofs.Telling.{bool_cases, occurs_within, occurs_so, so_occurs, some_told, none_told}
 use Rattle.schedules.proofs.Following.{with_date, its_day}
-
-abbrev Rest : (ℕ → Bool) → ℕ → ℕ → List ℕ
-Rest test more from = those_of test more (from + 1)
 
 those_pass : (test : ℕ → Bool) (more from : ℕ) → test from ≡ true → those_of test (suc more) from ≡ from ∷ those_of test more (from + 1)
 unfolding those_of
@@ -85,23 +82,20 @@ record HasDay (test : ℕ → Bool) (more from n : ℕ) : Type 0 where
   below : day < from + more
   writes : date_of day ≡ n
 
+further : (test : ℕ → Bool) (more from n : ℕ) → HasDay test more (from + 1) n → HasDay test (suc more) from n
+further test more from n x = record { day = x.day; passes = x.passes; reached = omega (arith, x.reached); below = omega (arith, x.below); writes = x.writes }
+
 has_day : (test : ℕ → Bool) (more from n : ℕ) → list_any (λ m. m == n) (map date_of (those_of test more from)) ≡ true → HasDay test more from n
 unfolding those_of
 has_day test zero from n h = cc
-has_day test (suc more) from n h = bool_cases (test from) yes no
-  where
-    later : list_any (λ m. m == n) (map date_of (those_of test more (from + 1))) ≡ true → HasDay test (suc more) from n
-    later k = let x = has_day test more (from + 1) n k in record { day = x.day; passes = x.passes; reached = omega (arith, x.reached); below = omega (arith, x.below); writes = x.writes }
-
-    yes : test from ≡ true → HasDay test (suc more) from n
-    yes t =
-        let k : list_any (λ m. m == n) (map date_of (from ∷ those_of test more (from + 1))) ≡ true = sym (ap (λ ds. list_any (λ m. m == n) (map date_of ds)) (those_pass test more from t)) ∙ h in
-        or_true (date_of from == n) (list_any (λ m. m == n) (map date_of (those_of test more (from + 1)))) k
-        (λ e. record { day = from; passes = t; reached = omega arith; below = omega arith; writes = eqb-true (date_of from) n e })
-        later
-
-    no : test from ≡ false → HasDay test (suc more) from n
-    no f = later (sym (ap (λ ds. list_any (λ m. m == n) (map date_of ds)) (those_skip test more from f)) ∙ h)
+has_day test (suc more) from n h =
+    bool_cases (test from)
+    (λ t.
+    let k : list_any (λ m. m == n) (map date_of (from ∷ those_of test more (from + 1))) ≡ true = sym (ap (λ ds. list_any (λ m. m == n) (map date_of ds)) (those_pass test more from t)) ∙ h in
+    or_true (date_of from == n) (list_any (λ m. m == n) (map date_of (those_of test more (from + 1)))) k
+    (λ e. record { day = from; passes = t; reached = omega arith; below = omega arith; writes = eqb-true (date_of from) n e })
+    (λ later. further test more from n (has_day test more (from + 1) n later)))
+    (λ f. further test more from n (has_day test more (from + 1) n (sym (ap (λ ds. list_any (λ m. m == n) (map date_of ds)) (those_skip test more from f)) ∙ h)))
 
 day_had : (test : ℕ → Bool) (more from n d : ℕ) → test d ≡ true → from ≤ d → d < from + more → date_of d ≡ n → list_any (λ m. m == n) (map date_of (those_of test more from)) ≡ true
 day_had test zero from n d t reached below e = absurd (omega arith)

@@ -54,3 +54,22 @@ pub first_over : (test : Data → Bool) (vs ws : List Value) (i : ℕ) → ws �
 first_over test vs ws i same h inv =
     let P : List Value → Type 0 = λ xs. length xs ≤ i in
     sym (ap (λ (xs : List Value). first_where test (items_view xs)) (drop_all i vs (subst P same h))) ∙ inv
+
+-- ---- numbers that are not whole
+
+pub float_next : (vs ws : List Value) (i : ℕ) (v : Value) → ws ≡ vs → v ≡ get_or ws i v → i < length ws → has_float (view v) ≡ false
+    → items_have_float (items_view (drop i vs)) ≡ items_have_float (items_view vs) → items_have_float (items_view (drop (i + 1) vs)) ≡ items_have_float (items_view vs)
+float_next vs ws i v same e h f inv =
+    let at = both vs ws i v same e h in
+    sym (ap items_have_float (entry_at vs i v at.0 at.1) ∙ ap (λ b. b || items_have_float (items_view (drop (i + 1) vs))) f) ∙ inv
+
+pub float_found : (vs ws : List Value) (i : ℕ) (v : Value) → ws ≡ vs → v ≡ get_or ws i v → i < length ws → has_float (view v) ≡ true
+    → items_have_float (items_view (drop i vs)) ≡ items_have_float (items_view vs) → true ≡ items_have_float (items_view vs)
+float_found vs ws i v same e h t inv =
+    let at = both vs ws i v same e h in
+    sym (ap items_have_float (entry_at vs i v at.0 at.1) ∙ ap (λ b. b || items_have_float (items_view (drop (i + 1) vs))) t) ∙ inv
+
+pub float_over : (vs ws : List Value) (i : ℕ) → ws ≡ vs → length ws ≤ i → items_have_float (items_view (drop i vs)) ≡ items_have_float (items_view vs) → false ≡ items_have_float (items_view vs)
+float_over vs ws i same h inv =
+    let P : List Value → Type 0 = λ xs. length xs ≤ i in
+    sym (ap (λ (xs : List Value). items_have_float (items_view xs)) (drop_all i vs (subst P same h))) ∙ inv

@@ -22,7 +22,7 @@ some_below test zero h = cc
 some_below test (suc n) h =
     bool_cases (test n)
     (λ t. (n, omega arith, t))
-    (λ f. let more = some_below test n (sym (ap (λ b. b || any_below test n) f) ∙ h) in (more.0, omega (arith, more.1.0), more.1.1))
+    (λ f. let more = some_below test n (sym (ap (λ b. b || any_below test n) f) ∙ h) in (more.0, omega (arith, more.1), more.2))
 
 below_some : (test : ℕ → Bool) (n d : ℕ) → d < n → test d ≡ true → any_below test n ≡ true
 unfolding any_below
@@ -60,7 +60,7 @@ pub occurs_so : (r : Said) (e : ℕ) → is_occurrence r e ≡ true → Occurs r
 unfolding is_occurrence
 occurs_so r e h =
     let some = some_below (λ d. is_kept r d && (moved r.weekends d == e)) 84_006 h in
-    let both = and_parts (is_kept r some.0) (moved r.weekends some.0 == e) some.1.1 in
+    let both = and_parts (is_kept r some.0) (moved r.weekends some.0 == e) some.2 in
     record { day = some.0; kept = both.0; moves = eqb-true (moved r.weekends some.0) e both.1 }
 
 pub so_occurs : (r : Said) (e : ℕ) → Occurs r e → is_occurrence r e ≡ true
@@ -93,8 +93,8 @@ least_is : (test : ℕ → Bool) (more from : ℕ) → IsLeast test more from (l
 unfolding least_of
 least_is test zero from = λ d reached below. absurd (omega arith)
 least_is test (suc more) from = bool_cases (test from)
-(λ t. subst (IsLeast test (suc more) from) (sym (ap (λ b. cond b (Some from) (least_of test more (from + 1))) t)) (omega arith, t, λ d reached below. absurd (omega arith)))
-(λ f. subst (IsLeast test (suc more) from) (sym (ap (λ b. cond b (Some from) (least_of test more (from + 1))) f)) (by (least_of test more (from + 1)) f (least_is test more (from + 1))))
+    (λ t. subst (IsLeast test (suc more) from) (sym (ap (λ b. cond b (Some from) (least_of test more (from + 1))) t)) (omega arith, t, λ d reached below. absurd (omega arith)))
+    (λ f. subst (IsLeast test (suc more) from) (sym (ap (λ b. cond b (Some from) (least_of test more (from + 1))) f)) (by (least_of test more (from + 1)) f (least_is test more (from + 1))))
   where
     on : (d : ℕ) → test from ≡ false → ((k : ℕ) → from + 1 ≤ k → k < d → test k ≡ false) → (k : ℕ) → from ≤ k → k < d → test k ≡ false
     on d f none k reached below =
@@ -104,7 +104,7 @@ least_is test (suc more) from = bool_cases (test from)
 
     by : (o : Option ℕ) → test from ≡ false → IsLeast test more (from + 1) o → IsLeast test (suc more) from o
     by None f h = on (from + suc more) f (λ k reached below. h k reached (omega arith))
-    by (Some n) f h = (omega (arith, h.0), h.1.0, on n f h.1.1)
+    by (Some n) f h = (omega (arith, h.0), h.1, on n f h.2)
 
 pub next_some : (r : Said) (from n : ℕ) → IsLeastFrom r from n → next_from r from ≡ Some n
 unfolding next_from
@@ -128,11 +128,11 @@ next_told r from = by (least_of (is_occurrence r) (84_006 - from) from) (least_i
         by_lt e from (λ lt. lt)
         (λ ge. let within = occurs_within r e o in absurd (both_ways (is_occurrence r e) (h e ge (omega arith)) (so_occurs r e o)))
     by (Some n) h = record {
-      occurs = occurs_so r n h.1.0;
+      occurs = occurs_so r n h.1;
       reached = h.0;
       least = λ e o reached.
           by_lt e n
-          (λ lt. absurd (both_ways (is_occurrence r e) (h.1.1 e reached lt) (so_occurs r e o)))
+          (λ lt. absurd (both_ways (is_occurrence r e) (h.2 e reached lt) (so_occurs r e o)))
           (λ ge. ge);
     }
 

@@ -59,20 +59,23 @@ abbrev pub again : Text → Option Data → Text
 again text None = text
 again text (Some d) = if has_float d then text else compact_text d
 
-abbrev pub condition_text : Text → Text → Text → Text
-condition_text field op value = codes "{\"field\":\"" ++ field ++ codes "\",\"op\":\"" ++ op ++ codes "\",\"value\":" ++ value ++ codes "}"
+-- near the date of the recurrence, and of the account
+abbrev pub front_text : Text → Text → Text
+front_text account recur =
+    codes "[{\"field\":\"date\",\"op\":\"isapprox\",\"value\":" ++ again recur (read recur)
+    ++ codes "},{\"field\":\"acct\",\"op\":\"is\",\"value\":" ++ quoted account ++ codes "},"
 
+-- of the payee, if there is one
 abbrev pub payee_text : Option Text → Text
 payee_text None = []
-payee_text (Some id) = condition_text (codes "description") (codes "is") (quoted id) ++ codes ","
+payee_text (Some id) = codes "{\"field\":\"description\",\"op\":\"is\",\"value\":" ++ quoted id ++ codes "},"
 
--- the date near the recurrence, the account, the payee if there is one, and the amount
+-- of the amount
+abbrev pub amount_text : ℤ → Text
+amount_text amount = codes "{\"field\":\"amount\",\"op\":\"is\",\"value\":" ++ signed_decimal amount ++ codes "}]"
+
 abbrev pub conditions_text : Text → Option Text → ℤ → Text → Text
-conditions_text account payee amount recur =
-    codes "[" ++ condition_text (codes "date") (codes "isapprox") (again recur (read recur)) ++ codes ","
-    ++ condition_text (codes "acct") (codes "is") (quoted account) ++ codes ","
-    ++ payee_text payee
-    ++ condition_text (codes "amount") (codes "is") (signed_decimal amount) ++ codes "]"
+conditions_text account payee amount recur = front_text account recur ++ payee_text payee ++ amount_text amount
 
 -- ---- writes
 
@@ -82,28 +85,18 @@ rule_write column value = write (codes "rules") (Made 0) column value
 abbrev pub schedule_write : RowName → Text → Value → Write
 schedule_write row column value = write (codes "schedules") row column value
 
--- the rule of a new schedule
-abbrev pub rule_writes : Text → List Write
-rule_writes conditions =
+-- the writes of a rule, and of a schedule that has it
+abbrev pub add_writes : RowName → Text → ℕ → Text → List Write
+add_writes row name day conditions =
     rule_write (codes "stage") Null
     ∷ rule_write (codes "conditions_op") (IsText (codes "and"))
     ∷ rule_write (codes "conditions") (IsText conditions)
     ∷ rule_write (codes "actions") (IsText (codes "[]"))
-    ∷ []
-
--- its first day, and that it hasn't ended
-abbrev pub day_writes : RowName → ℕ → List Write
-day_writes row day = schedule_write row (codes "next_date") (Number (pos (date_of day))) ∷ schedule_write row (codes "completed") (flag false) ∷ []
-
--- a new schedule with that rule
-abbrev pub row_writes : RowName → Text → ℕ → List Write
-row_writes row name day =
-    record { dataset = codes "schedules"; row = row; column = codes "rule"; value = IdOf 0 }
+    ∷ record { dataset = codes "schedules"; row = row; column = codes "rule"; value = IdOf 0 }
     ∷ schedule_write row (codes "name") (IsText name)
-    ∷ day_writes row day
-
-abbrev pub add_writes : RowName → Text → ℕ → Text → List Write
-add_writes row name day conditions = rule_writes conditions ++ row_writes row name day
+    ∷ schedule_write row (codes "next_date") (Number (pos (date_of day)))
+    ∷ schedule_write row (codes "completed") (flag false)
+    ∷ []
 
 abbrev pub schedule_add : Rows → Option Text → Text → Text → Option Text → ℤ → Text → Result (List Write) EditFault
 schedule_add rows id name account payee amount recur = do

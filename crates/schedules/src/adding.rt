@@ -1,9 +1,8 @@
 //! Adding a schedule.
-ghost use Rattle.std.specs.Prelude.{◌≡◌, ◌<◌, ◌++◌, ◌∷◌, [], codes, IfOk, IfErr, OnOk, Ok};
-ghost use Rattle.field_values.specs.declared.value.Value.TheVariants.{Null, Text as IsText};
+ghost use Rattle.std.specs.Prelude.{◌≡◌, ◌<◌, IfOk, IfErr, Ok};
 ghost use Rattle.book_edits.specs.Faults.{IsEditFault};
 ghost use Rattle.schedules.specs.Days.{said};
-ghost use Rattle.schedules.specs.Edits.{first_day, rule_writes, day_writes, row_writes, schedule_add};
+ghost use Rattle.schedules.specs.Edits.{first_day, add_writes, schedule_add};
 
 use crate::conditions_text::conditions_text;
 use crate::given::{an_amount, live_account, maybe_live_payee, new_schedule};
@@ -32,9 +31,16 @@ fn first_day(recurrence: &Recurrence) -> Result<u32, EditFault>
     }
 }
 
-/// The writes of the rule of a new schedule.
-fn rule_writes(alloc: Global, conditions: Txt) -> Result<Vec<Write>, NoMemory>
-    ensures { IfOk result (λ ws. ws.items ≡ rule_writes conditions) }
+/// The writes of a new schedule and of its rule.
+fn add_writes(
+    alloc: Global,
+    row: &RowName,
+    name: &Txt,
+    day: u32,
+    conditions: Txt,
+) -> Result<Vec<Write>, NoMemory>
+    requires { day < 84_006 }
+    ensures { IfOk result (λ ws. ws.items ≡ add_writes row.now name.now day conditions) }
 {
     let rule = RowName::Made(RULE_AT);
     let mut writes = Vec::new(alloc);
@@ -45,37 +51,13 @@ fn rule_writes(alloc: Global, conditions: Txt) -> Result<Vec<Write>, NoMemory>
     push(alloc, &mut writes, "rules", &rule, "conditions", conditions)?;
     let actions = word(alloc, "[]")?;
     push(alloc, &mut writes, "rules", &rule, "actions", actions)?;
+    push_rule(alloc, &mut writes, row, RULE_AT)?;
+    push(alloc, &mut writes, "schedules", row, "name", text(name)?)?;
+    let next = date(day);
+    push(alloc, &mut writes, "schedules", row, "next_date", next)?;
+    let completed = flag(false);
+    push(alloc, &mut writes, "schedules", row, "completed", completed)?;
     Ok(writes)
-}
-
-/// Puts the first day of a new schedule, and that it hasn't ended, behind other writes.
-fn push_day(
-    alloc: Global,
-    writes: &mut Vec<Write>,
-    row: &RowName,
-    day: u32,
-) -> Result<(), NoMemory>
-    requires { day < 84_006 }
-    ensures { OnOk result (writes.new.items ≡ writes.old.items ++ day_writes row.now day) }
-{
-    push(alloc, writes, "schedules", row, "next_date", date(day))?;
-    push(alloc, writes, "schedules", row, "completed", flag(false))
-}
-
-/// Puts the row of a new schedule behind other writes.
-fn push_row(
-    alloc: Global,
-    writes: &mut Vec<Write>,
-    row: &RowName,
-    name: &Txt,
-    day: u32,
-) -> Result<(), NoMemory>
-    requires { day < 84_006 }
-    ensures { OnOk result (writes.new.items ≡ writes.old.items ++ row_writes row.now name.now day) }
-{
-    push_rule(alloc, writes, row, RULE_AT)?;
-    push(alloc, writes, "schedules", row, "name", text(name)?)?;
-    push_day(alloc, writes, row, day)
 }
 
 /// Adds a schedule with a rule of its own.
@@ -99,7 +81,5 @@ pub(crate) fn schedule_add(
     let recurrence = read_recur(alloc, recur)?;
     let day = first_day(&recurrence)?;
     let conditions = conditions_text(alloc, account, payee, amount, recur)?;
-    let mut writes = rule_writes(alloc, conditions)?;
-    push_row(alloc, &mut writes, &row, name, day)?;
-    Ok(writes)
+    Ok(add_writes(alloc, &row, name, day, conditions)?)
 }

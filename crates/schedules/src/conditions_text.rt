@@ -1,10 +1,9 @@
 //! The text of the conditions of a new schedule.
 ghost use Rattle.std.specs.Prelude.{◌≡◌, ◌++◌, codes, string_bytes, IfOk, OnOk, option_map};
-ghost use Rattle.std.specs.Fmt.{signed_decimal};
 ghost use Rattle.json.specs.Print.{quoted};
 ghost use Rattle.serde_json.specs.Read.{read};
 ghost use Rattle.serde_json.specs.View.{view};
-ghost use Rattle.schedules.specs.Edits.{again, payee_text, conditions_text};
+ghost use Rattle.schedules.specs.Edits.{again, front_text, payee_text, amount_text, conditions_text};
 
 use crate::floats::has_float;
 use field_values::{NoMemory, Txt};
@@ -58,6 +57,30 @@ fn push_payee(alloc: Global, text: &mut String, payee: &Option<Txt>) -> Result<(
     }
 }
 
+/// Puts the condition on the amount, which is the last one, behind others.
+fn push_amount(text: &mut String, amount: i64) -> Result<(), NoMemory>
+    ensures { OnOk result (string_bytes text.new ≡ string_bytes text.old ++ amount_text amount) }
+{
+    text.push_str(r#"{"field":"amount","op":"is","value":"#)?;
+    let mut buffer = Buffer::new();
+    text.push_str(buffer.format(amount))?;
+    text.push_str("}]")?;
+    Ok(())
+}
+
+/// The conditions on the date and the account, which are the first ones.
+fn front_text(alloc: Global, account: &Txt, recur: &Txt) -> Result<String, NoMemory>
+    ensures { IfOk result (λ s. string_bytes s ≡ front_text account.now recur.now) }
+{
+    let mut text = String::new(alloc);
+    text.push_str(r#"[{"field":"date","op":"isapprox","value":"#)?;
+    text.push_str(again(alloc, recur)?.as_str())?;
+    text.push_str(r#"},{"field":"acct","op":"is","value":"#)?;
+    push_id(alloc, &mut text, account)?;
+    text.push_str("},")?;
+    Ok(text)
+}
+
 /// The conditions of a new schedule.
 pub(crate) fn conditions_text(
     alloc: Global,
@@ -68,16 +91,8 @@ pub(crate) fn conditions_text(
 ) -> Result<Txt, NoMemory>
     ensures { IfOk result (λ t. t ≡ conditions_text account.now payee.now amount recur.now) }
 {
-    let mut text = String::new(alloc);
-    text.push_str(r#"[{"field":"date","op":"isapprox","value":"#)?;
-    text.push_str(again(alloc, recur)?.as_str())?;
-    text.push_str(r#"},{"field":"acct","op":"is","value":"#)?;
-    push_id(alloc, &mut text, account)?;
-    text.push_str("},")?;
+    let mut text = front_text(alloc, account, recur)?;
     push_payee(alloc, &mut text, payee)?;
-    text.push_str(r#"{"field":"amount","op":"is","value":"#)?;
-    let mut buffer = Buffer::new();
-    text.push_str(buffer.format(amount))?;
-    text.push_str("}]")?;
+    push_amount(&mut text, amount)?;
     Ok(Txt::new(text))
 }

@@ -265,7 +265,7 @@ fn rule_terms(alloc: Global, row: &RuleRow) -> Result<Agreed, EditFault>
     ensures err { IfErr result (IsEditFault (or_recur (rule_terms row.now))) }
 {
     let Some(text) = &row.conditions else {
-        return Err(no_rule());
+        return terms_by(alloc, &Vec::new(alloc), &row.actions);
     };
     let Some(value) = value_in(alloc, text)? else {
         return Err(no_rule());
