@@ -1,5 +1,5 @@
 -- The occurrences between two days, in order.
-use Rattle.std.proofs.Common.{◌≡◌, ◌↔◌, ℕ, zero, suc, ◌+◌, ◌-◌, ◌<◌, ◌≤◌, Bool, true, false, cond, List, [], ◌∷◌, ◌++◌, map, Some, refl, sym, ap, ◌∙◌, subst, arith}
+use Rattle.std.proofs.Common.{◌≡◌, ◌↔◌, ℕ, zero, suc, ◌+◌, ◌-◌, ◌<◌, ◌≤◌, Bool, true, false, cond, List, [], ◌∷◌, ◌++◌, map, Some, None, append-nil, refl, sym, ap, ◌∙◌, subst, arith}
 use Rattle.std.specs.Prelude.{◌==◌, ◌||◌}
 use Rattle.std.specs.List.{list_any, AllByRecursion}
 use Rattle.std.specs.List.Sorted.{IsStrictlySortedBy}
@@ -8,7 +8,7 @@ use Rattle.std.specs.declared.cmp.Ordering.TheVariants.{Less}
 use Rattle.std.proofs.lemmas.Bool.{eqb-true, eq-eqb, both_ways, false_from_ne_true}
 use Rattle.hybrid_clock.proofs.TextOrder.{nat_cmp-lt}
 use Rattle.schedules.specs.Months.{date_of, day_in}
-use Rattle.schedules.specs.Days.{Said, moved, is_occurrence, those_of, occurrences_in}
+use Rattle.schedules.specs.Days.{Said, moved, is_occurrence, next_from, those_of, occurrences_in}
 use Rattle.schedules.specs.Upcoming.{IsOccurrence, AreBetween}
 use Rattle.schedules.specs.Laws.{Occurs, IsLeastFrom}
 use Rattle.schedules.proofs.Calendar.{by_lt}
@@ -146,7 +146,8 @@ between r first last a b from to =
             let within = occurs_within r x.day o in
             (
               subst (IsOccurrence r) x.writes (with_date r x.day o),
-              (omega (arith, date_from a x.day x.reached within, begin.0, x.writes), omega (arith, date_from x.day b (omega (arith, x.below, x.reached)) end.1, end.0, x.writes)),
+              omega (arith, date_from a x.day x.reached within, begin.0, x.writes),
+              omega (arith, date_from x.day b (omega (arith, x.below, x.reached)) end.1, end.0, x.writes),
             ),
         λ h.
             let o = h.0 in
@@ -154,11 +155,28 @@ between r first last a b from to =
             let is = its_day r n o in
             let within = occurs_within r day is in
             let moves = o.moves in
-            let reached : a ≤ day = by_lt day a (λ lt. absurd (omega (arith, date_rises day a lt begin.1, begin.0, moves, h.1.0))) (λ ge. ge) in
-            let below : day ≤ b = by_lt b day (λ lt. absurd (omega (arith, date_rises b day lt within, end.0, moves, h.1.1))) (λ ge. ge) in
+            let reached : a ≤ day = by_lt day a (λ lt. absurd (omega (arith, date_rises day a lt begin.1, begin.0, moves, h.1))) (λ ge. ge) in
+            let below : day ≤ b = by_lt b day (λ lt. absurd (omega (arith, date_rises b day lt within, end.0, moves, h.2))) (λ ge. ge) in
             day_had (is_occurrence r) (b + 1 - a) a n day (so_occurs r day is) reached (omega (arith, reached, below)) moves,
       );
     }
   where
     none_rise : b < a → IsStrictlySortedBy nat_cmp (map date_of (those_of (is_occurrence r) (b + 1 - a) a))
     none_rise lt = let none : b + 1 - a ≡ 0 = omega arith in subst (λ m. IsStrictlySortedBy nat_cmp (map date_of (those_of (is_occurrence r) m a))) (sym none) tt
+
+-- ---- for the loop that makes the list
+
+pub goes_on : (r : Said) (from day to : ℕ) → next_from r from ≡ Some day → day ≤ to → occurrences_in r from to ≡ day ∷ occurrences_in r (day + 1) to
+goes_on r from day to e within = one_more r from to day (some_told r from day e) within
+
+pub ends_late : (r : Said) (from day to : ℕ) → next_from r from ≡ Some day → to < day → occurrences_in r from to ≡ []
+ends_late r from day to e late = let least = some_told r from day e in no_more r from to (λ d o h. omega (arith, least.least d o h))
+
+pub ends_none : (r : Said) (from to : ℕ) → next_from r from ≡ None → occurrences_in r from to ≡ []
+ends_none r from to e = no_more r from to (λ d o h. absurd (omega (arith, none_told r from e d o)))
+
+pub listed : (r : Said) (first last a b from : ℕ) (dates : List ℕ) → day_in first ≡ Some a → day_in last ≡ Some b
+    → dates ++ map date_of (occurrences_in r from b) ≡ map date_of (occurrences_in r a b) → occurrences_in r from b ≡ [] → AreBetween r first last dates
+listed r first last a b from dates begin end all none =
+    let same : dates ≡ map date_of (occurrences_in r a b) = sym (append-nil dates) ∙ ap (λ ds. dates ++ map date_of ds) (sym none) ∙ all in
+    subst (AreBetween r first last) (sym same) (between r first last a b begin end)

@@ -1,5 +1,5 @@
 -- Entries of a list of JSON values.
-use Rattle.std.proofs.Common.{◌≡◌, ℕ, ◌+◌, ◌<◌, ◌≤◌, Bool, true, false, cond, List, [], ◌∷◌, length, get_or, drop, Option, Some, None, refl, ap, sym, ◌∙◌, subst, add-one, drop-cons}
+use Rattle.std.proofs.Common.{◌≡◌, ℕ, ◌+◌, ◌<◌, ◌≤◌, Bool, true, false, cond, List, [], ◌∷◌, length, ◌++◌, get_or, drop, Option, Some, None, refl, ap, sym, ◌∙◌, subst, add-one, drop-cons, append_assoc}
 use Rattle.std.specs.Prelude.{◌&&◌, ◌||◌}
 use Rattle.std.proofs.lemmas.List.{drop_all}
 use Rattle.serde_json.specs.Data.{Data, Items, no_items, item}
@@ -73,3 +73,8 @@ pub float_over : (vs ws : List Value) (i : ℕ) → ws ≡ vs → length ws ≤ 
 float_over vs ws i same h inv =
     let P : List Value → Type 0 = λ xs. length xs ≤ i in
     sym (ap (λ (xs : List Value). items_have_float (items_view xs)) (drop_all i vs (subst P same h))) ∙ inv
+
+-- ---- texts
+
+pub three_more : (xs p q r a b c : List ℕ) → p ≡ xs ++ a → q ≡ p ++ b → r ≡ q ++ c → r ≡ xs ++ (a ++ (b ++ c))
+three_more xs p q r a b c e f g = g ∙ ap (λ t. t ++ c) (f ∙ ap (λ t. t ++ b) e) ∙ append_assoc (xs ++ a) b c ∙ append_assoc xs a (b ++ c)

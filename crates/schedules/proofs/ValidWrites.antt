@@ -35,7 +35,7 @@ use Rattle.schedules.specs.Days.{Said, next_from}
 use Rattle.schedules.specs.Reading.{or_recur, recurrence_of}
 use Rattle.schedules.specs.Terms.{Terms, terms_of}
 use Rattle.schedules.specs.Status.{live_row, next_day}
-use Rattle.schedules.specs.Edits.{live_schedule, not_done, is_schedule, new_schedule, first_day, add_writes, rule_writes, row_writes, conditions_text, schedule_add, schedule_post, schedule_skip, schedule_delete, skip_write, schedule_writes}
+use Rattle.schedules.specs.Edits.{live_schedule, not_done, is_schedule, new_schedule, first_day, add_writes, conditions_text, schedule_add, schedule_post, schedule_skip, schedule_delete, skip_write, schedule_writes}
 use Rattle.schedules.proofs.Dating.{date_back, is_placed}
 use Rattle.schedules.proofs.Telling.{occurs_within, some_told}
 
