@@ -1,0 +1,49 @@
+-- What the laws say.
+use Rattle.std.specs.Prelude.{◌≡◌, ◌↔◌, ◌⊎◌, ℕ, pos, ◌+◌, ◌-◌, ◌*◌, ◌/◌, ◌%◌, ◌<◌, ◌≤◌, Bool, true, false, List, Option, None, Some, MatchOption}
+use Rattle.std.specs.List.{list_any}
+use Rattle.jiff_core.specs.Calendar.{days_from_civil, IsCivilDate}
+use Rattle.book_rows.specs.Kinds.{is_day}
+use Rattle.schedules.specs.declared.recurrence.Frequency.TheVariants.{Daily, Weekly, Monthly, Yearly}
+use Rattle.schedules.specs.declared.recurrence.Weekends.TheVariants.{Stay, Before, After}
+use Rattle.schedules.specs.declared.recurrence.Ending.TheVariants.{Never, Times, Until}
+use Rattle.schedules.specs.declared.month.MonthDay.{MonthDay}
+use Rattle.schedules.specs.Months.{month_day, weekday, date_of, day_in}
+use Rattle.schedules.specs.Days.{Said, is_raw, is_kept, moved, is_occurrence, next_from, occurrences_in}
+use Rattle.schedules.specs.Terms.{one_day}
+
+-- a raw day that is kept moves to this day
+pub record Occurs (r : Said) (e : ℕ) : Type 0 where
+  pub day : ℕ
+  pub kept : is_kept r day ≡ true
+  pub moves : moved r.weekends day ≡ e
+
+-- the least occurrence from a day on
+pub record IsLeastFrom (r : Said) (from n : ℕ) : Type 0 where
+  pub occurs : Occurs r n
+  pub reached : from ≤ n
+  pub least : (e : ℕ) → Occurs r e → from ≤ e → n ≤ e
+
+-- the civil date of a day
+pub record IsDateOf (d : ℕ) (m : MonthDay) : Type 0 where
+  pub civil : IsCivilDate (pos (1970 + m.month / 12)) (m.month % 12 + 1) m.place
+  pub number : days_from_civil (pos (1970 + m.month / 12)) (m.month % 12 + 1) m.place ≡ pos d
+
+-- how days have months, places and dates
+pub record DaysHaveDates : Type 0 where
+  -- the month and the place of a day are those of its civil date
+  pub civil : (d : ℕ) → d < 84_006 → IsDateOf d (month_day d)
+  -- each day has one date, which writes it
+  pub date : (d : ℕ) → d < 84_006 → day_in (date_of d) ≡ Some d
+  -- and each date is that of the day which it writes
+  pub day : (n d : ℕ) → day_in n ≡ Some d → (date_of d ≡ n) × (d < 84_006)
+  -- later days have greater dates
+  pub rises : (d e : ℕ) → d < e → e < 84_006 → date_of d < date_of e
+
+-- which days are occurrences
+pub record OccurrencesAreTold : Type 0 where
+  -- a day is one where a kept raw day moves to it
+  pub occurs : (r : Said) (e : ℕ) → (is_occurrence r e ≡ true) ↔ Occurs r e
+  -- the next one from a day on is the least, and there is none where there is none
+  pub next : (r : Said) (from : ℕ) → MatchOption (next_from r from) ((e : ℕ) → Occurs r e → e < from) (λ n. IsLeastFrom r from n)
+  -- one day alone
+  pub once : (d e : ℕ) → d < 84_006 → Occurs (one_day d) e ↔ (e ≡ d)

@@ -1,0 +1,9 @@
+pub mod Months
+pub mod Days
+pub mod Upcoming
+pub mod Reading
+pub mod Conditions
+pub mod Terms
+pub mod Status
+pub mod Edits
+pub mod Laws
