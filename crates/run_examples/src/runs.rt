@@ -190,17 +190,85 @@ fn keeps_what_was_answered(rt: HostRuntime) -> Result<(), Fail> {
     Ok(())
 }
 
-/// Keeps a record of the device whose body is `x`.
+/// Keeps two records of the device, of which the later one stands first.
+fn keep(
+    alloc: Global,
+    keeper: &mut MemoryKeeper,
+    first: &str,
+    second: &str,
+) -> Result<(), PortFault> {
+    let group = Txt::from_text(alloc, "device")?;
+    let second = Record {
+        key: Txt::from_text(alloc, "2024-01-05T10:00:01.000Z-0000-00000000000000bb")?,
+        body: Txt::from_text(alloc, second)?,
+    };
+    let first = Record {
+        key: Txt::from_text(alloc, "2024-01-05T10:00:00.000Z-0000-00000000000000aa")?,
+        body: Txt::from_text(alloc, first)?,
+    };
+    keeper.append(&group, &[second, first])
+}
+
+/// The bodies of both records, the status of a run that begins with them, and what it writes when it is asked for all messages. A record
+/// that keeps no message is told, by its place.
+const RECORDS: [(&str, &str, u8, &str); 7] = [
+    (
+        "categories\tfood\tname\tS:a\\\\b",
+        "categories\tfood\tname\t0:",
+        0,
+        "ok 2\n2024-01-05T10:00:00.000Z-0000-00000000000000aa\tcategories\tfood\tname\tS:a\\\\b\n2024-01-05T10:00:01.000Z-0000-00000000000000bb\tcategories\tfood\tname\t0:\n",
+    ),
+    ("x", "categories\tfood\tname\t0:", 3, "bad-record 0\n"),
+    ("", "", 3, "bad-record 0\n"),
+    (
+        "categories\tfood\tname",
+        "categories\tfood\tname\t0:",
+        3,
+        "bad-record 0\n",
+    ),
+    (
+        "categories\tfood\tname\t0:",
+        "categories\tfood\tname\tS:\\q",
+        3,
+        "bad-record 1\n",
+    ),
+    (
+        "categories\tfood\tname\t0:",
+        "\tfood\tname\tS:Meals",
+        3,
+        "bad-record 1\n",
+    ),
+    (
+        "categories\tfood\tname\t0:",
+        "categories\tfood\tname\t0:\t",
+        3,
+        "bad-record 1\n",
+    ),
+];
+
+#[test]
+fn begins_with_records(rt: HostRuntime) -> Result<(), Fail> {
+    for (first, second, status, output) in RECORDS {
+        let mut keeper = MemoryKeeper::new(rt.alloc());
+        assert!(rt; keep(rt.alloc(), &mut keeper, first, second).is_ok());
+        let run = device("messages\t\n", &[], T0);
+        let (ended, told) = outcome(rt.alloc(), &mut keeper, &run)?;
+        assert_eq!(rt; (ended, told.as_str()), (status, output), "at {second}");
+    }
+    Ok(())
+}
+
+/// Keeps a record of the device whose key is no timestamp.
 fn keep_bad(alloc: Global, keeper: &mut MemoryKeeper) -> Result<(), PortFault> {
     let group = Txt::from_text(alloc, "device")?;
     let record = Record {
-        key: Txt::from_text(alloc, "2024-01-05T10:00:00.000Z-0000-00000000000000aa")?,
-        body: Txt::from_text(alloc, "x")?,
+        key: Txt::from_text(alloc, "x")?,
+        body: Txt::from_text(alloc, "categories\tfood\tname\t0:")?,
     };
     keeper.append(&group, &[record])
 }
 
-/// A record that keeps no message is reported, and decides the status where the sink fails too.
+/// A record that keeps no message decides the status where the sink fails too.
 #[test]
 fn tells_bad_records(rt: HostRuntime) -> Result<(), Fail> {
     let mut keeper = MemoryKeeper::new(rt.alloc());
