@@ -1,5 +1,5 @@
 -- What grows by one field after the other.
-use Rattle.std.proofs.Common.{◌≡◌, ℕ, ◌+◌, ◌<◌, Bool, true, false, cond, List, [], ◌∷◌, ◌++◌, length, take, get_or, append-nil, refl, ap, sym, ◌∙◌}
+use Rattle.std.proofs.Common.{◌≡◌, ℕ, ◌+◌, ◌<◌, Bool, true, false, cond, List, [], ◌∷◌, ◌++◌, length, take, get_or, refl, ap, sym, ◌∙◌}
 use Rattle.std.specs.Prelude.{◌||◌, map}
 use Rattle.std.specs.List.{list_any}
 use Rattle.std.specs.BTreeMap.{is_at}
@@ -9,10 +9,9 @@ use Rattle.field_values.specs.Names.{FieldNames, names_eq, names_cmp}
 use Rattle.field_merge.proofs.Orders.{names_alike}
 use Rattle.field_merge.specs.declared.message.Message.{Message}
 use Rattle.book_rows.specs.Rows.{Values}
-use Rattle.book_rows.specs.declared.write.Write.{Write}
 use Rattle.edit_history.specs.declared.before.Before.{Before}
 use Rattle.edit_history.specs.Undo.{first_of_each, before_of, entry_over, undo_of, undo_values, undo_writes, write_of}
-use Rattle.edit_history.proofs.Listing.{wrote, first_wrote, first_snoc, map_plus, any_map, one_more}
+use Rattle.edit_history.proofs.Listing.{wrote, first_wrote, map_plus, any_map, one_more}
 
 -- ---- the fields that were seen
 

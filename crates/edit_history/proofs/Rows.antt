@@ -1,5 +1,5 @@
 -- Which rows are there.
-use Rattle.std.proofs.Common.{◌≡◌, Bool, true, false, cond, List, [], ◌∷◌, Option, Some, None, refl, ap, ap₂, sym, ◌∙◌}
+use Rattle.std.proofs.Common.{◌≡◌, Bool, true, false, List, [], ◌∷◌, Option, Some, None, refl, ap, ap₂, sym, ◌∙◌}
 use Rattle.std.specs.Prelude.{◌&&◌, ◌||◌, is_some, if◌then◌else◌}
 use Rattle.std.specs.List.{list_any}
 use Rattle.std.specs.FinMap as map
@@ -12,7 +12,7 @@ use Rattle.book_rows.specs.declared.column.Dataset.TheVariants.{Accounts, Catego
 use Rattle.book_rows.specs.declared.kind.Kind.{Kind}
 use Rattle.book_rows.specs.declared.rows.Rows.{Rows}
 use Rattle.book_rows.specs.Columns.{dataset_name, column_name, all_columns, dataset_of, column_of}
-use Rattle.book_rows.specs.Tables.{Table, has_column, row_at}
+use Rattle.book_rows.specs.Tables.{Table, has_column}
 use Rattle.book_rows.specs.Rules.{account_table, group_table, category_table, payee_table, tx_table, budget_table, month_table, note_table, rule_table, schedule_table}
 use Rattle.book_rows.specs.Rows.{Values, values_at, AreTableOf, AreRowsOf, dataset_kind, known_kind, kind_of}
 use Rattle.book_rows.proofs.Naming.{dataset_named, column_named, some_column}

@@ -1,12 +1,12 @@
 -- What an entry tells.
 use Rattle.std.proofs.Common.{◌≡◌, Bool, true, false, cond, List, [], ◌∷◌, map, Option, Some, None, refl, ap, sym, subst, ◌∙◌}
-use Rattle.std.specs.Prelude.{◌↔◌, not, filter, is_some}
-use Rattle.std.specs.List.{AllByRecursion, Contains, IsDistinct, find, list_any}
+use Rattle.std.specs.Prelude.{not, filter, is_some}
+use Rattle.std.specs.List.{AllByRecursion, Contains, IsDistinct, find}
 use Rattle.field_values.specs.Names.{FieldNames, names_eq}
 use Rattle.field_merge.proofs.Members.{all_of, is_some-find, found_in, some_passes}
 use Rattle.book_rows.specs.Rows.{Values}
 use Rattle.edit_history.specs.declared.before.Before.{Before}
-use Rattle.edit_history.specs.Undo.{first_of_each, before_of, entry_over, undo_of, undo_values}
+use Rattle.edit_history.specs.Undo.{first_of_each, before_of, entry_over, undo_of}
 use Rattle.edit_history.specs.Laws.{TellsBefore, EntriesAreTold}
 use Rattle.edit_history.proofs.Basics.{bool_cases, true_false, option_cases, same, itself}
 use Rattle.edit_history.proofs.Listing.{wrote, first_wrote}
@@ -86,7 +86,8 @@ module _ (values : Values) where
         once = subst (IsDistinct names_eq) (plain firsts ∙ sym own) (once (λ (f : FieldNames). f) fs);
         exactly = λ f. (
           λ h. any_contains fs f (sym (first_wrote (λ f. f) fs f) ∙ contains_any firsts f (subst (λ (l : List FieldNames). Contains l f) own h)),
-          λ h. subst (λ (l : List FieldNames). Contains l f) (sym own) (any_contains firsts f (first_wrote (λ f. f) fs f ∙ contains_any fs f h)));
+          λ h. subst (λ (l : List FieldNames). Contains l f) (sym own) (any_contains firsts f (first_wrote (λ f. f) fs f ∙ contains_any fs f h)),
+        );
         as_before = λ b h. all_of (λ (b : Before). b ≡ before_of values b.field) (entry_over values fs) (as_they_are firsts) b h;
       }
 

@@ -1,14 +1,14 @@
 -- An undo right after an edit.
-use Rattle.std.proofs.Common.{◌≡◌, Bool, true, false, cond, List, [], ◌∷◌, Option, Some, None, refl, ap, sym, ◌∙◌, subst}
+use Rattle.std.proofs.Common.{◌≡◌, Bool, true, false, cond, List, [], ◌∷◌, Some, None, refl, ap, sym, ◌∙◌, subst}
 use Rattle.std.specs.Prelude.{◌&&◌, ◌||◌, not, map, is_some, pos, codes}
-use Rattle.std.specs.List.{list_any, AllByRecursion}
+use Rattle.std.specs.List.{AllByRecursion}
 use Rattle.field_values.specs.Names.{FieldNames, names_eq, field_of}
 use Rattle.field_values.specs.declared.value.Value.{Value}
 use Rattle.field_values.specs.declared.value.Value.TheVariants.{Number}
 use Rattle.book_rows.specs.Rows.{Values, with_value, kind_of, has_tombstone}
 use Rattle.edit_history.specs.declared.before.Before.{Before}
-use Rattle.edit_history.specs.Undo.{has_row, first_of_each, before_of, entry_over, tombstone_of, blank_of, undo_none, undo_to, undo_of, undo_values}
-use Rattle.edit_history.specs.Laws.{with_values, MakesRow, IsUndone, EntriesUndo}
+use Rattle.edit_history.specs.Undo.{has_row, first_of_each, before_of, entry_over, tombstone_of, blank_of, undo_to, undo_of, undo_values}
+use Rattle.edit_history.specs.Laws.{with_values, MakesRow, EntriesUndo}
 use Rattle.edit_history.proofs.Basics.{bool_cases, true_false, some_is, option_cases, none_some, or_left, or_right, hidden_parts, same, itself, turned}
 use Rattle.edit_history.proofs.Rows.{row_of, has_got}
 use Rattle.edit_history.proofs.Listing.{wrote, first_wrote, all_first}

@@ -1,12 +1,11 @@
 -- Entries and the writes that undo them are valid.
-use Rattle.std.proofs.Common.{◌≡◌, ◌≢◌, ℕ, ◌+◌, ◌<◌, ◌≤◌, Bool, true, false, cond, List, [], ◌∷◌, ◌++◌, length, map, Option, Some, None, refl, ap, sym, ◌∙◌, subst, arith}
+use Rattle.std.proofs.Common.{◌≡◌, ◌≢◌, ℕ, ◌<◌, ◌≤◌, Bool, true, false, cond, List, [], ◌∷◌, length, map, Option, Some, None, refl, sym, subst, arith}
 use Rattle.std.specs.Prelude.{not, ◌&&◌, codes, pos, option_map}
-use Rattle.std.specs.List.{AllByRecursion, Contains}
 use Rattle.field_values.specs.declared.name.NamePart.TheVariants.{Column}
 use Rattle.field_values.specs.declared.value.Value.{Value}
-use Rattle.field_values.specs.declared.value.Value.TheVariants.{Null, Number}
-use Rattle.field_values.specs.Names.{FieldNames, IsName, AreNames}
-use Rattle.field_values.specs.Value.{IsValue, HoldsNumber}
+use Rattle.field_values.specs.declared.value.Value.TheVariants.{Number}
+use Rattle.field_values.specs.Names.{FieldNames, AreNames}
+use Rattle.field_values.specs.Value.{IsValue}
 use Rattle.field_values.proofs.NameLemmas.{name_without_fault}
 use Rattle.field_merge.specs.declared.message.Message.{Message}
 use Rattle.field_merge.specs.Messages.{IsMessage, AreMessages}
@@ -15,11 +14,10 @@ use Rattle.field_merge.proofs.Latest.{latest_there}
 use Rattle.field_merge.proofs.Members.{all_of}
 use Rattle.book_rows.specs.declared.kind.Kind.{Kind}
 use Rattle.book_rows.specs.declared.kind.Kind.TheVariants.{Flag, Int, Text, Day}
-use Rattle.book_rows.specs.Rows.{Values, kind_of, has_tombstone}
-use Rattle.book_rows.specs.declared.write.Write.{Write}
+use Rattle.book_rows.specs.Rows.{kind_of, has_tombstone}
 use Rattle.book_rows.specs.Writes.{IsWrite, AreWrites}
 use Rattle.edit_history.specs.declared.before.Before.{Before}
-use Rattle.edit_history.specs.Undo.{first_of_each, before_of, entry_over, tombstone_of, blank_of, undo_none, undo_to, undo_of, undo_values, undo_writes, write_of}
+use Rattle.edit_history.specs.Undo.{first_of_each, before_of, entry_over, tombstone_of, blank_of, undo_to, undo_of, undo_values, undo_writes, write_of}
 use Rattle.edit_history.specs.History.{IsBefore, IsEntry}
 use Rattle.edit_history.proofs.Listing.{all_first, all_map, first_few, first_some, map_length}
 

@@ -1,5 +1,5 @@
 -- What an entry tells, and what an undo restores.
-use Rattle.std.specs.Prelude.{◌≡◌, ◌↔◌, ◌≢◌, pos, false, true, List, [], ◌∷◌, ◌++◌, map, Option, None, Some}
+use Rattle.std.specs.Prelude.{◌≡◌, ◌↔◌, pos, false, true, List, [], ◌∷◌, map, Some}
 use Rattle.std.specs.List.{Contains, IsDistinct}
 use Rattle.field_values.specs.declared.value.Value.{Value}
 use Rattle.field_values.specs.declared.value.Value.TheVariants.{Number}

@@ -1,7 +1,7 @@
-use Rattle.std.proofs.Common.{◌≡◌, ◌++◌, ◌∷◌, [], List, cond, ap, sym, subst, ◌∙◌, take, map, arith}
+use Rattle.std.proofs.Common.{◌≡◌, ◌++◌, ◌∷◌, [], List, cond, ap, sym, subst, ◌∙◌, map, arith}
 use Rattle.std.proofs.lemmas.List.{take_all}
 use Rattle.std.specs.List.{list_any}
-use Rattle.field_values.specs.Names.{FieldNames, names_eq}
+use Rattle.field_values.specs.Names.{names_eq}
 use Rattle.field_merge.specs.declared.message.Message.{Message}
 use Rattle.field_merge.specs.Log.{value_in}
 use Rattle.edit_history.specs.declared.before.Before.{Before}

@@ -1,4 +1,4 @@
-use Rattle.std.proofs.Common.{ap, ap₂, ◌∙◌}
+use Rattle.std.proofs.Common.{ap₂, ◌∙◌}
 use Rattle.finite_sums.specs.Maps.{Text}
 use Rattle.book_rows.specs.Columns.{dataset_of}
 use Rattle.edit_history.specs.There.{is_row}
