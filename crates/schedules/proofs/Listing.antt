@@ -143,8 +143,7 @@ between r first last a b from to =
         λ h.
             let x = has_day (is_occurrence r) (b + 1 - a) a n h in
             let o = occurs_so r x.day x.passes in
-            let within = occurs_within r x.day o in
-            (
+            let within = occurs_within r x.day o in (
               subst (IsOccurrence r) x.writes (with_date r x.day o),
               omega (arith, date_from a x.day x.reached within, begin.0, x.writes),
               omega (arith, date_from x.day b (omega (arith, x.below, x.reached)) end.1, end.0, x.writes),
