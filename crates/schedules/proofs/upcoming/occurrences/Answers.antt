@@ -1,4 +1,4 @@
-use Rattle.std.proofs.Common.{◌≡◌, ℕ, ◌+◌, ◌<◌, ◌∷◌, [], ◌++◌, map, List, sym, ap, ◌∙◌, arith, append_assoc}
+use Rattle.std.proofs.Common.{◌≡◌, ℕ, ◌+◌, ◌∷◌, [], ◌++◌, map, List, sym, ap, ◌∙◌, arith, append_assoc}
 use Rattle.schedules.specs.Months.{date_of}
 use Rattle.schedules.specs.Days.{said, occurrences_in}
 use Rattle.schedules.proofs.Telling.{some_told}
