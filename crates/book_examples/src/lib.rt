@@ -7,4 +7,6 @@ mod books;
 #[cfg(test)]
 mod copies;
 #[cfg(test)]
+mod recurring;
+#[cfg(test)]
 mod sheets;

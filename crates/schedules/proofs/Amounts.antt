@@ -1,7 +1,7 @@
 -- The amount that conditions mean is one that a value holds.
-use Rattle.std.proofs.Common.{◌≡◌, ℕ, ◌+◌, ◌/◌, ◌≤◌, Bool, true, false, cond, Option, None, Some, Result, Ok, Err, refl, sym, ap, ◌∙◌, subst, arith}
+use Rattle.std.proofs.Common.{◌≡◌, ◌/◌, Bool, true, false, Option, None, Some, Result, Ok, Err, refl, ap, subst, arith}
 use lib.IntN.{ℤ, pos, negsuc, ◌+ℤ◌}
-use Rattle.std.specs.Prelude.{int_le, neg_ℤ, ◌&&◌, if◌then◌else◌, option_and_then, option_map, unwrap_or, unsigned_abs, codes}
+use Rattle.std.specs.Prelude.{int_le, neg_ℤ, ◌&&◌, if◌then◌else◌, option_and_then, option_map, unwrap_or, codes}
 use Rattle.std.proofs.lemmas.Int.{ints}
 use Rattle.std.proofs.lemmas.Bool.{and_parts}
 use Rattle.serde_json.specs.Data.{Data, Items}

@@ -1,14 +1,12 @@
 -- Dates YYYYMMDD, and the days that they write.
-use Rattle.std.proofs.Common.{◌≡◌, ℕ, ◌+◌, ◌-◌, ◌*◌, ◌/◌, ◌%◌, ◌<◌, ◌≤◌, Bool, true, false, cond, ◌&&◌, Option, Some, None, refl, sym, ap, ◌∙◌, subst, arith, pos}
-use Rattle.std.specs.Prelude.{nat_le, nat_lt}
-use Rattle.std.specs.Int.{is_in_range}
+use Rattle.std.proofs.Common.{◌≡◌, ℕ, ◌+◌, ◌-◌, ◌/◌, ◌%◌, ◌<◌, ◌≤◌, Bool, true, false, cond, Some, None, refl, sym, ap, ◌∙◌, subst, arith, pos}
+use Rattle.std.specs.Prelude.{nat_le}
 use Rattle.std.proofs.lemmas.Bool.{and_parts, and_from, leb-true, le-leb}
 use Rattle.std.proofs.lemmas.Int.{ints}
-use Rattle.jiff_core.specs.Calendar.{days_in_month, days_from_civil, day_count, IsCivilDate}
+use Rattle.jiff_core.specs.Calendar.{days_in_month}
 use Rattle.jiff_core.proofs.SignedLemmas.{signed_arith}
 use Rattle.jiff_core.proofs.CalendarLemmas.{day_count-day, days_from_civil-day_count}
 use Rattle.book_rows.specs.Kinds.{is_day}
-use Rattle.schedules.specs.declared.month.MonthDay.{MonthDay}
 use Rattle.schedules.specs.Months.{month_length, month_start, month_day, month_in, day_in, date_of, written}
 use Rattle.schedules.specs.Laws.{IsDateOf}
 use Rattle.schedules.proofs.Calendar.{by_lt, length_bounds, start_civil, start_before, start_end, month_day_is, month_within, placed, day_of, month_rises}

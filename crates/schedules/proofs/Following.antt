@@ -1,9 +1,9 @@
 -- The next occurrence after a date.
-use Rattle.std.proofs.Common.{◌≡◌, ℕ, ◌+◌, ◌<◌, ◌≤◌, true, Option, Some, None, refl, sym, ap, ◌∙◌, subst, arith}
+use Rattle.std.proofs.Common.{◌≡◌, ℕ, ◌+◌, ◌≤◌, Some, None, refl, ap, arith}
 use Rattle.schedules.specs.Months.{date_of, day_in}
 use Rattle.schedules.specs.Days.{Said, moved, next_from}
 use Rattle.schedules.specs.Upcoming.{IsOccurrence, IsNextAfter}
-use Rattle.schedules.specs.Laws.{Occurs, IsLeastFrom}
+use Rattle.schedules.specs.Laws.{Occurs}
 use Rattle.schedules.proofs.Calendar.{by_lt}
 use Rattle.schedules.proofs.Dating.{date_back, date_rises, date_from}
 use Rattle.schedules.proofs.Telling.{occurs_within, some_told, none_told}

@@ -1,10 +1,10 @@
 -- Raw days by frequency, and years as twelve months.
-use Rattle.std.proofs.Common.{◌≡◌, ℕ, ◌+◌, ◌-◌, ◌*◌, ◌/◌, ◌%◌, ◌<◌, ◌≤◌, Bool, true, false, ◌&&◌, ◌==◌, [], Option, Some, None, refl, sym, ap, ◌∙◌, subst, arith}
+use Rattle.std.proofs.Common.{◌≡◌, ℕ, ◌-◌, ◌*◌, ◌/◌, ◌%◌, ◌≤◌, Bool, true, false, ◌&&◌, ◌==◌, [], Option, Some, None, refl, sym, ◌∙◌, subst, arith}
 use Rattle.std.specs.Prelude.{nat_lt, nat_le}
 use Rattle.std.proofs.lemmas.Bool.{and_parts, and_from, ltb-true, leb-true, eqb-true, eq-eqb}
 use Rattle.schedules.specs.declared.recurrence.Frequency.{Frequency}
 use Rattle.schedules.specs.Months.{month_day}
-use Rattle.schedules.specs.Days.{Said, places, is_raw, is_raw_by, is_multiple, is_month_step, is_year_step, falls_on, IsFirst, IsFirstFrom}
+use Rattle.schedules.specs.Days.{Said, places, is_raw, is_raw_by, is_multiple, is_month_step, is_year_step, falls_on, IsFirst}
 use Rattle.schedules.proofs.Calendar.{month_rises}
 use Rattle.schedules.proofs.Steps.{as_product, multiple}
 

@@ -1,11 +1,11 @@
 -- The occurrences between two days, in order.
-use Rattle.std.proofs.Common.{◌≡◌, ◌↔◌, ℕ, zero, suc, ◌+◌, ◌-◌, ◌<◌, ◌≤◌, Bool, true, false, cond, List, [], ◌∷◌, ◌++◌, map, Some, None, append-nil, refl, sym, ap, ◌∙◌, subst, arith}
+use Rattle.std.proofs.Common.{◌≡◌, ℕ, zero, suc, ◌+◌, ◌-◌, ◌<◌, ◌≤◌, Bool, true, false, cond, List, [], ◌∷◌, ◌++◌, map, Some, None, append-nil, refl, sym, ap, ◌∙◌, subst, arith}
 use Rattle.std.specs.Prelude.{◌==◌, ◌||◌}
 use Rattle.std.specs.List.{list_any, AllByRecursion}
 use Rattle.std.specs.List.Sorted.{IsStrictlySortedBy}
 use Rattle.std.specs.Ordering.{nat_cmp}
 use Rattle.std.specs.declared.cmp.Ordering.TheVariants.{Less}
-use Rattle.std.proofs.lemmas.Bool.{eqb-true, eq-eqb, both_ways, false_from_ne_true}
+use Rattle.std.proofs.lemmas.Bool.{eqb-true, eq-eqb, false_from_ne_true}
 use Rattle.hybrid_clock.proofs.TextOrder.{nat_cmp-lt}
 use Rattle.schedules.specs.Months.{date_of, day_in}
 use Rattle.schedules.specs.Days.{Said, moved, is_occurrence, next_from, those_of, occurrences_in}
@@ -143,8 +143,7 @@ between r first last a b from to =
         λ h.
             let x = has_day (is_occurrence r) (b + 1 - a) a n h in
             let o = occurs_so r x.day x.passes in
-            let within = occurs_within r x.day o in
-            (
+            let within = occurs_within r x.day o in (
               subst (IsOccurrence r) x.writes (with_date r x.day o),
               omega (arith, date_from a x.day x.reached within, begin.0, x.writes),
               omega (arith, date_from x.day b (omega (arith, x.below, x.reached)) end.1, end.0, x.writes),

@@ -4,7 +4,7 @@ use Rattle.std.specs.Prelude.{◌||◌, MatchOption}
 use Rattle.std.proofs.lemmas.Bool.{and_parts, and_from, false_from_ne_true, both_ways, eqb-true, eq-eqb, ltb-true}
 use Rattle.schedules.specs.declared.recurrence.Frequency.{Frequency}
 use Rattle.schedules.specs.declared.recurrence.Frequency.TheVariants.{Daily, Weekly, Monthly, Yearly}
-use Rattle.schedules.specs.Days.{Said, places, is_raw, is_raw_by, is_kept, moved, any_below, is_occurrence, least_of, next_from, is_day_step, is_month_step, is_year_step}
+use Rattle.schedules.specs.Days.{Said, is_raw, is_raw_by, is_kept, moved, any_below, is_occurrence, least_of, next_from, is_day_step, is_month_step, is_year_step}
 use Rattle.schedules.specs.Laws.{Occurs, IsLeastFrom}
 use Rattle.schedules.proofs.Calendar.{by_lt}
 use Rattle.schedules.proofs.Moving.{moved_within}

@@ -1,16 +1,12 @@
 -- The writes of each edit are valid.
-use Rattle.std.proofs.Common.{◌≡◌, ℕ, ◌+◌, ◌<◌, ◌≤◌, Bool, true, false, cond, List, [], ◌∷◌, ◌++◌, length, Option, None, Some, Result, Ok, Err, refl, sym, ap, ◌∙◌, subst, arith}
-use lib.IntN.{ℤ, pos, negsuc, ◌+ℤ◌}
-use Rattle.std.specs.Prelude.{codes, not, ◌&&◌, if◌then◌else◌, int_le, neg_ℤ, ok_or, option_and_then, option_map, unwrap_or}
-use Rattle.std.proofs.lemmas.Int.{ints}
+use Rattle.std.proofs.Common.{◌≡◌, ℕ, ◌+◌, ◌<◌, Bool, true, false, List, Option, None, Some, Result, Ok, Err, refl, ap, subst, arith}
+use lib.IntN.{ℤ, pos}
+use Rattle.std.specs.Prelude.{codes, not, if◌then◌else◌, ok_or, option_and_then}
 use Rattle.std.proofs.lemmas.Bool.{and_parts}
-use Rattle.std.specs.List.{AllByRecursion}
 use Rattle.std.specs.FinMap as map
-use Rattle.field_values.specs.declared.value.Value.{Value}
 use Rattle.field_values.specs.declared.value.Value.TheVariants.{Null, Number, Text as IsText}
-use Rattle.field_values.specs.Names.{IsName, name_fault}
-use Rattle.field_values.specs.declared.name.NamePart.TheVariants.{Row}
-use Rattle.field_values.specs.Value.{IsValue, HoldsNumber}
+use Rattle.field_values.specs.Names.{IsName}
+use Rattle.field_values.specs.Value.{HoldsNumber}
 use Rattle.finite_sums.specs.Maps.{Text}
 use Rattle.book_rows.specs.declared.rows.Rows.{Rows}
 use Rattle.book_rows.specs.declared.rows.ScheduleRow.{ScheduleRow}
@@ -24,18 +20,18 @@ use Rattle.book_rows.specs.declared.fault.RecurPart.TheVariants.{EndMode}
 use Rattle.book_rows.specs.Named.{HasNames}
 use Rattle.book_rows.specs.Writes.{IsRowName, IsWrite, AreWrites}
 use Rattle.book_edits.specs.Faults.{if_there, must}
-use Rattle.book_edits.specs.Checks.{may_be_chosen, given_row, live_account, live_payee, an_amount}
-use Rattle.book_edits.specs.Writing.{write, flag, text_or_null}
+use Rattle.book_edits.specs.Checks.{may_be_chosen, live_account, live_payee, an_amount}
+use Rattle.book_edits.specs.Writing.{flag, text_or_null}
 use Rattle.book_edits.proofs.Passing.{name_of_is, held}
 use Rattle.book_edits.proofs.Valid.{inside, passed, was_so, flag_is, text_or_null_is, write_is}
 use Rattle.schedules.specs.declared.edit.ScheduleEdit.{ScheduleEdit}
 use Rattle.schedules.specs.declared.edit.ScheduleEdit.TheVariants.{Add, Post, Skip, Delete}
-use Rattle.schedules.specs.Months.{month_day, date_of, day_in}
+use Rattle.schedules.specs.Months.{date_of, day_in}
 use Rattle.schedules.specs.Days.{Said, next_from}
 use Rattle.schedules.specs.Reading.{or_recur, recurrence_of}
 use Rattle.schedules.specs.Terms.{Terms, terms_of}
 use Rattle.schedules.specs.Status.{live_row, next_day}
-use Rattle.schedules.specs.Edits.{live_schedule, not_done, is_schedule, new_schedule, first_day, add_writes, conditions_text, schedule_add, schedule_post, schedule_skip, schedule_delete, skip_write, schedule_writes}
+use Rattle.schedules.specs.Edits.{live_schedule, not_done, is_schedule, new_schedule, first_day, conditions_text, schedule_add, schedule_post, schedule_skip, schedule_delete, skip_write, schedule_writes}
 use Rattle.schedules.proofs.Dating.{date_back, is_placed}
 use Rattle.schedules.proofs.Telling.{occurs_within, some_told}
 

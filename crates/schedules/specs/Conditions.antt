@@ -1,7 +1,7 @@
 -- When the JSON of a rule's conditions and actions can be read.
-use Rattle.std.specs.Prelude.{ℕ, ℤ, pos, neg_ℤ, int_le, List, Bool, true, false, ◌&&◌, ◌||◌, not, if◌then◌else◌, Option, Some, None, is_some, option_and_then, codes}
+use Rattle.std.specs.Prelude.{ℤ, pos, neg_ℤ, int_le, Bool, true, ◌&&◌, ◌||◌, not, if◌then◌else◌, Option, Some, None, is_some, option_and_then, codes}
 use Rattle.std.specs.Str.{bytes_eq}
-use Rattle.serde_json.specs.Data.{Data, null, Items, no_items, item}
+use Rattle.serde_json.specs.Data.{Data, Items, no_items, item}
 use Rattle.serde_json.specs.Find.{get, as_number, as_i64, as_bool, as_null, as_str, as_array, as_object}
 use Rattle.finite_sums.specs.Maps.{Text, some_and}
 use Rattle.schedules.specs.Reading.{day_of_text}

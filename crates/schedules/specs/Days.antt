@@ -1,5 +1,5 @@
 -- The days of a recurrence: raw days, the end's cut, weekend moves, occurrences, and the next one.
-use Rattle.std.specs.Prelude.{◌≡◌, ℕ, zero, suc, ◌+◌, ◌-◌, ◌*◌, ◌/◌, ◌%◌, ◌<◌, ◌≤◌, Bool, true, false, ◌&&◌, ◌||◌, ◌==◌, nat_lt, nat_le, if◌then◌else◌, Option, None, Some, MatchOption, List, [], ◌∷◌, map}
+use Rattle.std.specs.Prelude.{◌≡◌, ℕ, zero, suc, ◌+◌, ◌-◌, ◌*◌, ◌/◌, ◌%◌, ◌<◌, ◌≤◌, Bool, true, false, ◌&&◌, ◌||◌, ◌==◌, nat_lt, nat_le, if◌then◌else◌, Option, None, Some, MatchOption, List, [], ◌∷◌}
 use Rattle.std.specs.List.{list_any}
 use Rattle.schedules.specs.declared.month.MonthDay.{MonthDay}
 use Rattle.schedules.specs.declared.recurrence.Frequency.{Frequency}
@@ -11,7 +11,7 @@ use Rattle.schedules.specs.declared.recurrence.Ending.TheVariants.{Never, Times,
 use Rattle.schedules.specs.declared.recurrence.Weekends.{Weekends}
 use Rattle.schedules.specs.declared.recurrence.Weekends.TheVariants.{Stay, Before, After}
 use Rattle.schedules.specs.declared.recurrence.Recurrence.{Recurrence}
-use Rattle.schedules.specs.Months.{month_day, month_length, weekday, date_of}
+use Rattle.schedules.specs.Months.{month_day, month_length, weekday}
 
 -- what a recurrence says. Its days are numbers of days
 pub record Said : Type 0 where

@@ -1,14 +1,11 @@
 -- What the laws say.
-use Rattle.std.specs.Prelude.{◌≡◌, ◌↔◌, ◌⊎◌, ℕ, pos, ◌+◌, ◌-◌, ◌*◌, ◌/◌, ◌%◌, ◌<◌, ◌≤◌, Bool, true, false, List, Option, None, Some, MatchOption}
-use Rattle.std.specs.List.{list_any}
+use Rattle.std.specs.Prelude.{◌≡◌, ◌↔◌, ◌⊎◌, ℕ, pos, ◌+◌, ◌*◌, ◌/◌, ◌%◌, ◌<◌, ◌≤◌, true, Some, MatchOption}
 use Rattle.jiff_core.specs.Calendar.{days_from_civil, IsCivilDate}
-use Rattle.book_rows.specs.Kinds.{is_day}
-use Rattle.schedules.specs.declared.recurrence.Frequency.TheVariants.{Daily, Weekly, Monthly, Yearly}
-use Rattle.schedules.specs.declared.recurrence.Weekends.TheVariants.{Stay, Before, After}
-use Rattle.schedules.specs.declared.recurrence.Ending.TheVariants.{Never, Times, Until}
+use Rattle.schedules.specs.declared.recurrence.Frequency.TheVariants.{Daily, Weekly}
+use Rattle.schedules.specs.declared.recurrence.Ending.TheVariants.{Never}
 use Rattle.schedules.specs.declared.month.MonthDay.{MonthDay}
 use Rattle.schedules.specs.Months.{month_day, weekday, date_of, day_in}
-use Rattle.schedules.specs.Days.{Said, is_raw, is_kept, moved, is_occurrence, next_from, occurrences_in}
+use Rattle.schedules.specs.Days.{Said, is_kept, moved, is_occurrence, next_from}
 use Rattle.schedules.specs.Terms.{one_day}
 
 -- a raw day that is kept moves to this day
@@ -39,11 +36,20 @@ pub record DaysHaveDates : Type 0 where
   -- later days have greater dates
   pub rises : (d e : ℕ) → d < e → e < 84_006 → date_of d < date_of e
 
+-- raw days come by whole steps of so many days
+abbrev pub StepsBy : Said → ℕ → Type 0
+StepsBy r step = ((r.frequency ≡ Daily) × (step ≡ r.interval)) ⊎ ((r.frequency ≡ Weekly) × (step ≡ 7 * r.interval))
+
 -- which days are occurrences
 pub record OccurrencesAreTold : Type 0 where
   -- a day is one where a kept raw day moves to it
   pub occurs : (r : Said) (e : ℕ) → (is_occurrence r e ≡ true) ↔ Occurs r e
   -- the next one from a day on is the least, and there is none where there is none
   pub next : (r : Said) (from : ℕ) → MatchOption (next_from r from) ((e : ℕ) → Occurs r e → e < from) (λ n. IsLeastFrom r from n)
+  -- a kept raw day from Monday to Friday is one
+  pub working : (r : Said) (d : ℕ) → is_kept r d ≡ true → weekday d < 5 → Occurs r d
+  -- days and weeks without an end go on: as long as the end of 2199 is not near, one comes within a step and four days
+  pub goes_on : (r : Said) (from step : ℕ) → StepsBy r step → 1 ≤ step → r.ending ≡ Never → r.start ≤ from → from + step + 4 ≤ 84_006
+      → (n : ℕ) × (next_from r from ≡ Some n) × (n < from + step + 4)
   -- one day alone
   pub once : (d e : ℕ) → d < 84_006 → Occurs (one_day d) e ↔ (e ≡ d)

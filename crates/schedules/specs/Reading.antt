@@ -1,5 +1,5 @@
 -- What a JSON value says as a recurrence, key by key, and the first key that is bad.
-use Rattle.std.specs.Prelude.{◌≡◌, ℕ, List, [], ◌∷◌, Bool, true, false, ◌&&◌, nat_le, if◌then◌else◌, Option, Some, None, codes, option_and_then, Result, Ok, Err, ℤ, pos, negsuc, int_le, unsigned_abs, is_some, ◌++◌, ◌==◌, length, slice_index}
+use Rattle.std.specs.Prelude.{ℕ, List, [], ◌∷◌, Bool, true, false, ◌&&◌, nat_le, if◌then◌else◌, Option, Some, None, codes, option_and_then, Result, Ok, Err, ℤ, pos, negsuc, int_le, unsigned_abs, is_some, ◌++◌, ◌==◌, length, slice_index}
 use Rattle.std.specs.Str.{bytes_eq}
 use Rattle.serde_json.specs.Data.{Data, null, Items, no_items, item}
 use Rattle.serde_json.specs.Find.{get, as_number, as_u64, as_bool, as_str, as_array, as_object, as_i64}

@@ -199,8 +199,7 @@ fn is_id_field(field: Option<&Value>) -> bool
 fn is_words_field(field: Option<&Value>) -> bool
     ensures { result ≡ is_words_field (option_map (λ v. view v.now) field.entry) }
 {
-    says(field, "imported_description")
-        || (says(field, "imported_payee") || says(field, "notes"))
+    says(field, "imported_description") || (says(field, "imported_payee") || says(field, "notes"))
 }
 
 /// Whether an op and a value can test an id.
@@ -214,8 +213,7 @@ fn is_id_test(op: Option<&Value>, value: Option<&Value>) -> bool
 fn is_words_test(op: Option<&Value>, value: Option<&Value>) -> bool
     ensures { result ≡ is_words_test (option_map (λ v. view v.now) op.entry) (option_map (λ v. view v.now) value.entry) }
 {
-    ((is_same_op(op) || is_part_op(op)) && is_words(value))
-        || (is_list_op(op) && are_words(value))
+    ((is_same_op(op) || is_part_op(op)) && is_words(value)) || (is_list_op(op) && are_words(value))
 }
 
 /// Whether an op and a value can test an amount.

@@ -50,13 +50,7 @@ pub(crate) fn live_row<'a>(book: &'a Book, id: &Txt) -> Option<&'a ScheduleRow>
     ensures { option_copied result ≡ live_row book.now.rows id.now }
 {
     match book.schedule(id) {
-        Some(row) => {
-            if row.tombstone {
-                None
-            } else {
-                Some(row)
-            }
-        }
+        Some(row) => { if row.tombstone { None } else { Some(row) } }
         None => None,
     }
 }

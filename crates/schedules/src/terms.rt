@@ -281,13 +281,7 @@ fn live_rule<'a>(book: &'a Book, id: &Txt) -> Option<&'a RuleRow>
     ensures { option_copied result ≡ live_rule book.now.rows id.now }
 {
     match book.rule(id) {
-        Some(row) => {
-            if row.tombstone {
-                None
-            } else {
-                Some(row)
-            }
-        }
+        Some(row) => { if row.tombstone { None } else { Some(row) } }
         None => None,
     }
 }

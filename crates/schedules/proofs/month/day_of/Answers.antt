@@ -1,4 +1,4 @@
-use Rattle.std.proofs.Common.{◌≡◌, ◌+◌, ◌-◌, ◌∙◌, ◌%◌, sym, ap, Some, arith}
+use Rattle.std.proofs.Common.{◌+◌, ◌-◌, ◌∙◌, ◌%◌, sym, ap, Some, arith}
 use Rattle.schedules.proofs.Dating.{parts, place_of, so_day}
 use Rattle.schedules.proofs.month.day_of.Goals as goal
 

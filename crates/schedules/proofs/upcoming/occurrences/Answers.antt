@@ -1,4 +1,4 @@
-use Rattle.std.proofs.Common.{◌≡◌, ℕ, ◌+◌, ◌<◌, ◌∷◌, [], ◌++◌, map, List, sym, ap, ◌∙◌, arith, append_assoc}
+use Rattle.std.proofs.Common.{◌≡◌, ℕ, ◌+◌, ◌∷◌, [], ◌++◌, map, List, sym, ap, ◌∙◌, arith, append_assoc}
 use Rattle.schedules.specs.Months.{date_of}
 use Rattle.schedules.specs.Days.{said, occurrences_in}
 use Rattle.schedules.proofs.Telling.{some_told}
@@ -18,8 +18,7 @@ loop-day-preserved c =
     let day = c.in-Some.day in
     let to = c.day_of-to.result in
     let rest = map date_of (occurrences_in r (day + 1) to) in
-    let pushed : c.push.new.self.items ≡ dates ++ date_of day ∷ [] = c.in_ok-push.ensures.items ∙ ap (λ n. dates ++ n ∷ []) c.date_of.ensures in
-    (
+    let pushed : c.push.new.self.items ≡ dates ++ date_of day ∷ [] = c.in_ok-push.ensures.items ∙ ap (λ n. dates ++ n ∷ []) c.date_of.ensures in (
       c.in-Some.ensures.past,
       λ a e.
           ap (λ (ds : List ℕ). ds ++ rest) pushed ∙ append_assoc dates (date_of day ∷ []) rest

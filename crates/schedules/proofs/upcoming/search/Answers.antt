@@ -1,5 +1,5 @@
-use Rattle.std.proofs.Common.{ℕ, ◌≡◌, ◌+◌, ◌<◌, ◌≤◌, Some, arith, sym, ap, ◌∙◌, subst}
-use Rattle.schedules.specs.Days.{said, moved, next_from, IsPast}
+use Rattle.std.proofs.Common.{ℕ, ◌+◌, ◌<◌, ◌≤◌, Some, arith, sym, ap, ◌∙◌}
+use Rattle.schedules.specs.Days.{said, moved}
 use Rattle.schedules.proofs.Moving.{moved_within}
 use Rattle.schedules.proofs.Occurring.{past_next, past_cut, past_found, past_all}
 use Rattle.schedules.proofs.Telling.{next_some, next_none}
