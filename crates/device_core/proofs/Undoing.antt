@@ -1,5 +1,5 @@
 -- What an undo and a redo leave.
-use Rattle.std.proofs.Common.{◌≡◌, ℕ, zero, suc, ◌+◌, ◌-◌, ◌<◌, ◌≤◌, Bool, true, false, cond, List, [], ◌∷◌, ◌++◌, Option, None, Some, Result, Ok, Err, length, map, refl, sym, ap, ◌∙◌, subst, arith}
+use Rattle.std.proofs.Common.{◌≡◌, ℕ, zero, suc, ◌+◌, ◌-◌, ◌<◌, cond, List, [], ◌∷◌, ◌++◌, Option, None, Some, Result, Ok, Err, length, map, refl, sym, ap, ◌∙◌, subst, arith}
 use Rattle.std.specs.Prelude.{option_map}
 use Rattle.std.specs.Option.{option_or}
 use Rattle.std.specs.List.{AllByRecursion, slice_get}
@@ -7,7 +7,6 @@ use Rattle.std.proofs.lemmas.List.{length-append}
 use Rattle.field_values.specs.declared.value.Value.{Value}
 use Rattle.field_values.specs.Names.{FieldNames}
 use Rattle.hybrid_clock.specs.declared.stamp.Stamp.{Stamp}
-use Rattle.hybrid_clock.specs.declared.clock.ClockFault.{ClockFault}
 use Rattle.hybrid_clock.specs.Clock.{draw}
 use Rattle.field_merge.specs.declared.message.Message.{Message}
 use Rattle.field_merge.specs.Log.{has_field, join, latest, value_in}
@@ -21,17 +20,15 @@ use Rattle.edit_history.specs.declared.before.Before.{Before}
 use Rattle.edit_history.specs.declared.history.Turn.{Turn}
 use Rattle.edit_history.specs.declared.history.Turn.TheVariants.{New, Undo, Redo}
 use Rattle.edit_history.specs.Undo.{entry_over, first_of_each, before_of, undo_of, undo_values, undo_writes, write_of}
-use Rattle.edit_history.specs.History.{Entries, latest_of, after, IsEntry, AreEntries}
+use Rattle.edit_history.specs.History.{Entries, latest_of, after, IsEntry}
 use Rattle.edit_history.specs.Laws.{with_values, IsUndone}
 use Rattle.edit_history.proofs.Listing.{first_some, map_length}
 use Rattle.edit_history.proofs.UndoLaw.{entries_undo}
 use Rattle.edit_history.proofs.Valid.{undo_some, undo_few}
-use Rattle.device_core.specs.declared.edit.LineRefusal.{LineRefusal}
-use Rattle.device_core.specs.declared.edit.LineRefusal.TheVariants.{Edit as OfEdit, Clock as OfClock}
 use Rattle.device_core.specs.Books.{rows_of}
 use Rattle.device_core.specs.Edits.{writes_of}
 use Rattle.device_core.specs.Placing.{stamp_at, messages_from, stamped}
-use Rattle.device_core.specs.Device.{State, Accepted, IsAhead, at_rest, accepted_as, first_in_row, with_writes, written, written_over, writing, writes_back, edited, undone, redone}
+use Rattle.device_core.specs.Device.{State, Accepted, IsAhead, at_rest, accepted_as, first_in_row, written, written_over, writing, writes_back}
 use Rattle.device_core.specs.Several.{AreJoinedWrites}
 use Rattle.device_core.specs.Undoing.{IsTakenBack, EntriesAreTakenBack, IsRestored, LinesAreUndone}
 use Rattle.device_core.proofs.Books.{values_after, after_is}
