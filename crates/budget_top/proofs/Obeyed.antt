@@ -1,14 +1,14 @@
 -- What a device does at a line.
-use Rattle.std.proofs.Common.{◌≡◌, inl, inr, ℕ, List, [], ◌∷◌, Bool, cond, sym, ap, ◌∙◌, Result, Ok, Err}
+use Rattle.std.proofs.Common.{◌≡◌, inl, inr, ℕ, List, [], ◌∷◌, Bool, cond, refl, sym, ap, ◌∙◌, Result, Ok, Err}
 use Rattle.field_values.specs.declared.value.Value.{Value}
 use Rattle.field_merge.specs.declared.message.Message.{Message}
 use Rattle.device_core.specs.declared.edit.Edit.TheVariants.{Book}
 use Rattle.book_edits.specs.declared.edit.BookEdit.TheVariants.{Set}
 use Rattle.device_core.specs.declared.edit.LineRefusal.{LineRefusal}
-use Rattle.device_core.specs.Device.{Accepted, IsAhead, edited, received}
+use Rattle.device_core.specs.Device.{Accepted, IsAhead, edited, undone, redone, received}
 use Rattle.device_core.specs.ReadBack.{EditsReadBack, ReceivedAreJoined}
 use Rattle.command_lines.specs.declared.command.Command.{Command}
-use Rattle.command_lines.specs.declared.command.Command.TheVariants.{Edit, Receive, Fields, Messages, Value as ValueOf, Trie, Balance, Register, Cell, Sheet}
+use Rattle.command_lines.specs.declared.command.Command.TheVariants.{Edit, Undo, Redo, Receive, Fields, Messages, Value as ValueOf, Trie, Balance, Register, Cell, Sheet, Broken, Sync}
 use Rattle.command_lines.specs.declared.reply.Reply.{Reply}
 use Rattle.command_lines.specs.Commands.{command}
 use Rattle.command_lines.specs.Readings.{answer, IsReading}
@@ -16,7 +16,7 @@ use Rattle.command_lines.specs.Replies.{wrote, refused}
 use Rattle.budget_top.specs.Session.{asked, settled, wrote_all, added_all, reply_to_refusal}
 use Rattle.budget_top.specs.Doing.{Target, Running, done}
 use Rattle.budget_top.specs.Course.{Input, step}
-use Rattle.budget_top.specs.Obeying.{Says, IsNone, Refuses, Writes, TakesIn, LinesAreObeyed}
+use Rattle.budget_top.specs.Obeying.{Says, IsNone, Refuses, Writes, TakesBack, TakesIn, LinesAreObeyed}
 
 -- a line asks for what it says
 asks : (line : List ℕ) (said : Command) → Says line said → asked line ≡ Ok said
@@ -56,6 +56,14 @@ writing law target r i dataset row column value accepted says ahead is =
       told = ap (λ (p : Running × Reply). p.1) now ∙ ap (λ (n : ℕ). wrote n accepted.made) back.one ∙ ap (λ (ids : List (List ℕ)). wrote 1 ids) back.none_made;
     }
 
+taking_back : (target : Target) (r : Running) (i : Input) (said : Command) (meant : Result Accepted LineRefusal) (accepted : Accepted) → Says i.line said → done target r i.given (Ok said) ≡ left_by r wrote_all meant
+    → meant ≡ Ok accepted → TakesBack r accepted (step target r i).0 (step target r i).1
+taking_back target r i said meant accepted says so is =
+    let now = accepting r wrote_all meant accepted (step target r i) (stepped target r i (Ok said) (asks i.line said says) ∙ so) is in record {
+      after_it = ap (λ (p : Running × Reply). p.0) now;
+      told = ap (λ (p : Running × Reply). p.1) now;
+    }
+
 taking_in : ReceivedAreJoined → (target : Target) (r : Running) (i : Input) (message : Message) (accepted : Accepted) → Says i.line (Receive message)
     → received r.state (message ∷ []) i.given.reading ≡ Ok accepted → TakesIn r message i.given.reading accepted (step target r i).0 (step target r i).1
 taking_in law target r i message accepted says is =
@@ -68,6 +76,9 @@ taking_in law target r i message accepted says is =
 answering : (target : Target) (r : Running) (i : Input) (said : Command) → asked i.line ≡ Ok said → IsReading said → step target r i ≡ (r, answer r.state.messages said)
 answering target r i (Edit edit) asks h = absurd h
 answering target r i (Receive message) asks h = absurd h
+answering target r i Undo asks h = absurd h
+answering target r i Redo asks h = absurd h
+answering target r i Sync asks h = absurd h
 answering target r i Fields asks h = stepped target r i _ asks
 answering target r i (Messages since) asks h = stepped target r i _ asks
 answering target r i (ValueOf dataset row column) asks h = stepped target r i _ asks
@@ -76,11 +87,16 @@ answering target r i (Balance account) asks h = stepped target r i _ asks
 answering target r i (Register account) asks h = stepped target r i _ asks
 answering target r i (Cell month name) asks h = stepped target r i _ asks
 answering target r i (Sheet month) asks h = stepped target r i _ asks
+answering target r i Broken asks h = stepped target r i _ asks
 
 pub lines_obeyed : EditsReadBack → ReceivedAreJoined → LinesAreObeyed
 lines_obeyed edits messages = record {
   writes = writing edits;
   refused_writes = λ target r i dataset row column value refusal says is. refusing r wrote_all _ refusal (step target r i) (stepped target r i _ (asks i.line _ says)) is;
+  undos = λ target r i accepted says is. taking_back target r i Undo (undone r.state i.given.reading) accepted says refl is;
+  refused_undos = λ target r i refusal says is. refusing r wrote_all _ refusal (step target r i) (stepped target r i _ (asks i.line _ says)) is;
+  redos = λ target r i accepted says is. taking_back target r i Redo (redone r.state i.given.reading) accepted says refl is;
+  refused_redos = λ target r i refusal says is. refusing r wrote_all _ refusal (step target r i) (stepped target r i _ (asks i.line _ says)) is;
   messages = taking_in messages;
   refused_messages = λ target r i message refusal says is. refusing r added_all _ refusal (step target r i) (stepped target r i _ (asks i.line _ says)) is;
   readings = λ target r i said says reads. answering target r i said (asks i.line said says) reads;

@@ -1,10 +1,10 @@
 -- The replies of a device as lines.
 use Rattle.std.proofs.Common.{◌≡◌, ℕ, List, [], ◌∷◌, ◌++◌, refl, ap, sym, ◌∙◌, append_assoc, append-nil, Option, None, Some, Result, Ok, Err}
 use Rattle.device_core.specs.declared.edit.LineRefusal.{LineRefusal}
-use Rattle.device_core.specs.Device.{State, Accepted, edited, received}
+use Rattle.device_core.specs.Device.{State, Accepted, edited, undone, redone, received}
 use Rattle.device_core.specs.Accepting.{AcceptedAreJoined}
 use Rattle.command_lines.specs.declared.command.Command.{Command}
-use Rattle.command_lines.specs.declared.command.Command.TheVariants.{Edit as EditOf, Receive, Fields, Messages, Value, Trie, Balance, Register, Cell, Sheet}
+use Rattle.command_lines.specs.declared.command.Command.TheVariants.{Edit as EditOf, Undo, Redo, Receive, Fields, Messages, Value, Trie, Balance, Register, Cell, Sheet, Broken, Sync}
 use Rattle.command_lines.specs.declared.reply.Reply.{Reply}
 use Rattle.command_lines.specs.Replies.{refused, reply_lines, reply_text_of}
 use Rattle.command_lines.specs.ReplyLines.{RepliesAreLines, IsReply}
@@ -29,6 +29,9 @@ module _ (law : RepliesAreLines) (joined : AcceptedAreJoined) where
   obeyed_reply : (s : State) (reading : ℕ) (asks : Result Command ℕ) → IsState s → IsReply (obeyed s reading asks).1
   obeyed_reply s reading (Err index) valid = law.faults index
   obeyed_reply s reading (Ok (EditOf edit)) valid = settled_reply s wrote_all (edited s edit reading) (λ done is. law.edits done.count done.made ((joined.of_edits s edit reading done is).lines valid.clock))
+  obeyed_reply s reading (Ok Undo) valid = settled_reply s wrote_all (undone s reading) (λ done is. law.edits done.count done.made ((joined.of_undo s reading done is).lines valid.clock))
+  obeyed_reply s reading (Ok Redo) valid = settled_reply s wrote_all (redone s reading) (λ done is. law.edits done.count done.made ((joined.of_redo s reading done is).lines valid.clock))
+  obeyed_reply s reading (Ok Sync) valid = law.faults 0
   obeyed_reply s reading (Ok (Receive message)) valid = settled_reply s added_all (received s (message ∷ []) reading) (λ done is. law.received done.count)
   obeyed_reply s reading (Ok Fields) valid = law.answers s.messages Fields valid.messages
   obeyed_reply s reading (Ok (Messages since)) valid = law.answers s.messages (Messages since) valid.messages
@@ -38,6 +41,7 @@ module _ (law : RepliesAreLines) (joined : AcceptedAreJoined) where
   obeyed_reply s reading (Ok (Register account)) valid = law.answers s.messages (Register account) valid.messages
   obeyed_reply s reading (Ok (Cell month name)) valid = law.answers s.messages (Cell month name) valid.messages
   obeyed_reply s reading (Ok (Sheet month)) valid = law.answers s.messages (Sheet month) valid.messages
+  obeyed_reply s reading (Ok Broken) valid = law.answers s.messages Broken valid.messages
 
 -- ---- one reply behind the other
 

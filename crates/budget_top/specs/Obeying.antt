@@ -7,15 +7,15 @@ use Rattle.field_merge.specs.declared.message.Message.{Message}
 use Rattle.device_core.specs.declared.edit.Edit.TheVariants.{Book}
 use Rattle.book_edits.specs.declared.edit.BookEdit.TheVariants.{Set}
 use Rattle.device_core.specs.declared.edit.LineRefusal.{LineRefusal}
-use Rattle.device_core.specs.Device.{Accepted, IsAhead, edited, received}
+use Rattle.device_core.specs.Device.{Accepted, IsAhead, edited, undone, redone, received}
 use Rattle.device_core.specs.ReadBack.{IsReadBack, AreTakenIn}
 use Rattle.command_lines.specs.declared.command.Command.{Command}
-use Rattle.command_lines.specs.declared.command.Command.TheVariants.{Edit, Receive}
+use Rattle.command_lines.specs.declared.command.Command.TheVariants.{Edit, Undo, Redo, Receive}
 use Rattle.command_lines.specs.declared.reply.Reply.{Reply}
 use Rattle.command_lines.specs.declared.reply.Reply.TheVariants.{Done, Refused}
 use Rattle.command_lines.specs.Commands.{command}
 use Rattle.command_lines.specs.Readings.{answer, IsReading}
-use Rattle.command_lines.specs.Replies.{refused}
+use Rattle.command_lines.specs.Replies.{wrote, refused}
 use Rattle.budget_top.specs.Doing.{Target, Running}
 use Rattle.budget_top.specs.Course.{Input, step}
 
@@ -39,6 +39,11 @@ pub record Writes (r : Running) (dataset row column : List ℕ) (value : Value) 
   pub read_back : IsReadBack r.state dataset row column value accepted
   pub told : reply ≡ Done ((codes "writes " ++ decimal 1) ∷ [])
 
+-- an undo or a redo was accepted
+pub record TakesBack (r : Running) (accepted : Accepted) (after : Running) (reply : Reply) : Type 0 where
+  pub after_it : after ≡ record r { state = accepted.state }
+  pub told : reply ≡ wrote accepted.count accepted.made
+
 -- a message was accepted
 pub record TakesIn (r : Running) (message : Message) (reading : ℕ) (accepted : Accepted) (after : Running) (reply : Reply) : Type 0 where
   pub after_it : after ≡ record r { state = accepted.state }
@@ -55,6 +60,15 @@ pub record LinesAreObeyed : Type 0 where
   pub refused_writes : (target : Target) (r : Running) (i : Input) (dataset row column : List ℕ) (value : Value) (refusal : LineRefusal) →
       Says i.line (Edit (Book (Set dataset row column value))) →
       edited r.state (Book (Set dataset row column value)) i.given.reading ≡ Err refusal → Refuses r refusal (step target r i).0 (step target r i).1
+  -- an undo, and a redo
+  pub undos : (target : Target) (r : Running) (i : Input) (accepted : Accepted) → Says i.line Undo → undone r.state i.given.reading ≡ Ok accepted →
+      TakesBack r accepted (step target r i).0 (step target r i).1
+  pub refused_undos : (target : Target) (r : Running) (i : Input) (refusal : LineRefusal) → Says i.line Undo → undone r.state i.given.reading ≡ Err refusal →
+      Refuses r refusal (step target r i).0 (step target r i).1
+  pub redos : (target : Target) (r : Running) (i : Input) (accepted : Accepted) → Says i.line Redo → redone r.state i.given.reading ≡ Ok accepted →
+      TakesBack r accepted (step target r i).0 (step target r i).1
+  pub refused_redos : (target : Target) (r : Running) (i : Input) (refusal : LineRefusal) → Says i.line Redo → redone r.state i.given.reading ≡ Err refusal →
+      Refuses r refusal (step target r i).0 (step target r i).1
   -- a message of another device
   pub messages : (target : Target) (r : Running) (i : Input) (message : Message) (accepted : Accepted) → Says i.line (Receive message) →
       received r.state (message ∷ []) i.given.reading ≡ Ok accepted →

@@ -4,7 +4,7 @@ ghost use Rattle.field_merge.specs.declared.message.Message.{Message};
 ghost use Rattle.field_merge.specs.Messages.{IsMessage};
 ghost use Rattle.device_core.specs.Edits.{IsEdit};
 ghost use Rattle.device_core.specs.Accepting.{Brings};
-ghost use Rattle.device_core.specs.Device.{edited, received};
+ghost use Rattle.device_core.specs.Device.{edited, undone, redone, received};
 ghost use Rattle.command_lines.specs.Commands.{IsRead, IsCommand};
 ghost use Rattle.command_lines.specs.Readings.{IsReading};
 ghost use Rattle.command_lines.specs.declared.command.CommandFault.TheVariants.{NoMemory as OutOfMemory};
@@ -77,6 +77,46 @@ fn make<G: Ledger>(
     }
 }
 
+/// Undoes the latest edit or redo that was not undone, and gives the reply.
+fn undo<G: Ledger>(
+    alloc: Global,
+    device: &mut Device,
+    steps: &mut Steps<G>,
+    reading: u64,
+) -> Result<Reply, NoMemory>
+    requires live { device.old.spent ≡ false }
+    requires idle { device.old.batch ≡ [] }
+    ensures ok { IfOk result (λ reply. settled device.old.state wrote_all (undone device.old.state reading) ≡ (device.new.state, reply)) }
+    ensures live { OnOk result (device.new.spent ≡ false) }
+    ensures brings { OnOk result (Brings device.old.state.messages device.new) }
+{
+    accepted_are_joined();
+    match device.undo(reading, steps) {
+        Ok(count) => wrote_reply(alloc, count, device.made()),
+        Err(refusal) => refusal_reply(alloc, &refusal),
+    }
+}
+
+/// Redoes what was undone last, and gives the reply.
+fn redo<G: Ledger>(
+    alloc: Global,
+    device: &mut Device,
+    steps: &mut Steps<G>,
+    reading: u64,
+) -> Result<Reply, NoMemory>
+    requires live { device.old.spent ≡ false }
+    requires idle { device.old.batch ≡ [] }
+    ensures ok { IfOk result (λ reply. settled device.old.state wrote_all (redone device.old.state reading) ≡ (device.new.state, reply)) }
+    ensures live { OnOk result (device.new.spent ≡ false) }
+    ensures brings { OnOk result (Brings device.old.state.messages device.new) }
+{
+    accepted_are_joined();
+    match device.redo(reading, steps) {
+        Ok(count) => wrote_reply(alloc, count, device.made()),
+        Err(refusal) => refusal_reply(alloc, &refusal),
+    }
+}
+
 /// Receives a message, and gives the reply.
 fn receive<G: Ledger>(
     alloc: Global,
@@ -127,7 +167,10 @@ fn obey<G: Ledger>(
 {
     match command {
         Command::Edit(edit) => make(alloc, device, steps, reading, &edit),
+        Command::Undo => undo(alloc, device, steps, reading),
+        Command::Redo => redo(alloc, device, steps, reading),
         Command::Receive { message } => receive(alloc, device, steps, reading, message),
+        Command::Sync => faulty_reply(alloc, 0),
         other => read(alloc, device, &other),
     }
 }
