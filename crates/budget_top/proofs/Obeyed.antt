@@ -14,7 +14,8 @@ use Rattle.command_lines.specs.Commands.{command}
 use Rattle.command_lines.specs.Readings.{answer, IsReading}
 use Rattle.command_lines.specs.Replies.{wrote, refused}
 use Rattle.budget_top.specs.Session.{asked, settled, wrote_all, added_all, reply_to_refusal}
-use Rattle.budget_top.specs.Doing.{Target, Running, done}
+use Rattle.device_sync.specs.declared.target.Target.{Target}
+use Rattle.budget_top.specs.Doing.{Running, syncs, done}
 use Rattle.budget_top.specs.Course.{Input, step}
 use Rattle.budget_top.specs.Obeying.{Says, IsNone, Refuses, Writes, TakesIn, LinesAreObeyed}
 

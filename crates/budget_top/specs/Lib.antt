@@ -11,11 +11,13 @@ pub mod MergeRun
 pub mod Stops
 pub mod Steps
 pub mod Session
+pub mod SyncReplies
 pub mod Doing
 pub mod Course
 pub mod Replies
 pub mod Seen
 pub mod Handling
+pub mod SyncSteps
 pub mod Standing
 pub mod DeviceRun
 pub mod DeviceSteps

@@ -16,7 +16,8 @@ use Rattle.command_lines.specs.declared.reply.Reply.TheVariants.{Done, Refused}
 use Rattle.command_lines.specs.Commands.{command}
 use Rattle.command_lines.specs.Readings.{answer, IsReading}
 use Rattle.command_lines.specs.Replies.{refused}
-use Rattle.budget_top.specs.Doing.{Target, Running}
+use Rattle.device_sync.specs.declared.target.Target.{Target}
+use Rattle.budget_top.specs.Doing.{Running}
 use Rattle.budget_top.specs.Course.{Input, step}
 
 -- a line says this command

@@ -2,7 +2,8 @@
 use Rattle.std.specs.Prelude.{◌≡◌, ℕ, List, [], ◌∷◌, ◌++◌}
 use Rattle.command_lines.specs.Replies.{reply_lines}
 use Rattle.budget_top.specs.Lines.{pieces}
-use Rattle.budget_top.specs.Doing.{Target, Running}
+use Rattle.device_sync.specs.declared.target.Target.{Target}
+use Rattle.budget_top.specs.Doing.{Running}
 use Rattle.budget_top.specs.Valid.{IsState}
 use Rattle.budget_top.specs.Course.{Input, step, replies}
 

@@ -16,6 +16,8 @@ mod planning;
 mod serve_run;
 mod session;
 mod stop;
+mod sync_line;
+mod sync_reply;
 mod tally;
 mod values;
 mod verdict;
