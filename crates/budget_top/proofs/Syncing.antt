@@ -60,21 +60,21 @@ closed : (target : Target) (s end : State) (turns : List Turn) (late : List Exch
 closed target s end turns late now ended o how is h = let P : Outcome → Type 0 = λ x. Closes target s end turns late now ended x in subst P (sym is) h
 
 module _ (target : Target) (s end : State) (turns : List Turn) (late : List Exchange) (now : State) (o : Outcome) where
-  closes : (ended : Result Synced SyncFault) → HasReply ended → IsAnsweredSo target end o late now (IsCounted s turns end) ended → Closes target s end turns late now ended o
-  closes (Ok done) has (is, (none, (same, counted))) = closed target s end turns late now (Ok done) o agreed is (record {
+  closing : (ended : Result Synced SyncFault) → HasReply ended → IsAnsweredSo target end o late now (IsCounted s turns end) ended → Closes target s end turns late now ended o
+  closing (Ok done) has (is, (none, (same, counted))) = closed target s end turns late now (Ok done) o agreed is (record {
     rest = none;
     state = same;
     reply = ap₂ synced counted.0 counted.1;
     link = refl;
     text = λ x. ap (λ (t : State). Some (stamp_text t.clock)) same;
   })
-  closes (Err Link) has (since, (is, (none, same))) = closed target s end turns late now (Err Link) o (going_on since) is (record { rest = none; state = same; reply = refl; link = refl; text = λ x. refl })
-  closes (Err (BadReply at)) has (is, (none, same)) = closed target s end turns late now (Err (BadReply at)) o (bad_reply at) is (record { rest = none; state = same; reply = refl; link = refl; text = λ x. refl })
-  closes (Err (Refused status)) has (is, (none, same)) = closed target s end turns late now (Err (Refused status)) o (refused status) is (record { rest = none; state = same; reply = refl; link = refl; text = λ x. refl })
-  closes (Err (OutOfSync mine theirs)) has (is, (none, same)) = closed target s end turns late now (Err (OutOfSync mine theirs)) o (out_of_sync mine theirs) is (record { rest = none; state = same; reply = refl; link = refl; text = λ x. refl })
-  closes (Err (Clock fault)) has (is, (none, same)) = closed target s end turns late now (Err (Clock fault)) o (not_taken (OfClock fault)) is (record { rest = none; state = same; reply = refl; link = refl; text = λ x. refl })
-  closes (Err Keeper) has h = absurd has
-  closes (Err NoMemory) has h = absurd has
+  closing (Err Link) has (since, (is, (none, same))) = closed target s end turns late now (Err Link) o (going_on since) is (record { rest = none; state = same; reply = refl; link = refl; text = λ x. refl })
+  closing (Err (BadReply at)) has (is, (none, same)) = closed target s end turns late now (Err (BadReply at)) o (bad_reply at) is (record { rest = none; state = same; reply = refl; link = refl; text = λ x. refl })
+  closing (Err (Refused status)) has (is, (none, same)) = closed target s end turns late now (Err (Refused status)) o (refused status) is (record { rest = none; state = same; reply = refl; link = refl; text = λ x. refl })
+  closing (Err (OutOfSync mine theirs)) has (is, (none, same)) = closed target s end turns late now (Err (OutOfSync mine theirs)) o (out_of_sync mine theirs) is (record { rest = none; state = same; reply = refl; link = refl; text = λ x. refl })
+  closing (Err (Clock fault)) has (is, (none, same)) = closed target s end turns late now (Err (Clock fault)) o (not_taken (OfClock fault)) is (record { rest = none; state = same; reply = refl; link = refl; text = λ x. refl })
+  closing (Err Keeper) has h = absurd has
+  closing (Err NoMemory) has h = absurd has
 
   -- or it was cut off
   record Cut (ended : Result Synced SyncFault) (T : Type 0) : Type 0 where
@@ -141,6 +141,10 @@ holds_on target entry before after s end r new value rs h carries texts ends syn
   synced = texts.own ∙ sym synced_so;
 }
 
+-- no reading is both
+apart : {P : Type 0} (reading : ℕ) → window ≤ reading / 60_000 → reading / 60_000 < window → P
+apart reading over within = absurd (omega (arith, over, within))
+
 -- ---- a sync at a reading within the window
 
 module _ (law : TalksAreTold) (target : Target) (reading : ℕ) (s now : State) (ended : Result Synced SyncFault) (xs ys : Option (List Exchange)) (n m : ℕ) (told_by tells : Type 0)
@@ -168,14 +172,14 @@ module _ (law : TalksAreTold) (target : Target) (reading : ℕ) (s now : State) 
   is_of r rs = ap (λ (x : State). conversed x given) rs ∙ is
 
   closes_so : HasReply ended → Closes target s end h.conversed.turns h.conversed.late now ended outcome
-  closes_so has = closes target s end h.conversed.turns h.conversed.late now outcome ended has h.conversed.answered
+  closes_so has = closing target s end h.conversed.turns h.conversed.late now outcome ended has h.conversed.answered
 
   whole_so : HasReply ended → IsWholeTalk target s given
   whole_so has =
       let P : State × Outcome → Type 0 = λ d. TalksTo target given s h.conversed.turns d.0 d.1 in
       let Q : State × Outcome → Type 0 = λ d. IsRest target d.0 d.1 h.conversed.late in
       record {
-        beyond = λ over. absurd (omega (arith, within, over));
+        beyond = λ over. apart reading over within;
         talk = λ w. subst P (sym is) h.conversed.talk;
         rest = λ w. subst Q (sym is) (closes_so has).rest;
       }
@@ -186,15 +190,15 @@ module _ (law : TalksAreTold) (target : Target) (reading : ℕ) (s now : State) 
       subst P ((closes_so has).text (get before.texts name)) (retexted name before after ended now (same t) (put t))
 
   -- what a run then holds
-  abbrev then : Running → Running
-  then r = (done target r given (Ok Sync)).0
+  abbrev run_after : Running → Running
+  run_after r = (done target r given (Ok Sync)).0
 
-  then_synced : (r : Running) → r.state ≡ s → get before.texts name ≡ r.synced → (then r).synced ≡ last_synced end outcome (get before.texts name)
+  then_synced : (r : Running) → r.state ≡ s → get before.texts name ≡ r.synced → (run_after r).synced ≡ last_synced end outcome (get before.texts name)
   then_synced r rs held = ap (λ (d : State × Outcome). last_synced d.0 d.1 r.synced) (is_of r rs) ∙ ap (last_synced end outcome) (sym held)
 
-  holds_then : (entry : Contents) (r : Running) → r.state ≡ s → tells → HasReply ended → Holds target entry before r → Holds target entry after (then r)
+  holds_then : (entry : Contents) (r : Running) → r.state ≡ s → tells → HasReply ended → Holds target entry before r → Holds target entry after (run_after r)
   holds_then entry r rs t has held =
-      holds_on target entry before after s end r (then r) (last_synced end outcome (get before.texts name)) rs held (h.conversed.kept t) (retexted_so t has)
+      holds_on target entry before after s end r (run_after r) (last_synced end outcome (get before.texts name)) rs held (h.conversed.kept t) (retexted_so t has)
       (ap (λ (d : State × Outcome). d.0) (is_of r rs)) (then_synced r rs held.synced)
 
   finds : (entry : Contents) (r : Running) → tells → Holds target entry before r → IsWithin given → h.since ≡ r.synced
@@ -246,7 +250,7 @@ module _ (law : TalksAreTold) (target : Target) (reading : ℕ) (s now : State) 
       → (kept : Running) × HasStayedIf true target r given kept n m × (tells → (entry : Contents) → Holds target entry before r → Holds target entry after kept × FindsIf true given r.synced)
   stayed_untold r rs has =
       let P : State → Type 0 = λ x. IsWholeTalk target x given in (
-        then r,
+        run_after r,
         inr (record {
           whole = subst P (sym rs) (whole_so has);
           state = refl;
@@ -256,42 +260,29 @@ module _ (law : TalksAreTold) (target : Target) (reading : ℕ) (s now : State) 
         λ t entry held. (holds_then entry r rs t has held, finds entry r t held),
       )
 
-  left_so : IsAlone told_by before left_by → (c : Contents) → left c → (entry : Contents) (r : Running) → r.state ≡ s → Holds target entry before r → HoldsSome target entry c (λ l. MayLeaveTurns target r given l)
-  left_so alone c lies entry r rs held = by l.texts
-    where
-      abbrev l : MayBeLeft target device_group reading (first_since h.since reading) s (map exchange_of h.conversed.turns ++ h.conversed.late) before c
-      l = h.conversed.stops alone c lies
+  -- what a stop may leave
+  abbrev Left : Contents → Type 0
+  Left c = MayBeLeft target device_group reading (first_since h.since reading) s (map exchange_of h.conversed.turns ++ h.conversed.late) before c
 
-      talks_so : TalksTo target given r.state l.turns l.end l.outcome
-      talks_so = let P : State → Type 0 = λ x. TalksTo target given x l.turns l.end l.outcome in subst P (sym rs) l.talk
-
-      by : (c.texts ≡ before.texts) ⊎ (l.outcome ≡ agreed) × (c.texts ≡ insert before.texts name (stamp_text l.end.clock)) → HoldsSome target entry c (λ x. MayLeaveTurns target r given x)
-      by (inl kept) = record {
+  left_turns : (c : Contents) (l : Left c) → (c.texts ≡ before.texts) ⊎ (l.outcome ≡ agreed) × (c.texts ≡ insert before.texts name (stamp_text l.end.clock))
+      → (entry : Contents) (r : Running) → r.state ≡ s → h.since ≡ r.synced → Holds target entry before r → HoldsSome target entry c (MayLeave target r given (Ok Sync))
+  left_turns c l (inl kept) entry r rs found held =
+      let P : State → Type 0 = λ x. TalksTo target given x l.turns l.end l.outcome in
+      record {
         left = record { state = l.end; synced = r.synced };
         holds = holds_on target entry before c s l.end r (record { state = l.end; synced = r.synced }) (get before.texts name) rs held l.kept (text_kept name before c kept) refl (sym held.synced);
-        which = record {
-          found = λ w. h.sought alone c lies ∙ held.synced;
-          turns = l.turns;
-          later = l.later;
-          are_first = l.are_first;
-          outcome = l.outcome;
-          talk = talks_so;
-          texts = inl refl;
-        };
+        which = record { found = λ w. found; turns = l.turns; later = l.later; are_first = l.are_first; outcome = l.outcome; talk = subst P (sym rs) l.talk; texts = inl refl };
       }
-      by (inr put_so) = record {
+  left_turns c l (inr put_so) entry r rs found held =
+      let P : State → Type 0 = λ x. TalksTo target given x l.turns l.end l.outcome in
+      record {
         left = record { state = l.end; synced = Some (stamp_text l.end.clock) };
         holds = holds_on target entry before c s l.end r (record { state = l.end; synced = Some (stamp_text l.end.clock) }) (Some (stamp_text l.end.clock)) rs held l.kept (text_put name (stamp_text l.end.clock) before c put_so.1) refl refl;
-        which = record {
-          found = λ w. h.sought alone c lies ∙ held.synced;
-          turns = l.turns;
-          later = l.later;
-          are_first = l.are_first;
-          outcome = l.outcome;
-          talk = talks_so;
-          texts = inr (put_so.0, refl);
-        };
+        which = record { found = λ w. found; turns = l.turns; later = l.later; are_first = l.are_first; outcome = l.outcome; talk = subst P (sym rs) l.talk; texts = inr (put_so.0, refl) };
       }
+
+  left_so : IsAlone told_by before left_by → (c : Contents) → left c → (entry : Contents) (r : Running) → r.state ≡ s → Holds target entry before r → HoldsSome target entry c (MayLeave target r given (Ok Sync))
+  left_so alone c lies entry r rs held = let l = h.conversed.stops alone c lies in left_turns c l l.texts entry r rs (h.sought alone c lies ∙ held.synced) held
 
   synced_unanswered : (fault : PortFault) → IsUnanswered target fault reading (Ok Sync) s xs ys n m (IsAlone told_by before left_by) told_by tells before after left
   synced_unanswered fault = record {
@@ -390,13 +381,13 @@ module _ (target : Target) (reading : ℕ) (s : State) (xs : Option (List Exchan
             is_bad = bad ∙ ap is_refused replies;
           };
           talked = adds_none xs;
-          whole = record { beyond = λ o. silent reading; talk = λ w. absurd (omega (arith, over, w)); rest = λ w. absurd (omega (arith, over, w)) };
+          whole = record { beyond = λ o. silent reading; talk = λ w. apart reading over w; rest = λ w. apart reading over w };
           failed = ap (λ (d : State × Outcome). count_after (goes_on d.1) n) (sym (late_is s));
           keeper = λ t entry r rs held. (
             moved target entry before before r (done target r (alone_at reading) (Ok Sync)).0 held
                 (set_as (record entry { texts = before.texts }) before r.state.messages _ (ap (λ (d : State × Outcome). d.0.messages) (sym (late_is r.state))) held.set)
                 (ap (λ (d : State × Outcome). last_synced d.0 d.1 r.synced) (late_is r.state)),
-            λ w. absurd (omega (arith, over, w)),
+            λ w. apart reading over w,
           );
         }
 
@@ -406,7 +397,7 @@ module _ (target : Target) (reading : ℕ) (s : State) (xs : Option (List Exchan
 
     pub beyond_errs : (answer : Result Answer PortFault) → IfErr answer (λ fault. IsUnanswered target fault reading (Ok Sync) s xs xs n n (IsAlone told_by before left) told_by tells before before left)
     beyond_errs (Ok a) = tt
-    beyond_errs (Err fault) = nothing_said fault (Ok Sync) refl None (λ w. absurd (omega (arith, over, w)))
+    beyond_errs (Err fault) = nothing_said fault (Ok Sync) refl None (λ w. apart reading over w)
 
 -- ---- of any outcome
 

@@ -71,12 +71,12 @@ sync_reply requests received (bad_reply at) = bad_answer at
 
 -- the text that tells of the last sync: where the talk ended with an agreement, that of the clock's timestamp
 abbrev pub last_synced : State → Outcome → Option Text → Option Text
-last_synced end (going_on since) synced = synced
-last_synced end agreed synced = Some (stamp_text end.clock)
-last_synced end (out_of_sync mine theirs) synced = synced
-last_synced end (not_taken fault) synced = synced
-last_synced end (refused status) synced = synced
-last_synced end (bad_reply at) synced = synced
+last_synced end (going_on since) text = text
+last_synced end agreed text = Some (stamp_text end.clock)
+last_synced end (out_of_sync mine theirs) text = text
+last_synced end (not_taken fault) text = text
+last_synced end (refused status) text = text
+last_synced end (bad_reply at) text = text
 
 -- whether the link failed in it
 abbrev pub goes_on : Outcome → Bool
@@ -108,7 +108,7 @@ made target s given command = if syncs command then synced_by s given else obeye
 
 -- the text that tells of the last sync after it
 abbrev pub synced_after : Target → State → Given → Result Command ℕ → Option Text → Option Text
-synced_after target s given command synced = if syncs command then last_synced (conversed s given).0 (conversed s given).1 synced else synced
+synced_after target s given command text = if syncs command then last_synced (conversed s given).0 (conversed s given).1 text else text
 
 -- both, and the reply
 abbrev pub done : Target → Running → Given → Result Command ℕ → Running × Reply
@@ -136,12 +136,12 @@ abbrev pub IsWhole : Target → State → Given → Result Command ℕ → Type 
 IsWhole target s given command = IsWholeIf (syncs command) target s given
 
 abbrev pub FindsIf : Bool → Given → Option Text → Type 0
-FindsIf true given synced = IsWithin given → given.since ≡ synced
-FindsIf false given synced = Unit {0}
+FindsIf true given text = IsWithin given → given.since ≡ text
+FindsIf false given text = Unit {0}
 
 -- the text that it found is the one that is kept
 abbrev pub Finds : Given → Result Command ℕ → Option Text → Type 0
-Finds given command synced = FindsIf (syncs command) given synced
+Finds given command text = FindsIf (syncs command) given text
 
 -- whether the link failed in its talk
 abbrev pub fails_link : State → Given → Result Command ℕ → Bool
