@@ -28,8 +28,8 @@ added_are added turns late old new (all, (before, after)) adds none =
     let h : Adds (Some all) (Some (all ++ added)) (turns ++ late) = subst (λ (x : Option (List Exchange)). Adds (Some all) x (turns ++ late)) after (subst (λ (x : Option (List Exchange)). Adds x new (turns ++ late)) before adds) in
     append_cancel all added turns (h ∙ ap (λ (l : List Exchange). all ++ l) (ap (λ (l : List Exchange). turns ++ l) none ∙ append-nil turns))
 
-module _ (target : Target) (group : List ℕ) (reading : ℕ) (first : List ℕ) (s : State) (tells : Type 0) (old new : Told) (now : State) (result : Result Synced SyncFault)
-    (h : HasConversed target group reading first s tells old new now (IsCounted s) result) (up : IsRising s.messages) (valid : AreMessages s.messages) where
+module _ (target : Target) (group : List ℕ) (reading : ℕ) (first : List ℕ) (s : State) (old new : Told) (now : State) (result : Result Synced SyncFault)
+    (h : HasConversed target group reading first s old new now (IsCounted s) result) (up : IsRising s.messages) (valid : AreMessages s.messages) where
   all_turns : (added : List Exchange) (r t : List Message) → AreAdded added old.exchanges new.exchanges → IsRising r → AreMessages r → Honest target.token r added t → AreWithin added → h.late ≡ []
       → Converges s.messages r added h.end.messages t h.outcome
   all_turns added r t are down other honest short none =
@@ -37,27 +37,27 @@ module _ (target : Target) (group : List ℕ) (reading : ℕ) (first : List ℕ)
       subst (λ (l : List Exchange). Converges s.messages r l h.end.messages t h.outcome) (sym same)
       (converges target reading first s h.end h.turns h.outcome r t up valid down other h.talk (subst (λ (l : List Exchange). Honest target.token r l t) same honest) (subst AreWithin same short))
 
-by_result : (target : Target) (group : List ℕ) (reading : ℕ) (first : List ℕ) (s : State) (tells : Type 0) (old new : Told) (now : State) (result : Result Synced SyncFault)
-    → (h : HasConversed target group reading first s tells old new now (IsCounted s) result)
+by_result : (target : Target) (group : List ℕ) (reading : ℕ) (first : List ℕ) (s : State) (old new : Told) (now : State) (result : Result Synced SyncFault)
+    → (h : HasConversed target group reading first s old new now (IsCounted s) result)
     → ((added : List Exchange) (r t : List Message) → AreAdded added old.exchanges new.exchanges → IsRising r → AreMessages r → Honest target.token r added t → AreWithin added → h.late ≡ []
     → Converges s.messages r added h.end.messages t h.outcome)
     → MeetsHonest target.token s.messages old.exchanges new.exchanges now.messages result
-by_result target group reading first s tells old new now (Ok synced) h all = λ added r t are down other honest short.
+by_result target group reading first s old new now (Ok synced) h all = λ added r t are down other honest short.
     let a = h.answered in
     subst (λ (n : List Message). Converges s.messages r added n t agreed) (sym (ap (λ (z : State). z.messages) a.1.1.0))
     (subst (λ (o : Outcome). Converges s.messages r added h.end.messages t o) a.0 (all added r t are down other honest short a.1.0))
-by_result target group reading first s tells old new now (Err Link) h all = λ added r t are down other honest short. tt
-by_result target group reading first s tells old new now (Err (BadReply at)) h all = λ added r t are down other honest short.
+by_result target group reading first s old new now (Err Link) h all = λ added r t are down other honest short. tt
+by_result target group reading first s old new now (Err (BadReply at)) h all = λ added r t are down other honest short.
     let a = h.answered in subst IsFair a.0 (all added r t are down other honest short a.1.0).fair
-by_result target group reading first s tells old new now (Err (Refused status)) h all = λ added r t are down other honest short.
+by_result target group reading first s old new now (Err (Refused status)) h all = λ added r t are down other honest short.
     let a = h.answered in subst IsFair a.0 (all added r t are down other honest short a.1.0).fair
-by_result target group reading first s tells old new now (Err (OutOfSync mine theirs)) h all = λ added r t are down other honest short.
+by_result target group reading first s old new now (Err (OutOfSync mine theirs)) h all = λ added r t are down other honest short.
     let a = h.answered in subst IsFair a.0 (all added r t are down other honest short a.1.0).fair
-by_result target group reading first s tells old new now (Err (Clock fault)) h all = λ added r t are down other honest short. tt
-by_result target group reading first s tells old new now (Err Keeper) h all = λ added r t are down other honest short. tt
-by_result target group reading first s tells old new now (Err NoMemory) h all = λ added r t are down other honest short. tt
+by_result target group reading first s old new now (Err (Clock fault)) h all = λ added r t are down other honest short. tt
+by_result target group reading first s old new now (Err Keeper) h all = λ added r t are down other honest short. tt
+by_result target group reading first s old new now (Err NoMemory) h all = λ added r t are down other honest short. tt
 
-pub meets_honest : (target : Target) (group : List ℕ) (reading : ℕ) (s : State) (tells : Type 0) (old new : Told) (now : State) (result : Result Synced SyncFault)
-    → HasTalked target group reading s tells old new now result → IsRising s.messages → AreMessages s.messages → MeetsHonest target.token s.messages old.exchanges new.exchanges now.messages result
-meets_honest target group reading s tells old new now result h up valid =
-    by_result target group reading _ s tells old new now result h.conversed (all_turns target group reading _ s tells old new now result h.conversed up valid)
+pub meets_honest : (target : Target) (group : List ℕ) (reading : ℕ) (s : State) (old new : Told) (now : State) (result : Result Synced SyncFault)
+    → HasTalked target group reading s old new now result → IsRising s.messages → AreMessages s.messages → MeetsHonest target.token s.messages old.exchanges new.exchanges now.messages result
+meets_honest target group reading s old new now result h up valid =
+    by_result target group reading _ s old new now result h.conversed (all_turns target group reading _ s old new now result h.conversed up valid)

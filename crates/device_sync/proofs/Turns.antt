@@ -1,7 +1,8 @@
 -- One turn of a conversation, and what is kept of it.
-use Rattle.std.proofs.Common.{◌≡◌, inl, inr, ℕ, zero, suc, ◌*◌, ◌<◌, List, [], ◌∷◌, Option, None, Some, Result, Ok, Err, false, ℤ, map, refl, sym, ap, ap₂, ◌∙◌, subst, append-nil, arith}
+use Rattle.std.proofs.Common.{◌≡◌, ◌⊎◌, inl, inr, ℕ, zero, suc, ◌*◌, ◌<◌, List, [], ◌∷◌, Option, None, Some, Result, Ok, Err, OnErr, false, ℤ, map, refl, sym, ap, ap₂, ◌∙◌, subst, append-nil, arith}
 use Rattle.budget_ports.specs.Contents.{Contents, appended}
 use Rattle.budget_ports.specs.Exchanges.{Exchange, ended, Adds}
+use Rattle.budget_ports.specs.Keeper.{IsAlone, LeavesNoMore}
 use Rattle.field_merge.specs.declared.message.Message.{Message}
 use Rattle.field_merge.specs.Messages.{AreMessages}
 use Rattle.field_merge.specs.Log.{join}
@@ -14,6 +15,8 @@ use Rattle.kept_messages.specs.Holding.{Holds, BatchesAreKept}
 use Rattle.kept_messages.specs.News.{new_in}
 use Rattle.kept_messages.specs.Pairs.{pairs_of}
 use Rattle.kept_messages.specs.Records.{record_of}
+use Rattle.device_core.specs.declared.edit.LineRefusal.{LineRefusal}
+use Rattle.device_core.specs.declared.edit.LineRefusal.TheVariants.{Clock as OfClock}
 use Rattle.device_core.specs.Device.{State, DeviceState, Accepted, accepted_as, IsAccepted, received}
 use Rattle.device_core.proofs.Received.{received_joined}
 use Rattle.device_sync.specs.declared.fault.SyncFault.{SyncFault}
@@ -25,9 +28,9 @@ use Rattle.device_sync.specs.Replies.{Got, answer, refusal, bad, IsJudged}
 use Rattle.sync_wire.specs.declared.request.SyncRequest.{SyncRequest}
 use Rattle.sync_wire.specs.Wire.{IsRequest}
 use Rattle.sync_wire.specs.Canon.{request_bytes}
-use Rattle.device_sync.specs.Requests.{request_of}
-use Rattle.device_sync.specs.Talk.{root_of, trie_in, Next, compared, taken, next}
-use Rattle.device_sync.specs.Sync.{text_of, IsUnanswered, IsUnjudged, TakesTurn, further, AreCompared, IsLeft, IsSettled, IsRound, IsTaken, Carries, fails_link}
+use Rattle.device_sync.specs.Requests.{request_of, IsAsked}
+use Rattle.device_sync.specs.Talk.{root_of, trie_in, Next, ends, bad_reply, refused, not_taken, exchange_of, compared, taken, next}
+use Rattle.device_sync.specs.Sync.{Told, reached, IsKept, KeepsOrNot, IsLateTurn, IsCut, text_of, IsUnanswered, IsUnjudged, TakesTurn, further, AreCompared, IsLeft, IsSettled, IsRound, IsTaken, Carries, fails_link}
 use Rattle.device_sync.proofs.Conversation.{told_minute, told_small}
 
 -- ---- the tries
@@ -70,6 +73,23 @@ take_carries law group s ns reading count d n before now valid is left kept = λ
     with_texts group entry now n.state.messages
     (subst (λ (ms : List Message). Holds group entry now ms) messages (subst (λ (k : Contents). Holds group entry k (join s.messages ns)) there all))
 
+reached_compared : (left : ℕ) (p : State) (f : Held) (o : Option ℕ) → reached (compared left p f o) ≡ p
+reached_compared left p f None = refl
+reached_compared zero p f (Some moment) = refl
+reached_compared (suc left) p f (Some moment) = refl
+
+-- what a batch that was received leaves where it is kept
+pub taken_kept : BatchesAreKept → (group : List ℕ) (s : State) (ns : List Message) (reading count : ℕ) (d : DeviceState) (before now : Contents) → AreMessages ns → IsAccepted (received s ns reading) d count
+    → now ≡ appended before group d.batch → (f : Held) → IsKept group s (answer ns f) reading before now
+taken_kept law group s ns reading count d before now valid is kept f = record {
+  messages = λ left. subst (λ (ms : List Message). Carries group s.messages ms before now) (sym (ap (λ (z : State). z.messages) (reached_by left)))
+      (take_carries law group s ns reading count d (record d { batch = [] }) before now valid is refl kept);
+  texts = ap (λ (k : Contents). k.texts) kept;
+}
+  where
+    reached_by : (left : ℕ) → reached (next reading left s (answer ns f)) ≡ d.state
+    reached_by left = ap (λ (r : Result Accepted LineRefusal). reached (taken left s f r)) is ∙ reached_compared left d.state f (difference (trie_in d.state) f)
+
 -- ---- an answer
 
 further_is : (s : State) (f : Held) (moment left : ℕ) → compared left s f (Some moment) ≡ further s moment (root_of (trie_in s)) (root_of f) left
@@ -101,17 +121,59 @@ adds_none : (old : Option (List Exchange)) → Adds old old []
 adds_none None = tt
 adds_none (Some all) = sym (append-nil all)
 
-pub nothing_sent : (text : List ℕ) (old : Option (List Exchange)) → IsLeft text old old IsUnjudged
-nothing_sent text old = record { late = []; adds = adds_none old; is_late = inl (inl refl) }
+-- ---- what a stop may leave of a turn
+
+abbrev pub Stopped : Told → Told → (Contents → Contents → Type 0) → Type 0
+Stopped old new P = IsAlone old.tells old.contents old.left → (c : Contents) → new.left c → old.tells × P old.contents c
+
+module _ (target : Target) (group : List ℕ) (reading : ℕ) (since : List ℕ) (s : State) (old new : Told) where
+  -- what a cut leaves where the keeper was not called
+  abbrev Cut : Type 0
+  Cut = IsLeft (text_of target since s) old.exchanges new.exchanges (IsCut target group reading since s old new)
+
+  same_stop : LeavesNoMore old.left new.left → (late : List Exchange) → IsAlone old.tells old.contents old.left → (c : Contents) → new.left c
+      → old.tells × ((c ≡ old.contents) ⊎ IsLateTurn target group reading since s late old.contents c)
+  same_stop no_more late a c may = let is = a c (no_more c may) in (is.0, inl is.1)
+
+  pub nothing_sent : new.exchanges ≡ old.exchanges → LeavesNoMore old.left new.left → Cut
+  nothing_sent links no_more = record {
+    late = [];
+    adds = subst (λ (x : Option (List Exchange)). Adds old.exchanges x []) (sym links) (adds_none old.exchanges);
+    is_late = record { unjudged = inl (inl refl); stops = same_stop no_more [] };
+  }
+
+  pub not_judged : (sent : List ℕ) → sent ≡ text_of target since s → IsLeft sent old.exchanges new.exchanges IsUnanswered → LeavesNoMore old.left new.left → Cut
+  not_judged sent is h no_more =
+      let there : IsLeft (text_of target since s) old.exchanges new.exchanges IsUnanswered = subst (λ (t : List ℕ). IsLeft t old.exchanges new.exchanges IsUnanswered) is h in record {
+        late = there.late;
+        adds = there.adds;
+        is_late = record { unjudged = inl there.is_late; stops = same_stop no_more there.late };
+      }
+
+  pub came_alone : (sent came : List ℕ) → sent ≡ text_of target since s → Adds old.exchanges new.exchanges (ended sent came ∷ []) → LeavesNoMore old.left new.left → Cut
+  came_alone sent came is adds no_more = record {
+    late = ended sent came ∷ [];
+    adds = adds;
+    is_late = record { unjudged = inr (came, ap (λ (t : List ℕ). ended t came ∷ []) is); stops = same_stop no_more (ended sent came ∷ []) };
+  }
+
+  -- a reply came and was judged
+  pub judged_cut : (sent came : List ℕ) (got : Got) → sent ≡ text_of target since s → IsRequest (request_bytes (request_of target since s.messages)) (request_of target since s.messages)
+      → Adds old.exchanges new.exchanges (ended sent came ∷ []) → IsJudged came got → Stopped old new (KeepsOrNot group s got reading) → Cut
+  judged_cut sent came got is means adds judged stops = record {
+    late = ended sent came ∷ [];
+    adds = adds;
+    is_late = record {
+      unjudged = inr (came, ap (λ (t : List ℕ). ended t came ∷ []) is);
+      stops = λ a c may. let is_one = stops a c may in (is_one.0, elim is_one.1 [
+        | inl same ↦ inl same
+        | inr kept ↦ inr (record { turn = record { sent = sent; came = came; got = got }; sent = record { text = is; means = means }; judged = judged; is_late = refl; kept = kept })
+      ]);
+    };
+  }
 
 pub sent_alone : (text sent : List ℕ) (old new : Option (List Exchange)) → sent ≡ text → IsLeft sent old new IsUnanswered → IsLeft text old new IsUnanswered
 sent_alone text sent old new is h = subst (λ (t : List ℕ). IsLeft t old new IsUnanswered) is h
-
-pub not_judged : (text sent : List ℕ) (old new : Option (List Exchange)) → sent ≡ text → IsLeft sent old new IsUnanswered → IsLeft text old new IsUnjudged
-not_judged text sent old new is h = let there = sent_alone text sent old new is h in record { late = there.late; adds = there.adds; is_late = inl there.is_late }
-
-pub came_alone : (text sent came : List ℕ) (old new : Option (List Exchange)) → sent ≡ text → Adds old new (ended sent came ∷ []) → IsLeft text old new IsUnjudged
-came_alone text sent came old new is adds = record { late = ended sent came ∷ []; adds = adds; is_late = inr (came, ap (λ (t : List ℕ). ended t came ∷ []) is) }
 
 pub turn_taken : (target : Target) (reading : ℕ) (since : List ℕ) (s : State) (old new : Option (List Exchange)) (sent came : List ℕ) (got : Got) (after : ℕ → Next)
     → sent ≡ text_of target since s → IsRequest (request_bytes (request_of target since s.messages)) (request_of target since s.messages) → Adds old new (ended sent came ∷ []) → IsJudged came got → ((left : ℕ) → next reading left s got ≡ after left) → TakesTurn target reading since s old new after
@@ -123,17 +185,22 @@ settled_refusal s reading status = (λ left. refl, refl)
 pub settled_bad : (s : State) (reading at : ℕ) → IsSettled s (bad at) reading s (Err (BadReply at))
 settled_bad s reading at = (λ left. refl, refl)
 
-pub round_settled : (target : Target) (reading : ℕ) (since : List ℕ) (s : State) (old new : Option (List Exchange)) (now : State) (sent came : List ℕ) (got : Got) (r : Result Compared SyncFault)
-    → sent ≡ text_of target since s → IsRequest (request_bytes (request_of target since s.messages)) (request_of target since s.messages) → Adds old new (ended sent came ∷ []) → IsJudged came got → IsSettled s got reading now r → IsRound target reading since s old new now r
-round_settled target reading since s old new now sent came got (Ok Agreed) is means adds judged h = turn_taken target reading since s old new sent came got _ is means adds judged h
-round_settled target reading since s old new now sent came got (Ok (Differ moment mine theirs)) is means adds judged h = turn_taken target reading since s old new sent came got _ is means adds judged h
-round_settled target reading since s old new now sent came got (Err Link) is means adds judged h = absurd h
-round_settled target reading since s old new now sent came got (Err (BadReply at)) is means adds judged h = (turn_taken target reading since s old new sent came got _ is means adds judged h.0, h.1)
-round_settled target reading since s old new now sent came got (Err (Refused status)) is means adds judged h = (turn_taken target reading since s old new sent came got _ is means adds judged h.0, h.1)
-round_settled target reading since s old new now sent came got (Err (OutOfSync mine theirs)) is means adds judged h = absurd h
-round_settled target reading since s old new now sent came got (Err (Clock fault)) is means adds judged h = (turn_taken target reading since s old new sent came got _ is means adds judged h.0, h.1)
-round_settled target reading since s old new now sent came got (Err Keeper) is means adds judged h = came_alone (text_of target since s) sent came old new is adds
-round_settled target reading since s old new now sent came got (Err NoMemory) is means adds judged h = came_alone (text_of target since s) sent came old new is adds
+module _ (target : Target) (group : List ℕ) (reading : ℕ) (since : List ℕ) (s : State) (old new : Told) (now : State) (sent came : List ℕ) (got : Got)
+    (is : sent ≡ text_of target since s) (means : IsRequest (request_bytes (request_of target since s.messages)) (request_of target since s.messages))
+    (adds : Adds old.exchanges new.exchanges (ended sent came ∷ [])) (judged : IsJudged came got) where
+  taken_so : (after : ℕ → Next) → ((left : ℕ) → next reading left s got ≡ after left) → TakesTurn target reading since s old.exchanges new.exchanges after
+  taken_so after h = turn_taken target reading since s old.exchanges new.exchanges sent came got after is means adds judged h
+
+  pub round_settled : (r : Result Compared SyncFault) → IsSettled s got reading now r → OnErr r (Stopped old new (KeepsOrNot group s got reading)) → IsRound target group reading since s old new now r
+  round_settled (Ok Agreed) h stops = taken_so (λ left. ends now agreed) h
+  round_settled (Ok (Differ moment mine theirs)) h stops = taken_so (further now moment mine theirs) h
+  round_settled (Err Link) h stops = absurd h
+  round_settled (Err (BadReply at)) h stops = (taken_so (λ left. ends s (bad_reply at)) h.0, h.1)
+  round_settled (Err (Refused status)) h stops = (taken_so (λ left. ends s (refused status)) h.0, h.1)
+  round_settled (Err (OutOfSync mine theirs)) h stops = absurd h
+  round_settled (Err (Clock fault)) h stops = (taken_so (λ left. ends s (not_taken (OfClock fault))) h.0, h.1)
+  round_settled (Err Keeper) h stops = judged_cut target group reading since s old new sent came got is means adds judged stops
+  round_settled (Err NoMemory) h stops = judged_cut target group reading since s old new sent came got is means adds judged stops
 
 -- the link has not failed where something came
 pub not_linked : (s : State) (got : Got) (reading : ℕ) (now : State) (r : Result Compared SyncFault) → IsSettled s got reading now r → fails_link r ≡ false

@@ -1,10 +1,11 @@
 -- What a round and a whole sync leave.
 use Rattle.std.specs.Prelude.{◌≡◌, ◌⊎◌, ℕ, zero, suc, ◌-◌, ◌*◌, ◌<◌, List, [], ◌∷◌, ◌++◌, length, map, Bool, true, false, codes, Option, None, Some, Result, Ok, Err, ℤ}
-use Rattle.std.specs.FinMap.{get}
+use Rattle.std.specs.FinMap.{get, insert}
 use Rattle.budget_ports.specs.Contents.{Contents}
 use Rattle.budget_ports.specs.Exchanges.{Exchange, begun, ended, Adds}
+use Rattle.budget_ports.specs.Keeper.{IsAlone}
 use Rattle.field_merge.specs.declared.message.Message.{Message}
-use Rattle.hybrid_clock.specs.Stamp.{window}
+use Rattle.hybrid_clock.specs.Stamp.{stamp_text, window}
 use Rattle.kept_messages.specs.Holding.{Holds}
 use Rattle.minute_trie.specs.Held.{Held}
 use Rattle.minute_trie.specs.Diff.{difference}
@@ -16,7 +17,7 @@ use Rattle.device_sync.specs.declared.fault.Synced.{Synced}
 use Rattle.device_sync.specs.declared.round.Compared.{Compared}
 use Rattle.device_sync.specs.declared.round.Compared.TheVariants.{Agreed, Differ}
 use Rattle.device_sync.specs.declared.target.Target.{Target}
-use Rattle.device_sync.specs.Replies.{Got, IsJudged}
+use Rattle.device_sync.specs.Replies.{Got, answer, IsJudged}
 use Rattle.field_merge.specs.Messages.{AreMessages}
 use Rattle.field_merge.specs.Log.{IsRising}
 use Rattle.device_sync.specs.Honest.{IsFairStatus, Honest, AreWithin}
@@ -27,6 +28,20 @@ use Rattle.device_sync.specs.Talk.{Outcome, going_on, agreed, out_of_sync, not_t
 -- the name of the text that tells of the last sync
 abbrev pub synced_name : Target → List ℕ
 synced_name target = codes "synced/" ++ (target.file ++ (codes "/" ++ target.group))
+
+-- what the objects tell at a moment: the exchanges of the link, whether the keeper tells, what it keeps, and what a stop may leave of that
+pub record Told : Type 1 where
+  pub exchanges : Option (List Exchange)
+  pub tells : Type 0
+  pub contents : Contents
+  pub left : Contents → Type 0
+
+abbrev pub told : Option (List Exchange) → Type 0 → Contents → (Contents → Type 0) → Told
+told exchanges tells contents left = record { exchanges = exchanges; tells = tells; contents = contents; left = left }
+
+-- a group that kept one message set keeps another, and all else but the texts is as it was
+abbrev pub Carries : List ℕ → List Message → List Message → Contents → Contents → Type 0
+Carries group old new before now = (entry : Contents) → Holds group entry before old → Holds group (record entry { texts = now.texts }) now new
 
 -- the text that a device sends
 abbrev pub text_of : Target → List ℕ → State → List ℕ
@@ -64,17 +79,48 @@ pub record IsLeft (text : List ℕ) (old new : Option (List Exchange)) (IsLate :
   pub adds : Adds old new late
   pub is_late : IsLate text late
 
+-- the state that is reached
+abbrev pub reached : Next → State
+reached (ends p how) = p
+reached (asks p moment) = p
+
+-- a reply that was judged was made use of to its end, and its messages are kept: the texts are as they were
+pub record IsKept (group : List ℕ) (s : State) (got : Got) (reading : ℕ) (before now : Contents) : Type 0 where
+  pub messages : (left : ℕ) → Carries group s.messages (reached (next reading left s got)).messages before now
+  pub texts : now.texts ≡ before.texts
+
+-- a stop leaves what was kept before a reply was made use of, or what is kept then
+abbrev pub KeepsOrNot : List ℕ → State → Got → ℕ → Contents → Contents → Type 0
+KeepsOrNot group s got reading before now = (now ≡ before) ⊎ IsKept group s got reading before now
+
+-- the same of each trie that may stand beside messages
+abbrev pub TakesOrNot : List ℕ → State → List Message → ℕ → Contents → Contents → Type 0
+TakesOrNot group s ns reading before now = (now ≡ before) ⊎ ((f : Held) → IsKept group s (answer ns f) reading before now)
+
+-- a turn of which this exchange is told, and what is kept then
+pub record IsLateTurn (target : Target) (group : List ℕ) (reading : ℕ) (since : List ℕ) (s : State) (late : List Exchange) (before now : Contents) : Type 0 where
+  pub turn : Turn
+  pub sent : IsAsked target.token (request_of target since s.messages) turn.sent
+  pub judged : IsJudged turn.came turn.got
+  pub is_late : late ≡ exchange_of turn ∷ []
+  pub kept : IsKept group s turn.got reading before now
+
+-- a round was cut off: what was exchanged, and what a stop may leave, where it could leave the contents alone before
+pub record IsCut (target : Target) (group : List ℕ) (reading : ℕ) (since : List ℕ) (s : State) (old new : Told) (text : List ℕ) (late : List Exchange) : Type 0 where
+  pub unjudged : IsUnjudged text late
+  pub stops : IsAlone old.tells old.contents old.left → (c : Contents) → new.left c → old.tells × ((c ≡ old.contents) ⊎ IsLateTurn target group reading since s late old.contents c)
+
 -- a round, by what it answers, with the state that it leaves
-abbrev pub IsRound : Target → ℕ → List ℕ → State → Option (List Exchange) → Option (List Exchange) → State → Result Compared SyncFault → Type 0
-IsRound target reading since s old new now (Ok Agreed) = TakesTurn target reading since s old new (λ left. ends now agreed)
-IsRound target reading since s old new now (Ok (Differ moment mine theirs)) = TakesTurn target reading since s old new (further now moment mine theirs)
-IsRound target reading since s old new now (Err Link) = IsLeft (text_of target since s) old new IsUnanswered × (now ≡ s)
-IsRound target reading since s old new now (Err (BadReply at)) = TakesTurn target reading since s old new (λ left. ends s (bad_reply at)) × (now ≡ s)
-IsRound target reading since s old new now (Err (Refused status)) = TakesTurn target reading since s old new (λ left. ends s (refused status)) × (now ≡ s)
-IsRound target reading since s old new now (Err (OutOfSync mine theirs)) = ⊥
-IsRound target reading since s old new now (Err (Clock fault)) = TakesTurn target reading since s old new (λ left. ends s (not_taken (OfClock fault))) × (now ≡ s)
-IsRound target reading since s old new now (Err Keeper) = IsLeft (text_of target since s) old new IsUnjudged
-IsRound target reading since s old new now (Err NoMemory) = IsLeft (text_of target since s) old new IsUnjudged
+abbrev pub IsRound : Target → List ℕ → ℕ → List ℕ → State → Told → Told → State → Result Compared SyncFault → Type 0
+IsRound target group reading since s old new now (Ok Agreed) = TakesTurn target reading since s old.exchanges new.exchanges (λ left. ends now agreed)
+IsRound target group reading since s old new now (Ok (Differ moment mine theirs)) = TakesTurn target reading since s old.exchanges new.exchanges (further now moment mine theirs)
+IsRound target group reading since s old new now (Err Link) = IsLeft (text_of target since s) old.exchanges new.exchanges IsUnanswered × (now ≡ s)
+IsRound target group reading since s old new now (Err (BadReply at)) = TakesTurn target reading since s old.exchanges new.exchanges (λ left. ends s (bad_reply at)) × (now ≡ s)
+IsRound target group reading since s old new now (Err (Refused status)) = TakesTurn target reading since s old.exchanges new.exchanges (λ left. ends s (refused status)) × (now ≡ s)
+IsRound target group reading since s old new now (Err (OutOfSync mine theirs)) = ⊥
+IsRound target group reading since s old new now (Err (Clock fault)) = TakesTurn target reading since s old.exchanges new.exchanges (λ left. ends s (not_taken (OfClock fault))) × (now ≡ s)
+IsRound target group reading since s old new now (Err Keeper) = IsLeft (text_of target since s) old.exchanges new.exchanges (IsCut target group reading since s old new)
+IsRound target group reading since s old new now (Err NoMemory) = IsLeft (text_of target since s) old.exchanges new.exchanges (IsCut target group reading since s old new)
 
 -- what follows what was judged, by what was made of it
 abbrev pub IsSettled : State → Got → ℕ → State → Result Compared SyncFault → Type 0
@@ -146,10 +192,6 @@ abbrev pub IfUsable : {T : Type 0} → Result T SyncFault → Type 0 → Type 0
 IfUsable (Ok value) P = P
 IfUsable (Err fault) P = UnlessSpoilt fault P
 
--- a group that kept one message set keeps another, and all else but the texts is as it was
-abbrev pub Carries : List ℕ → List Message → List Message → Contents → Contents → Type 0
-Carries group old new before now = (entry : Contents) → Holds group entry before old → Holds group (record entry { texts = now.texts }) now new
-
 -- the messages that are kept after messages were received: with them, where they were kept, and else those of before
 abbrev pub kept_of : {T : Type 0} → List Message → List Message → Result T SyncFault → List Message
 kept_of old new (Ok value) = new
@@ -171,11 +213,6 @@ IsAnswered target end o late now P (Err (Clock fault)) = (o ≡ not_taken (OfClo
 IsAnswered target end o late now P (Err Keeper) = IsCutOff target end o late
 IsAnswered target end o late now P (Err NoMemory) = IsCutOff target end o late
 
--- what the objects tell at a moment: the exchanges of the link, and what the keeper keeps
-pub record Told : Type 0 where
-  pub exchanges : Option (List Exchange)
-  pub contents : Contents
-
 -- the number of the turns
 abbrev pub IsNumber : List Turn → State → ℕ → Type 0
 IsNumber turns end number = number ≡ length turns
@@ -184,9 +221,21 @@ IsNumber turns end number = number ≡ length turns
 abbrev pub IsCounted : State → List Turn → State → Synced → Type 0
 IsCounted s turns end synced = (synced.requests ≡ length turns) × (synced.received ≡ length end.messages - length s.messages)
 
+-- What a stop may leave of a conversation whose exchanges are these: the group keeps the messages that some of the first of them left, each of which
+-- was taken as a whole, and the texts are as they were; or where they end with an agreement, the text of the last sync may be that of the clock's timestamp
+pub record MayBeLeft (target : Target) (group : List ℕ) (reading : ℕ) (first : List ℕ) (s : State) (all : List Exchange) (before now : Contents) : Type 0 where
+  pub turns : List Turn
+  pub later : List Exchange
+  pub are_first : map exchange_of turns ++ later ≡ all
+  pub end : State
+  pub outcome : Outcome
+  pub talk : Talk target reading most_requests first s turns end outcome
+  pub kept : Carries group s.messages end.messages before now
+  pub texts : (now.texts ≡ before.texts) ⊎ ((outcome ≡ agreed) × (now.texts ≡ insert before.texts (synced_name target) (stamp_text end.clock)))
+
 -- A device has talked from a text on, and answers so. What stands behind the turns is the rest of an exchange that was not judged. The keeper's
--- group keeps the messages that the turns left, whatever is answered.
-pub record HasConversed {T : Type 0} (target : Target) (group : List ℕ) (reading : ℕ) (first : List ℕ) (s : State) (tells : Type 0) (old new : Told) (now : State) (P : List Turn → State → T → Type 0) (result : Result T SyncFault) : Type 0 where
+-- group keeps the messages that the turns left, whatever is answered; a stop may leave those after fewer turns, or one turn more, which the rest is of.
+pub record HasConversed {T : Type 0} (target : Target) (group : List ℕ) (reading : ℕ) (first : List ℕ) (s : State) (old new : Told) (now : State) (P : List Turn → State → T → Type 0) (result : Result T SyncFault) : Type 0 where
   pub turns : List Turn
   pub late : List Exchange
   pub end : State
@@ -194,13 +243,16 @@ pub record HasConversed {T : Type 0} (target : Target) (group : List ℕ) (readi
   pub adds : Adds old.exchanges new.exchanges (map exchange_of turns ++ late)
   pub talk : Talk target reading most_requests first s turns end outcome
   pub answered : IsAnswered target end outcome late now (P turns end) result
-  pub kept : tells → Carries group s.messages end.messages old.contents new.contents
+  pub kept : new.tells → Carries group s.messages end.messages old.contents new.contents
+  pub stops : IsAlone old.tells old.contents old.left → (c : Contents) → new.left c → MayBeLeft target group reading first s (map exchange_of turns ++ late) old.contents c
 
--- the same of a whole sync, which begins at the text of the last sync, where there is one
-pub record HasTalked (target : Target) (group : List ℕ) (reading : ℕ) (s : State) (tells : Type 0) (old new : Told) (now : State) (result : Result Synced SyncFault) : Type 0 where
+-- the same of a whole sync, which begins at the text of the last sync, where there is one: that which is kept, where the keeper tells,
+-- and also where a stop may leave anything
+pub record HasTalked (target : Target) (group : List ℕ) (reading : ℕ) (s : State) (old new : Told) (now : State) (result : Result Synced SyncFault) : Type 0 where
   pub since : Option (List ℕ)
-  pub found : tells → since ≡ get old.contents.texts (synced_name target)
-  pub conversed : HasConversed target group reading (first_since since reading) s tells old new now (IsCounted s) result
+  pub found : new.tells → since ≡ get old.contents.texts (synced_name target)
+  pub sought : IsAlone old.tells old.contents old.left → (c : Contents) → new.left c → since ≡ get old.contents.texts (synced_name target)
+  pub conversed : HasConversed target group reading (first_since since reading) s old new now (IsCounted s) result
 
 -- these exchanges were added to those that are known
 abbrev pub AreAdded : List Exchange → Option (List Exchange) → Option (List Exchange) → Type 0

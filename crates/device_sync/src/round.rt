@@ -12,7 +12,7 @@ ghost use Rattle.device_sync.specs.Requests.{request_of};
 ghost use Rattle.device_sync.specs.Replies.{answer};
 ghost use Rattle.device_sync.specs.Judged.{got_of, messages_in};
 ghost use Rattle.device_sync.specs.Talk.{trie_in};
-ghost use Rattle.device_sync.specs.Sync.{text_of, IsUnanswered, IsLeft, AreCompared, IsSettled, HasMoment, IsRound, Carries, kept_of, fails_link, fails_keeper, IfUsable};
+ghost use Rattle.device_sync.specs.Sync.{told, text_of, KeepsOrNot, IsUnanswered, IsLeft, AreCompared, IsSettled, HasMoment, IsRound, Carries, kept_of, fails_link, fails_keeper, IfUsable};
 
 use crate::fault::SyncFault;
 use crate::reply::{Judged, judge};
@@ -101,6 +101,7 @@ fn join_answer<K: Keeper, G: Ledger>(
     ensures carries { K.tells keeper.new → Carries group.now device.old.state.messages (kept_of device.old.state.messages device.new.state.messages result) (K.contents keeper.old) (K.contents keeper.new) }
     ensures texts { K.tells keeper.new → (K.contents keeper.new).texts ≡ (K.contents keeper.old).texts }
     ensures alone { IfUsable result (IsAlone (K.tells keeper.old) (K.contents keeper.old) (K.left keeper.old) → IsAlone (K.tells keeper.new) (K.contents keeper.new) (K.left keeper.new)) }
+    ensures stops { OnErr result (IsAlone (K.tells keeper.old) (K.contents keeper.old) (K.left keeper.old) → (c : Contents) → K.left keeper.new c → K.tells keeper.old × KeepsOrNot group.now device.old.state (answer messages.now (held trie.now)) reading (K.contents keeper.old) c) }
     ensures before { (k : Contents) → K.left keeper.new k → K.left keeper.old k ⊎ K.tells keeper.old }
     ensures told { K.tells keeper.new → K.tells keeper.old }
     ensures count { K.faults keeper.new ≡ count_after (fails_keeper result) (K.faults keeper.old) }
@@ -129,6 +130,7 @@ fn settle<K: Keeper, G: Ledger>(
     ensures carries { K.tells keeper.new → Carries group.now device.old.state.messages (kept_of device.old.state.messages device.new.state.messages result) (K.contents keeper.old) (K.contents keeper.new) }
     ensures texts { K.tells keeper.new → (K.contents keeper.new).texts ≡ (K.contents keeper.old).texts }
     ensures alone { IfUsable result (IsAlone (K.tells keeper.old) (K.contents keeper.old) (K.left keeper.old) → IsAlone (K.tells keeper.new) (K.contents keeper.new) (K.left keeper.new)) }
+    ensures stops { OnErr result (IsAlone (K.tells keeper.old) (K.contents keeper.old) (K.left keeper.old) → (c : Contents) → K.left keeper.new c → K.tells keeper.old × KeepsOrNot group.now device.old.state (got_of reply.now) reading (K.contents keeper.old) c) }
     ensures before { (k : Contents) → K.left keeper.new k → K.left keeper.old k ⊎ K.tells keeper.old }
     ensures told { K.tells keeper.new → K.tells keeper.old }
     ensures count { K.faults keeper.new ≡ count_after (fails_keeper result) (K.faults keeper.old) }
@@ -162,7 +164,7 @@ pub(crate) fn round<K: Keeper, L: Link, G: Ledger>(
 ) -> Result<Compared, SyncFault>
     requires live { device.old.spent ≡ false }
     requires idle { device.old.batch ≡ [] }
-    ensures round { IsRound target.now reading since.now device.old.state (L.exchanges link.old) (L.exchanges link.new) device.new.state result }
+    ensures round { IsRound target.now group.now reading since.now device.old.state (told (L.exchanges link.old) (K.tells keeper.old) (K.contents keeper.old) (K.left keeper.old)) (told (L.exchanges link.new) (K.tells keeper.new) (K.contents keeper.new) (K.left keeper.new)) device.new.state result }
     ensures moment { IfOk result HasMoment }
     ensures usable { IfUsable result ((device.new.spent ≡ false) × (device.new.batch ≡ [])) }
     ensures carries { K.tells keeper.new → Carries group.now device.old.state.messages (kept_of device.old.state.messages device.new.state.messages result) (K.contents keeper.old) (K.contents keeper.new) }

@@ -3,10 +3,10 @@ ghost use Rattle.std.specs.Prelude.{◌≡◌, ◌⊎◌, [], IfOk, OnOk, OnErr,
 ghost use Rattle.std.specs.FinMap.{get};
 ghost use Rattle.budget_ports.specs.Contents.{Contents, with_text, appended};
 ghost use Rattle.budget_ports.specs.Faults.{count_after};
-ghost use Rattle.budget_ports.specs.Keeper.{has_failed, IsAlone};
+ghost use Rattle.budget_ports.specs.Keeper.{has_failed, Commits, IsAlone, LeavesNoMore};
 ghost use Rattle.field_merge.specs.Messages.{AreMessages};
 ghost use Rattle.hybrid_clock.specs.Stamp.{IsStamp, stamp_text};
-ghost use Rattle.device_sync.specs.Sync.{synced_name, IsTaken, Carries, kept_of, fails_keeper, IfUsable};
+ghost use Rattle.device_sync.specs.Sync.{synced_name, IsTaken, TakesOrNot, Carries, kept_of, fails_keeper, IfUsable};
 
 use crate::fault::SyncFault;
 use crate::target::Target;
@@ -26,6 +26,7 @@ fn keep<K: Keeper>(device: &mut Device, keeper: &mut K, group: &Txt) -> Result<(
     ensures kept { K.tells keeper.new → OnOk result (K.contents keeper.new ≡ appended (K.contents keeper.old) group.now device.old.batch) }
     ensures same { K.tells keeper.new → OnErr result (K.contents keeper.new ≡ K.contents keeper.old) }
     ensures alone { OnOk result (IsAlone (K.tells keeper.old) (K.contents keeper.old) (K.left keeper.old) → IsAlone (K.tells keeper.new) (K.contents keeper.new) (K.left keeper.new)) }
+    ensures left { Commits (K.tells keeper.old) (K.left keeper.old) (K.left keeper.new) (appended (K.contents keeper.old) group.now device.old.batch) }
     ensures before { (k : Contents) → K.left keeper.new k → K.left keeper.old k ⊎ K.tells keeper.old }
     ensures told { K.tells keeper.new → K.tells keeper.old }
     ensures count { K.faults keeper.new ≡ count_after (has_failed result) (K.faults keeper.old) }
@@ -54,6 +55,7 @@ pub(crate) fn take<K: Keeper, G: Ledger>(
     ensures carries { K.tells keeper.new → Carries group.now device.old.state.messages (kept_of device.old.state.messages device.new.state.messages result) (K.contents keeper.old) (K.contents keeper.new) }
     ensures texts { K.tells keeper.new → (K.contents keeper.new).texts ≡ (K.contents keeper.old).texts }
     ensures alone { IfUsable result (IsAlone (K.tells keeper.old) (K.contents keeper.old) (K.left keeper.old) → IsAlone (K.tells keeper.new) (K.contents keeper.new) (K.left keeper.new)) }
+    ensures stops { OnErr result (IsAlone (K.tells keeper.old) (K.contents keeper.old) (K.left keeper.old) → (c : Contents) → K.left keeper.new c → K.tells keeper.old × TakesOrNot group.now device.old.state messages.now reading (K.contents keeper.old) c) }
     ensures before { (k : Contents) → K.left keeper.new k → K.left keeper.old k ⊎ K.tells keeper.old }
     ensures told { K.tells keeper.new → K.tells keeper.old }
     ensures count { K.faults keeper.new ≡ count_after (fails_keeper result) (K.faults keeper.old) }
@@ -103,6 +105,7 @@ pub(crate) fn last_synced<K: Keeper>(
     ensures text { K.tells keeper.new → IfOk result (λ text. text ≡ get (K.contents keeper.old).texts (synced_name target.now)) }
     ensures same { K.tells keeper.new → K.contents keeper.new ≡ K.contents keeper.old }
     ensures alone { OnOk result (IsAlone (K.tells keeper.old) (K.contents keeper.old) (K.left keeper.old) → IsAlone (K.tells keeper.new) (K.contents keeper.new) (K.left keeper.new)) }
+    ensures left { LeavesNoMore (K.left keeper.old) (K.left keeper.new) }
     ensures before { (k : Contents) → K.left keeper.new k → K.left keeper.old k ⊎ K.tells keeper.old }
     ensures told { K.tells keeper.new → K.tells keeper.old }
     ensures count { K.faults keeper.new ≡ count_after (has_failed result) (K.faults keeper.old) }
@@ -122,6 +125,7 @@ pub(crate) fn put_synced<K: Keeper>(
     ensures put { K.tells keeper.new → OnOk result (K.contents keeper.new ≡ with_text (K.contents keeper.old) (synced_name target.now) (stamp_text device.now.state.clock)) }
     ensures same { K.tells keeper.new → OnErr result (K.contents keeper.new ≡ K.contents keeper.old) }
     ensures alone { OnOk result (IsAlone (K.tells keeper.old) (K.contents keeper.old) (K.left keeper.old) → IsAlone (K.tells keeper.new) (K.contents keeper.new) (K.left keeper.new)) }
+    ensures left { Commits (K.tells keeper.old) (K.left keeper.old) (K.left keeper.new) (with_text (K.contents keeper.old) (synced_name target.now) (stamp_text device.now.state.clock)) }
     ensures before { (k : Contents) → K.left keeper.new k → K.left keeper.old k ⊎ K.tells keeper.old }
     ensures told { K.tells keeper.new → K.tells keeper.old }
     ensures count { K.faults keeper.new ≡ count_after (has_failed result) (K.faults keeper.old) }

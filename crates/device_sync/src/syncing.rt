@@ -5,7 +5,7 @@ ghost use Rattle.budget_ports.specs.Contents.{Contents};
 ghost use Rattle.budget_ports.specs.Keeper.{IsAlone};
 ghost use Rattle.budget_ports.specs.Faults.{count_after};
 ghost use Rattle.hybrid_clock.specs.Stamp.{stamp_text, window};
-ghost use Rattle.device_sync.specs.Sync.{HasConversed, HasTalked, MeetsHonest, IsNumber, IsCounted, synced_name, fails_link, fails_keeper, IfUsable};
+ghost use Rattle.device_sync.specs.Sync.{told, HasConversed, HasTalked, MeetsHonest, IsNumber, IsCounted, synced_name, fails_link, fails_keeper, IfUsable};
 
 use crate::fault::{SyncFault, Synced};
 use crate::request::{first_since, moment};
@@ -39,7 +39,7 @@ fn converse<K: Keeper, L: Link, G: Ledger>(
 ) -> Result<u64, SyncFault>
     requires live { device.old.spent ≡ false }
     requires idle { device.old.batch ≡ [] }
-    ensures talked { HasConversed target.now group.now reading first device.old.state (K.tells keeper.new) (record { exchanges = L.exchanges link.old; contents = K.contents keeper.old }) (record { exchanges = L.exchanges link.new; contents = K.contents keeper.new }) device.new.state IsNumber result }
+    ensures talked { HasConversed target.now group.now reading first device.old.state (told (L.exchanges link.old) (K.tells keeper.old) (K.contents keeper.old) (K.left keeper.old)) (told (L.exchanges link.new) (K.tells keeper.new) (K.contents keeper.new) (K.left keeper.new)) device.new.state IsNumber result }
     ensures usable { IfUsable result ((device.new.spent ≡ false) × (device.new.batch ≡ [])) }
     ensures texts { K.tells keeper.new → (K.contents keeper.new).texts ≡ (K.contents keeper.old).texts }
     ensures alone { IfUsable result (IsAlone (K.tells keeper.old) (K.contents keeper.old) (K.left keeper.old) → IsAlone (K.tells keeper.new) (K.contents keeper.new) (K.left keeper.new)) }
@@ -90,7 +90,7 @@ fn sync_from<K: Keeper, L: Link, G: Ledger>(
 ) -> Result<Synced, SyncFault>
     requires live { device.old.spent ≡ false }
     requires idle { device.old.batch ≡ [] }
-    ensures talked { HasConversed target.now group.now reading first device.old.state (K.tells keeper.new) (record { exchanges = L.exchanges link.old; contents = K.contents keeper.old }) (record { exchanges = L.exchanges link.new; contents = K.contents keeper.new }) device.new.state (IsCounted device.old.state) result }
+    ensures talked { HasConversed target.now group.now reading first device.old.state (told (L.exchanges link.old) (K.tells keeper.old) (K.contents keeper.old) (K.left keeper.old)) (told (L.exchanges link.new) (K.tells keeper.new) (K.contents keeper.new) (K.left keeper.new)) device.new.state (IsCounted device.old.state) result }
     ensures usable { IfUsable result ((device.new.spent ≡ false) × (device.new.batch ≡ [])) }
     ensures synced { K.tells keeper.new → OnOk result ((K.contents keeper.new).texts ≡ insert (K.contents keeper.old).texts (synced_name target.now) (stamp_text device.new.state.clock)) }
     ensures unsynced { K.tells keeper.new → OnErr result ((K.contents keeper.new).texts ≡ (K.contents keeper.old).texts) }
@@ -144,7 +144,7 @@ pub fn sync<K: Keeper, L: Link, G: Ledger>(
     requires live { device.old.spent ≡ false }
     requires idle { device.old.batch ≡ [] }
     ensures beyond { window ≤ reading / 60_000 → (result ≡ Err (SyncFault.Clock (ClockFault.Beyond reading))) × ((device.new ≡ device.old) × ((keeper.new ≡ keeper.old) × (link.new ≡ link.old))) }
-    ensures talked { reading / 60_000 < window → HasTalked target.now group.now reading device.old.state (K.tells keeper.new) (record { exchanges = L.exchanges link.old; contents = K.contents keeper.old }) (record { exchanges = L.exchanges link.new; contents = K.contents keeper.new }) device.new.state result }
+    ensures talked { reading / 60_000 < window → HasTalked target.now group.now reading device.old.state (told (L.exchanges link.old) (K.tells keeper.old) (K.contents keeper.old) (K.left keeper.old)) (told (L.exchanges link.new) (K.tells keeper.new) (K.contents keeper.new) (K.left keeper.new)) device.new.state result }
     ensures met { reading / 60_000 < window → MeetsHonest target.now.token device.old.state.messages (L.exchanges link.old) (L.exchanges link.new) device.new.state.messages result }
     ensures usable { IfUsable result ((device.new.spent ≡ false) × (device.new.batch ≡ [])) }
     ensures synced { K.tells keeper.new → OnOk result ((K.contents keeper.new).texts ≡ insert (K.contents keeper.old).texts (synced_name target.now) (stamp_text device.new.state.clock)) }

@@ -7,9 +7,9 @@ use Rattle.device_sync.proofs.round.round.Goals as goal
 
 pub returns-in-Ok-judge-clause-round : goal.returns-in-Ok-judge-clause-round
 returns-in-Ok-judge-clause-round g c =
-    round_settled c.args.target.now c.args.reading c.args.since.now c.args.device.now.state _ _ c.settle.new.device.state c.deref.result.now c.in-Ok-exchange.came.items (got_of c.in-Ok-judge.reply) c.settle.result
+    round_settled c.args.target.now c.args.group.now c.args.reading c.args.since.now c.args.device.now.state _ _ c.settle.new.device.state c.deref.result.now c.in-Ok-exchange.came.items (got_of c.in-Ok-judge.reply)
     (c.deref.ensures.value ∙ c.in-Ok.ensures.text) c.in-Ok.ensures.means c.in-Ok-exchange.ensures.ok
-    (subst (λ (z : List ℕ). IsJudged z (got_of c.in-Ok-judge.reply)) c.deref-2.ensures.value c.in-Ok-judge.ensures.judged) c.settle.ensures.settled
+    (subst (λ (z : List ℕ). IsJudged z (got_of c.in-Ok-judge.reply)) c.deref-2.ensures.value c.in-Ok-judge.ensures.judged) c.settle.result c.settle.ensures.settled c.settle.ensures.stops
 
 pub returns-in-Ok-judge-clause-link_count : goal.returns-in-Ok-judge-clause-link_count
 returns-in-Ok-judge-clause-link_count g c =
