@@ -184,7 +184,7 @@ fn reply_to<G: Ledger>(
     device: &mut Device,
     steps: &mut Steps<G>,
     reading: u64,
-    asked: Result<Command, usize>,
+    asked: Result<Command, u32>,
 ) -> Result<Reply, NoMemory>
     requires live { device.old.spent ≡ false }
     requires idle { device.old.batch ≡ [] }
@@ -243,7 +243,7 @@ fn answer_line<K: Keeper, G: Ledger>(
     group: &Txt,
     steps: &mut Steps<G>,
     reading: u64,
-    asked: Result<Command, usize>,
+    asked: Result<Command, u32>,
 ) -> Result<Answer, PortFault>
     requires live { device.old.spent ≡ false }
     requires idle { device.old.batch ≡ [] }
