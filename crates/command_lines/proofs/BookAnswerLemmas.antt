@@ -19,7 +19,9 @@ use Rattle.device_core.specs.Books.{rows_of}
 use Rattle.command_lines.specs.declared.reply.Reply.{Reply}
 use Rattle.command_lines.specs.declared.reply.Reply.TheVariants.{Done}
 use Rattle.command_lines.specs.Answers.{MayHaveId, name_text, BooksAreTold}
-use Rattle.command_lines.specs.BookAnswers.{told_cell, cell_or_faulty, cell_text}
+use Rattle.split_transfer.specs.Broken.{broken}
+use Rattle.command_lines.specs.BookAnswers.{told_cell, cell_or_faulty, cell_text, lines_of}
+use Rattle.command_lines.proofs.TextLines.{broken_lines}
 use Rattle.command_lines.specs.CellNames.{is_of_group, is_of_month, is_empty, id_behind, this_or, named_by, all_kinds, cell_named}
 use Rattle.command_lines.specs.Refusals.{no_such_account, no_such_group, no_such_category, bad_month}
 use Rattle.command_lines.specs.Register.{register_lines, register_of}
@@ -197,6 +199,7 @@ books_told ms =
       sheet = λ month is.
           let cells : List ACell = sheet_of (budget_of rows) month in
           (map cell_text cells, ap (λ b. cond b (Done (map cell_text cells)) (bad_month month)) is, lines_of_sheet cells);
+      broken = (lines_of (broken rows), refl, broken_lines rows);
       no_cell = λ month text is. ap (λ b. cond b (cell_or_faulty rows (cell_named month text)) (bad_month month)) is;
       no_sheet = λ month is. ap (λ b. cond b (Done (map cell_text (sheet_of (budget_of rows) month))) (bad_month month)) is;
     }

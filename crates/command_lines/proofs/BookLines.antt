@@ -3,14 +3,15 @@ use Rattle.std.proofs.Common.{◌≡◌, ℕ, List, [], ◌∷◌, Some, ◌⊎�
 use Rattle.std.specs.Prelude.{codes}
 use Rattle.device_core.specs.declared.edit.Edit.TheVariants.{Book}
 use Rattle.book_edits.specs.declared.edit.BookEdit.TheVariants.{Budget, Carryover, Hold, Move}
-use Rattle.command_lines.specs.declared.command.Command.TheVariants.{Balance, Register, Cell, Sheet, Edit}
+use Rattle.command_lines.specs.declared.command.Command.TheVariants.{Balance, Register, Cell, Sheet, Broken, Edit}
 use Rattle.command_lines.specs.Forms.{misfit, no_more, word, amount_of, flag_of, month_of, amount_word, flag_word, month_word}
-use Rattle.command_lines.specs.Commands.{balance_words, register_words, cell_words, sheet_words, book_lines, words_of_book_lines, budget_words, carryover_words, hold_words, move_amount_words, month_lines, words_of_month_lines}
+use Rattle.command_lines.specs.Commands.{balance_words, register_words, cell_words, sheet_words, book_lines, words_of_book_lines, words_of_pair_lines, budget_words, carryover_words, hold_words, move_amount_words, month_lines, words_of_month_lines}
 use Rattle.command_lines.proofs.Amounts.{amount_written, id_told}
 use Rattle.command_lines.proofs.FormTexts.{flag_written, date_written, month_written}
 use Rattle.command_lines.proofs.Opening.{Opens, open_end, open_word, open_id, open_amount, open_flag, open_date, open_month}
 use Rattle.command_lines.proofs.Telling.{Tells, tells_form}
 use Rattle.command_lines.proofs.Known.{IsKnown, AreKnown, known_in}
+use Rattle.command_lines.proofs.PairLines.{pair_lines_known}
 
 -- ---- the lines that ask of the books
 
@@ -41,11 +42,11 @@ sheet_tells = λ month_t.
     tells_form (month_of month_t) (codes "sheet" ∷ month_t ∷ []) month_t month_of (λ month. no_more (Sheet month)) refl (λ month month_read. record { same = λ i. codes "sheet" ∷ (month_written month_t month month_read).0 i ∷ []; valid = tt; can = (month_written month_t month month_read).1 })
 
 book_lines_are : AreKnown book_lines
-book_lines_are = (record { good = refl; plain = refl; form = tt; goes = balance_opens.1; tells = balance_tells }, (record { good = refl; plain = refl; form = tt; goes = register_opens.1; tells = register_tells }, (record { good = refl; plain = refl; form = tt; goes = cell_opens.1; tells = cell_tells }, (record { good = refl; plain = refl; form = tt; goes = sheet_opens.1; tells = sheet_tells }, tt))))
+book_lines_are = (record { good = refl; plain = refl; form = tt; goes = balance_opens.1; tells = balance_tells }, (record { good = refl; plain = refl; form = tt; goes = register_opens.1; tells = register_tells }, (record { good = refl; plain = refl; form = tt; goes = cell_opens.1; tells = cell_tells }, (record { good = refl; plain = refl; form = tt; goes = sheet_opens.1; tells = sheet_tells }, (record { good = refl; plain = refl; form = tt; goes = tt; tells = record { same = refl; valid = tt; can = tt } }, tt)))))
 
 pub book_lines_known : (name : List ℕ) → (words_of_book_lines name ≡ misfit) ⊎ IsKnown name (words_of_book_lines name)
 unfolding words_of_book_lines
-book_lines_known name = known_in book_lines name misfit book_lines_are (inl refl)
+book_lines_known name = known_in book_lines name (words_of_pair_lines name) book_lines_are (pair_lines_known name)
 
 -- ---- the lines that budget a month
 

@@ -26,7 +26,7 @@ use Rattle.device_core.specs.declared.edit.LineRefusal.{LineRefusal}
 use Rattle.device_core.specs.declared.edit.LineRefusal.TheVariants.{Edit as OfEdit, Clock as OfClock, NoMemory}
 use Rattle.kept_messages.specs.Pairs.{pairs_of}
 use Rattle.command_lines.specs.declared.command.Command.{Command}
-use Rattle.command_lines.specs.declared.command.Command.TheVariants.{Edit, Receive, Fields, Messages, Value, Trie, Balance, Register, Cell, Sheet}
+use Rattle.command_lines.specs.declared.command.Command.TheVariants.{Edit, Undo, Redo, Receive, Fields, Messages, Value, Trie, Balance, Register, Cell, Sheet, Broken, Sync}
 use Rattle.command_lines.specs.declared.reply.Reply.{Reply}
 use Rattle.command_lines.specs.declared.reply.Reply.TheVariants.{Done, Refused}
 use Rattle.finite_sums.specs.Maps.{Text}
@@ -50,6 +50,8 @@ use Rattle.command_lines.proofs.PlainTexts.{Plain, both, tested, is_line, plain_
 use Rattle.book_rows.specs.Named.{HasNames}
 use Rattle.device_core.proofs.RowsNamed.{rows_named}
 use Rattle.command_lines.proofs.BookLineLemmas.{register_is, sheet_is}
+use Rattle.command_lines.proofs.TextLines.{lines_are_lines}
+use Rattle.split_transfer.specs.Broken.{broken}
 use Rattle.command_lines.proofs.Cutting.{pieces, pieces-at}
 use Rattle.command_lines.proofs.LineLemmas.{OnOneLine}
 
@@ -153,8 +155,12 @@ answer_is law messages (Balance account) valid = balance_is (rows_of messages) a
 answer_is law messages (Register account) valid = register_reply_is (rows_of messages) account (rows_named messages valid)
 answer_is law messages (Cell month name) valid = cell_is (rows_of messages) month name
 answer_is law messages (Sheet month) valid = sheet_reply_is (rows_of messages) month (rows_named messages valid)
+answer_is law messages Broken valid = lines_are_lines (broken (rows_of messages))
 answer_is law messages (Edit edit) valid = tt
+answer_is law messages Undo valid = tt
+answer_is law messages Redo valid = tt
 answer_is law messages (Receive message) valid = tt
+answer_is law messages Sync valid = tt
 
 -- a word and a number
 counted : (word : List ℕ) (n : ℕ) → list_any (λ b. b == 10) word ≡ false → IsLine (word ++ decimal n)
@@ -236,6 +242,16 @@ are_lines law = record {
   answers = λ messages command valid. answer_is law messages command valid;
   edits = λ writes made h. (counted (codes "writes ") writes refl, made_are made h);
   received = λ count. (counted (codes "added ") count refl, tt);
+  syncs = λ requests count. (
+    is_line (codes "requests " ++ decimal requests ++ codes " received " ++ decimal count)
+        (both (codes "requests ") (decimal requests ++ codes " received " ++ decimal count) (tested (codes "requests ") refl)
+        (both (decimal requests) (codes " received " ++ decimal count) (number_plain requests) (both (codes " received ") (decimal count) (tested (codes " received ") refl) (number_plain count)))),
+    tt,
+  );
+  lost_links = code (codes "sync-failed") refl;
+  bad_answers = λ at. code (codes "sync-failed") refl;
+  bad_statuses = λ status. code (codes "sync-failed") refl;
+  out_of_syncs = λ mine theirs. code (codes "sync-failed") refl;
   faults = λ index. code (codes "bad-command") refl;
   refusals = λ refusal reply e. subst IsReplyIf e (refusal_if refusal);
 }

@@ -1,5 +1,5 @@
 -- A command that is made of words is valid, and its texts are those of the words.
-use Rattle.std.proofs.Common.{◌≡◌, ℕ, Bool, true, false, List, [], ◌∷◌, ◌++◌, Option, None, Some, is_none, Result, Ok, Err, refl, ap, sym, subst, ◌∙◌, append_assoc, ℤ}
+use Rattle.std.proofs.Common.{◌≡◌, ◌≢◌, ℕ, Bool, true, false, List, [], ◌∷◌, ◌++◌, Option, None, Some, is_none, Result, Ok, Err, refl, ap, sym, subst, ◌∙◌, append_assoc, ℤ}
 use Rattle.std.specs.Prelude.{if◌then◌else◌}
 use Rattle.std.specs.Fmt.{signed_decimal}
 use Rattle.std.specs.List.{flat_map, AllByRecursion}
@@ -33,7 +33,7 @@ Tells front (no_more c) = IsCommandOf front c
 Tells front (word next) = (text : List ℕ) → Tells (front ++ text ∷ []) (next text)
 Tells front (may_end c next) = IsCommandOf front c × ((text : List ℕ) → Tells (front ++ text ∷ []) (next text))
 Tells front (some_texts texts made) = (more : List (List ℕ)) → IsCommandOf (front ++ more) (made (texts ++ more))
-Tells front (some_shares shares made) = (more : List Share) → AllByRecursion IsShare more → IsCommandOf (front ++ flat_map share_texts more) (made (shares ++ more))
+Tells front (some_shares shares made) = (more : List Share) → AllByRecursion IsShare more → shares ++ more ≢ [] → IsCommandOf (front ++ flat_map share_texts more) (made (shares ++ more))
 
 -- the same of equal texts and commands
 moved : (texts others : List (List ℕ)) (c d : Command) → texts ≡ others → c ≡ d → IsCommandOf texts c → IsCommandOf others d
@@ -47,7 +47,8 @@ tells_end (may_end made next) front c h e = let same : made ≡ c = cc in subst 
 tells_end (some_texts texts made) front c h e =
     moved (front ++ []) front (made (texts ++ [])) c (append-nil front) (ap made (append-nil texts) ∙ sym (made_some made texts c e).1) (h [])
 tells_end (some_shares shares made) front c h e =
-    moved (front ++ []) front (made (shares ++ [])) c (append-nil front) (ap made (append-nil shares) ∙ sym (made_some made shares c e).1) (h [] tt)
+    let some = made_some made shares c e in
+    moved (front ++ []) front (made (shares ++ [])) c (append-nil front) (ap made (append-nil shares) ∙ sym some.1) (h [] tt (λ none. some.0 (sym (append-nil shares) ∙ none)))
 
 tells_behind : (wanted : Wanted) (front : List (List ℕ)) (text : List ℕ) → Tells front wanted → Tells (front ++ text ∷ []) (behind wanted text)
 tells_behind misfit front text h = tt
@@ -61,7 +62,7 @@ tells_behind (some_shares shares made) front text h = by (amount_of text) refl
   where
     by : (o : Option ℤ) → amount_of text ≡ o → Tells (front ++ text ∷ []) (if_read (λ n. word (λ id. some_shares (shares ++ (n, id_or_none id) ∷ []) made)) o)
     by None e = tt
-    by (Some n) e = λ id more valid.
+    by (Some n) e = λ id more valid some.
         let share : Share = (n, id_or_none id) in
         let amount = amount_written text n e in
         let hyphen = id_written id in
@@ -72,7 +73,7 @@ tells_behind (some_shares shares made) front text h = by (amount_of text) refl
         ∙ sym (append_assoc front (text ∷ []) (id ∷ rest))
         ∙ sym (append_assoc (front ++ text ∷ []) (id ∷ []) rest))
         (ap made (sym (append_assoc shares (share ∷ []) more)))
-        (h (share ∷ more) (record { amount = amount.0; id = hyphen.0 }, valid))
+        (h (share ∷ more) (record { amount = amount.0; id = hyphen.0 }, valid) (λ none. some (append_assoc shares (share ∷ []) more ∙ none)))
 
 -- the command that texts make is one of them, behind those in front
 pub texts_told : (texts front : List (List ℕ)) (wanted : Wanted) (c : Command) → Tells front wanted → Makes wanted texts c → IsCommandOf (front ++ texts) c

@@ -17,24 +17,20 @@ use Rattle.field_merge.specs.Lines.{parts}
 use Rattle.field_merge.specs.Messages.{IsMessage, message_of, message_texts, line_of_texts}
 use Rattle.field_merge.proofs.EscapeLemmas.{escaped-no_tab}
 use Rattle.field_merge.proofs.LineLemmas.{parts-none, parts-at}
-use Rattle.device_core.specs.declared.edit.Edit.TheVariants.{Book}
+use Rattle.device_core.specs.declared.edit.Edit.TheVariants.{Book, Pair}
 use Rattle.book_edits.specs.declared.edit.BookEdit.TheVariants.{Set, AccountAdd, AccountRename, AccountOffbudget, AccountReopen, AccountClose, GroupAdd, GroupRename, GroupDelete, CategoryAdd, CategoryRename, CategoryMove, CategoryDelete, PayeeAdd, PayeeRename, PayeeDelete, TxAdd, Budget, Carryover, Hold, Move, Note}
 use Rattle.command_lines.specs.declared.command.Command.{Command}
-use Rattle.command_lines.specs.declared.command.Command.TheVariants.{Edit, Receive, Fields, Messages, Value, Trie, Balance, Register, Cell, Sheet}
+use Rattle.command_lines.specs.declared.command.Command.TheVariants.{Edit, Undo, Redo, Receive, Fields, Messages, Value, Trie, Balance, Register, Cell, Sheet, Broken, Sync}
 use Rattle.std.specs.Fmt.{signed_decimal}
 use Rattle.command_lines.specs.Forms.{Wanted, word, no_more, misfit, of_stamp, stamp_word, name_word, amount_of, id_of, flag_of, date_of, month_of, if_read, form_word, amount_word, flag_word, date_word, month_word, id_word}
 use Rattle.command_lines.specs.FormLaws.{id_text}
-use Rattle.command_lines.specs.Commands.{words_of_row_lines, words_of_state_lines, words_of_add_lines, words_of_month_lines, words_of_book_lines, line_words, of_words, longest_line, IsCommand}
+use Rattle.command_lines.specs.Commands.{words_of_row_lines, words_of_state_lines, words_of_add_lines, words_of_month_lines, words_of_book_lines, words_of_pair_lines, words_of_session_lines, line_words, of_words, longest_line, IsCommand}
 use Rattle.command_lines.specs.Written.{flag_text, date_text, month_text, CanBeWritten, command_line, CommandsReadBack}
 use Rattle.command_lines.proofs.Amounts.{amount_back, id_of_back}
 use Rattle.command_lines.proofs.FormTexts.{flag_back, date_back, month_back}
-use Rattle.command_lines.proofs.FormLemmas.{Makes, makes_written}
-
-parts_written : (text : List ℕ) (texts : List (List ℕ)) → parts (join_with_byte 9 (map escaped (text ∷ texts))) ≡ map escaped (text ∷ texts)
-parts_written text [] = parts-none (escaped text) (escaped-no_tab text)
-parts_written text (next ∷ texts) =
-    parts-at (escaped text) (join_with_byte 9 (map escaped (next ∷ texts))) (escaped-no_tab text)
-    ∙ ap (λ ps. escaped text ∷ ps) (parts_written next texts)
+use Rattle.command_lines.proofs.FormLemmas.{Makes}
+use Rattle.command_lines.proofs.LineBack.{makes_form, line_back}
+use Rattle.command_lines.proofs.PairsBack.{pairs_back}
 
 -- ---- a word of a form
 
@@ -44,18 +40,7 @@ makes_stamp next s texts c is h = subst (λ read. Makes (of_stamp next read) tex
 makes_name : (next : List ℕ → Wanted) (name : List ℕ) (texts : List (List ℕ)) (c : Command) → IsName name → Makes (next name) texts c → Makes (name_word next) (name ∷ texts) c
 makes_name next name texts c is h = subst (λ fault. Makes (if is_none fault then next name else misfit) texts c) (sym (name_fault-none Dataset name is)) h
 
-makes_form : {A : Type 0} (read : List ℕ → Option A) (next : A → Wanted) (a : A) (text : List ℕ) (texts : List (List ℕ)) (c : Command) → read text ≡ Some a → Makes (next a) texts c
-    → Makes (form_word read next) (text ∷ texts) c
-makes_form {A} read next a text texts c e h = subst (λ (o : Option A). Makes (if_read next o) texts c) (sym e) h
-
 -- ---- the words of each command
-
--- the line with this name and these texts behind it is read as the command that they make
-line_back : (name : List ℕ) (texts : List (List ℕ)) (c : Command) → escaped name ≡ name → Makes (line_words name) texts c → of_words (parts (line_of_texts (name ∷ texts))) ≡ Ok c
-line_back name texts c plain h =
-    ap of_words (parts_written name texts)
-    ∙ ap (λ n. of_words (n ∷ map escaped texts)) plain
-    ∙ makes_written texts (line_words name) 0 c h
 
 receive_makes : (m : Message) → IsMessage m → Makes (line_words (codes "receive")) (message_texts m) (Receive m)
 receive_makes m is =
@@ -73,7 +58,7 @@ receive_makes m is =
     ap (λ value. Some (Receive (record m { value = value }))) (values_read_back_lem m.value is.value)))))
 
 words_back : (c : Command) → IsCommand c → CanBeWritten c → of_words (parts (command_line c)) ≡ Ok c
-unfolding words_of_row_lines words_of_state_lines words_of_add_lines words_of_month_lines words_of_book_lines
+unfolding words_of_row_lines words_of_state_lines words_of_add_lines words_of_month_lines words_of_book_lines words_of_pair_lines words_of_session_lines
 words_back (Edit (Book (Set d r c v))) is can =
     line_back (codes "set") (d ∷ r ∷ c ∷ value_text v ∷ []) (Edit (Book (Set d r c v))) refl (ap (λ value. Some (Edit (Book (Set d r c value)))) (values_read_back_lem v is))
 words_back (Receive m) is can = line_back (codes "receive") (message_texts m) (Receive m) refl (receive_makes m is)
@@ -131,6 +116,11 @@ words_back (Cell month name) is can =
     line_back (codes "cell") (month_text month ∷ name ∷ []) (Cell month name) refl (makes_form month_of (λ month. word (λ name. no_more (Cell month name))) month (month_text month) (name ∷ []) (Cell month name) (month_back month can) refl)
 words_back (Sheet month) is can =
     line_back (codes "sheet") (month_text month ∷ []) (Sheet month) refl (makes_form month_of (λ month. no_more (Sheet month)) month (month_text month) [] (Sheet month) (month_back month can) refl)
+words_back Broken is can = line_back (codes "broken") [] Broken refl refl
+words_back (Edit (Pair edit)) is can = pairs_back edit can
+words_back Undo is can = line_back (codes "undo") [] Undo refl refl
+words_back Redo is can = line_back (codes "redo") [] Redo refl refl
+words_back Sync is can = line_back (codes "sync") [] Sync refl refl
 
 pub read_back : CommandsReadBack
 read_back c is can short =

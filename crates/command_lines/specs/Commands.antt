@@ -146,6 +146,9 @@ tx_delete_words = word (λ id. no_more (pair (TxDelete id)))
 abbrev pub part_of : Share → SplitPart
 part_of share = record { amount = share.0; category = share.1 }
 
+abbrev pub share_of : SplitPart → Share
+share_of part = (part.amount, part.category)
+
 -- `split`: a transaction, and its parts, one or more
 abbrev pub split_words : Wanted
 split_words = word (λ id. some_shares [] (λ shares. pair (Split id (map part_of shares))))

@@ -13,9 +13,10 @@ ghost use Rattle.kept_messages.specs.Pairs.{pairs_of};
 ghost use Rattle.device_core.specs.Books.{rows_of};
 ghost use Rattle.command_lines.specs.Readings.{answer, book_answer, shown, IsReading, AsksBooks};
 
-use crate::book_answer::{balance_reply, cell_reply, register_reply, sheet_reply};
+use crate::book_answer::{balance_reply, broken_reply, cell_reply, register_reply, sheet_reply};
 use crate::command::Command;
 use crate::reply::{Reply, one_line};
+use crate::text_lines::lines_in;
 use book_rows::Book;
 use device_core::Device;
 use field_merge::{Log, Message, message_lines, push_escaped, write_line};
@@ -32,28 +33,6 @@ fn lines_of(alloc: Global, messages: &[Message]) -> Result<Items<Txt>, NoMemory>
     let mut lines = Vec::new(alloc);
     for message in messages {
         lines.push(write_line(alloc, message)?)?;
-    }
-    Ok(Items::new(lines))
-}
-
-/// Cuts a text at its first LF.
-fn cut_line(text: &str) -> Option<(&str, &str)>
-    ensures pieces { MatchOption result (slice_split (λ b. b == 10) text.now ≡ text.now ∷ [])
-        (λ p. slice_split (λ b. b == 10) text.now ≡ p.0.now ∷ slice_split (λ b. b == 10) p.1.now) }
-    ensures shorter { IfSome result (λ p. length p.1.now < length text.now) }
-{
-    text.split_once('\n')
-}
-
-/// The lines of a text, of which each has its end.
-fn lines_in(alloc: Global, text: &str) -> Result<Items<Txt>, NoMemory>
-    ensures { IfOk result (λ lines. (last : List ℕ) × (slice_split (λ b. b == 10) text.now ≡ lines ++ last ∷ [])) }
-{
-    let mut lines = Vec::new(alloc);
-    let mut rest = text;
-    'lines: while let Some((line, after)) = cut_line(rest) {
-        lines.push(Txt::from_text(alloc, line)?)?;
-        rest = after;
     }
     Ok(Items::new(lines))
 }
@@ -159,6 +138,7 @@ fn book_reply_over<G: Ledger>(
         Command::Register { account } => register_reply(alloc, book, account, &mut steps),
         Command::Cell { month, name } => cell_reply(alloc, book, *month, name, &mut steps),
         Command::Sheet { month } => sheet_reply(alloc, book, *month, &mut steps),
+        Command::Broken => broken_reply(alloc, book),
         _ => unreachable!(),
     }
 }
@@ -181,7 +161,7 @@ fn told_of_books(alloc: Global, device: &Device, command: &Command) -> Result<Re
     book_reply(alloc, device.book(), command)
 }
 
-/// The reply to a line that only reads: `fields`, `messages`, `value`, `trie`, `balance`, `register`, `cell` or `sheet`. It is told
+/// The reply to a line that only reads: `fields`, `messages`, `value`, `trie`, `balance`, `register`, `cell`, `sheet` or `broken`. It is told
 /// by the device's messages alone, so devices that have the same messages reply the same.
 pub fn read_reply(alloc: Global, device: &Device, command: &Command) -> Result<Reply, NoMemory>
     requires live { device.now.spent ≡ false }
@@ -205,7 +185,12 @@ pub fn read_reply(alloc: Global, device: &Device, command: &Command) -> Result<R
         Command::Balance { .. }
         | Command::Register { .. }
         | Command::Cell { .. }
-        | Command::Sheet { .. } => told_of_books(alloc, device, command),
-        Command::Edit(_) | Command::Receive { .. } => unreachable!(),
+        | Command::Sheet { .. }
+        | Command::Broken => told_of_books(alloc, device, command),
+        Command::Edit(_)
+        | Command::Undo
+        | Command::Redo
+        | Command::Receive { .. }
+        | Command::Sync => unreachable!(),
     }
 }

@@ -7,16 +7,18 @@ ghost use Rattle.envelope_cells.specs.BudgetOf.{budget_of};
 ghost use Rattle.envelope_cells.specs.CellOf.{cell_of};
 ghost use Rattle.envelope_cells.specs.SheetOf.{sheet_of};
 ghost use Rattle.command_lines.specs.declared.reply.Reply.TheVariants.{Done};
-ghost use Rattle.command_lines.specs.BookAnswers.{balance_answer, register_answer, told_cell, cell_or_faulty, cell_answer, cell_text, sheet_answer};
+ghost use Rattle.command_lines.specs.BookAnswers.{balance_answer, register_answer, told_cell, cell_or_faulty, cell_answer, cell_text, sheet_answer, broken_answer};
 
 use crate::cell_names::{cell_named, is_of_group};
 use crate::refusal::{bad_month, no_account, no_category, no_group};
 use crate::register::register_lines;
 use crate::reply::{Reply, faulty_reply, one_line};
+use crate::text_lines::lines_in;
 use book_rows::{Book, is_month};
 use envelope_cells::{Cell, CellName, sheet, sheets_tell_cells};
 use field_values::{Items, NoMemory, Steps, Txt};
 use itoa::Buffer;
+use split_transfer::broken;
 use std::alloc::Global;
 use std::sync::ledger::Ledger;
 
@@ -177,5 +179,15 @@ pub(crate) fn sheet_reply<G: Ledger>(
     }
     let sheet = sheet(alloc, book, month, steps)?;
     let lines = cell_lines(alloc, sheet.cells.as_slice())?;
+    Ok(Reply::Done { lines })
+}
+
+/// The reply to `broken`: the transfers and splits that are wrong.
+pub(crate) fn broken_reply(alloc: Global, book: &Book) -> Result<Reply, NoMemory>
+    requires live { book.now.spent ≡ false }
+    ensures { IfOk result (λ r. r ≡ broken_answer book.now.rows) }
+{
+    let text = broken(alloc, book)?;
+    let lines = lines_in(alloc, text.as_str())?;
     Ok(Reply::Done { lines })
 }

@@ -47,14 +47,14 @@ pub enum Command {
 
 impl Command {
     /// An equal command.
-    pub fn copy(&self) -> Result<Command, NoMemory>
+    pub fn copy(&self, alloc: Global) -> Result<Command, NoMemory>
         ensures value { IfOk result (λ command. command ≡ self.now) }
 
         // A command without texts takes no memory, so it is always copied.
         ensures memory { OnErr result (HoldsText self.now) }
     {
         match self {
-            Command::Edit(edit) => Ok(Command::Edit(edit.copy()?)),
+            Command::Edit(edit) => Ok(Command::Edit(edit.copy(alloc)?)),
             Command::Receive { message } => Ok(Command::Receive {
                 message: message.copy()?,
             }),

@@ -18,6 +18,7 @@ mod register;
 mod reply;
 mod session_lines;
 mod sync_reply;
+mod text_lines;
 mod words;
 
 pub use answer::read_reply;

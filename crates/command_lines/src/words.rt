@@ -1,5 +1,5 @@
 //! The words of a line, read one after the other.
-ghost use Rattle.std.specs.Prelude.{◌≡◌, ◌≢◌, ◌+◌, ◌<◌, ◌^◌, ◌∷◌, [], IfOk, IfErr, OnOk, IfNone, IfSome, List, ℕ, ℤ, length, Bool as Truth, Option as Choice};
+ghost use Rattle.std.specs.Prelude.{◌≡◌, ◌≢◌, ◌+◌, ◌<◌, ◌^◌, ◌∷◌, [], IfOk, IfErr, OnOk, IfNone, IfSome, IsTrue, false, List, ℕ, ℤ, length, Bool as Truth, Option as Choice};
 ghost use Rattle.std.specs.Option.{option_copied};
 ghost use Rattle.field_values.specs.Names.{IsName};
 ghost use Rattle.field_merge.specs.Lines.{parts};
@@ -73,6 +73,14 @@ impl<'a> Words<'a> {
         Some(word)
     }
 
+    /// Whether no word is left.
+    pub(crate) fn is_done(&self) -> bool
+        ensures done { IsTrue result → self.now.words ≡ [] }
+        ensures more { result ≡ false → self.now.words ≢ [] }
+    {
+        self.rest.is_none()
+    }
+
     /// The fault of a word behind the one that was read last: it is missing, or one too many.
     fn behind_last(&self) -> CommandFault
         ensures { result ≡ CommandFault.BadCommand (self.now.last + 1) }
@@ -83,7 +91,7 @@ impl<'a> Words<'a> {
     }
 
     /// The fault of the word that was read last.
-    fn at_last(&self) -> CommandFault
+    pub(crate) fn at_last(&self) -> CommandFault
         ensures { result ≡ CommandFault.BadCommand self.now.last }
     {
         CommandFault::BadCommand { word: self.last }
@@ -94,6 +102,7 @@ impl<'a> Words<'a> {
         ensures ok { IfOk result (λ text. (next : List ℕ → Wanted) → command_of_unread (word next) self.old ≡ command_of_unread (next text) self.new) }
         ensures err { IfErr result (λ fault. (next : List ℕ → Wanted) → IsCommandFault (command_of_unread (word next) self.old) fault) }
         ensures there { OnOk result (HasText self.old.words) }
+        ensures fewer { OnOk result (length self.new.words < length self.old.words) }
         ensures memory { IfErr result (λ fault. fault ≡ CommandFault.NoMemory → HasText self.old.words) }
     {
         let Some(written) = self.next() else {
@@ -144,6 +153,7 @@ impl<'a> Words<'a> {
         ensures ok { IfOk result (λ amount. (next : ℤ → Wanted) → command_of_unread (amount_word next) self.old ≡ command_of_unread (next amount) self.new) }
         ensures err { IfErr result (λ fault. (next : ℤ → Wanted) → IsCommandFault (command_of_unread (amount_word next) self.old) fault) }
         ensures there { OnOk result (HasText self.old.words) }
+        ensures fewer { OnOk result (length self.new.words < length self.old.words) }
         ensures memory { IfErr result (λ fault. fault ≡ CommandFault.NoMemory → HasText self.old.words) }
     {
         let text = self.text(alloc)?;
@@ -203,6 +213,7 @@ impl<'a> Words<'a> {
         ensures ok { IfOk result (λ id. (next : Choice (List ℕ) → Wanted) → command_of_unread (id_word next) self.old ≡ command_of_unread (next id) self.new) }
         ensures err { IfErr result (λ fault. (next : Choice (List ℕ) → Wanted) → IsCommandFault (command_of_unread (id_word next) self.old) fault) }
         ensures there { OnOk result (HasText self.old.words) }
+        ensures fewer { OnOk result (length self.new.words < length self.old.words) }
         ensures memory { IfErr result (λ fault. fault ≡ CommandFault.NoMemory → HasText self.old.words) }
     {
         let text = self.text(alloc)?;

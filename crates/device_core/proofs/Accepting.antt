@@ -9,7 +9,11 @@ use Rattle.book_rows.specs.declared.fault.EditFault.{EditFault}
 use Rattle.book_rows.specs.declared.write.Write.{Write}
 use Rattle.device_core.specs.Books.{rows_of}
 use Rattle.device_core.specs.Edits.{writes_of}
-use Rattle.device_core.specs.Device.{State, DeviceState, Accepted, at_rest, accepted_as, first_in_row, writing, received}
+use Rattle.edit_history.specs.declared.history.Turn.{Turn}
+use Rattle.edit_history.specs.declared.history.Turn.TheVariants.{New, Undo, Redo}
+use Rattle.edit_history.specs.History.{latest_of}
+use Rattle.book_rows.specs.declared.fault.EditFault.TheVariants.{NothingToUndo, NothingToRedo}
+use Rattle.device_core.specs.Device.{State, DeviceState, Accepted, at_rest, accepted_as, first_in_row, writing, writes_back, received}
 use Rattle.device_core.specs.Placing.{stamped, made_ids}
 use Rattle.device_core.specs.Accepting.{Brings, left_by, IsLine, IsJoined, AcceptedAreJoined}
 use Rattle.device_core.proofs.Drawing.{draw_valid}
@@ -27,11 +31,11 @@ drawn_lines old clock reading w ws valid drawn =
     let room : length (w ∷ ws) - 1 ≤ clock.counter = told.1 in
     ids_lines (first_in_row clock (length (w ∷ ws))) 0 (w ∷ ws) (record { within = told.0.within; counter = omega (arith, counter); node = told.0.node }) (omega (arith, counter, room))
 
-writes_joined : (s : State) (reading : ℕ) (ws : Result (List Write) EditFault) (a : Accepted) → writing s reading ws ≡ Ok a → IsJoined s a
-writes_joined s reading (Err fault) a h = absurd (cc)
-writes_joined s reading (Ok []) a h = let same : accepted_as (at_rest s) 0 ≡ a = cc in subst (IsJoined s) same (nothing_joined s)
-writes_joined s reading (Ok (w ∷ ws)) a h =
-    let x = is_written s reading w ws a h in
+writes_joined : (s : State) (turn : Turn) (reading : ℕ) (ws : Result (List Write) EditFault) (a : Accepted) → writing s turn reading ws ≡ Ok a → IsJoined s a
+writes_joined s turn reading (Err fault) a h = absurd (cc)
+writes_joined s turn reading (Ok []) a h = let same : accepted_as (at_rest s) 0 ≡ a = cc in subst (IsJoined s) same (nothing_joined s)
+writes_joined s turn reading (Ok (w ∷ ws)) a h =
+    let x = is_written s turn reading w ws a h in
     let d = is_drawn s.clock x.clock reading (length (w ∷ ws)) x.drawn in
     subst (IsJoined s) x.is (record {
       brings = record { news = stamped (first_in_row x.clock (length (w ∷ ws))) (w ∷ ws); batch = refl; messages = refl };
@@ -50,7 +54,7 @@ messages_joined s ns reading a h =
     }
 
 pub accepted_joined : AcceptedAreJoined
-accepted_joined = record { of_edits = λ s edit reading a h. writes_joined s reading (writes_of (rows_of s.messages) edit) a h; of_messages = messages_joined }
+accepted_joined = record { of_edits = λ s edit reading a h. writes_joined s New reading (writes_of (rows_of s.messages) edit) a h; of_undo = λ s reading a h. writes_joined s Undo reading (writes_back NothingToUndo (latest_of s.history.undo)) a h; of_redo = λ s reading a h. writes_joined s Redo reading (writes_back NothingToRedo (latest_of s.history.redo)) a h; of_messages = messages_joined }
 
 -- a device that an accepted line left brings what the line brought
 pub brings_device : (old : List Message) (device : DeviceState) (count : ℕ) → Brings old (left_by (accepted_as device count)) → Brings old device

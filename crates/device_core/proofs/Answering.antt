@@ -19,6 +19,7 @@ use Rattle.book_rows.specs.declared.write.Write.{Write}
 use Rattle.book_edits.specs.Writing.{write}
 use Rattle.book_edits.specs.Edits.{bad_id, write_unless}
 use Rattle.device_core.specs.declared.edit.LineRefusal.TheVariants.{Edit as OfEdit}
+use Rattle.edit_history.specs.declared.history.Turn.TheVariants.{New}
 use Rattle.device_core.specs.Device.{State, written, writing, taken_in, receiving, greatest_of, received}
 use Rattle.device_core.specs.Answering.{IsAcceptedAt, IsFirstBadName, WritesAreAnswered, MessagesAreAnswered}
 
@@ -70,36 +71,36 @@ pub no_fault : (names : FieldNames) → AreNames names → names_fault names ≡
 no_fault names are = rw (name_fault-none Dataset names.dataset are.dataset, name_fault-none Row names.row are.row) (name_fault-none Column names.column are.column)
 
 named : (s : State) (reading : ℕ) (names : FieldNames) (value : Value) → AreNames names
-    → writing s reading (write_unless (names_fault names) names value) ≡ written s (write names.dataset (Given names.row) names.column value ∷ []) (draw s.clock reading 1)
-named s reading names value are = ap (λ o. writing s reading (write_unless o names value)) (no_fault names are)
+    → writing s New reading (write_unless (names_fault names) names value) ≡ written s New (write names.dataset (Given names.row) names.column value ∷ []) (draw s.clock reading 1)
+named s reading names value are = ap (λ o. writing s New reading (write_unless o names value)) (no_fault names are)
 
-no_bad_id : (s : State) (ws : List Write) (r : Result Stamp ClockFault) (id : List ℕ) → written s ws r ≡ Err (OfEdit (BadId id)) → ⊥
+no_bad_id : (s : State) (ws : List Write) (r : Result Stamp ClockFault) (id : List ℕ) → written s New ws r ≡ Err (OfEdit (BadId id)) → ⊥
 no_bad_id s ws (Ok clock) id h = cc
 no_bad_id s ws (Err fault) id h = cc
 
 refused_for : (s : State) (dataset row column : List ℕ) (value : Value) (reading : ℕ) (fault : NameFault) → names_fault (field_of dataset row column) ≡ Some fault
-    → writing s reading (write_unless (names_fault (field_of dataset row column)) (field_of dataset row column) value) ≡ Err (OfEdit (bad_id (field_of dataset row column) fault))
-refused_for s dataset row column value reading fault h = ap (λ o. writing s reading (write_unless o (field_of dataset row column) value)) h
+    → writing s New reading (write_unless (names_fault (field_of dataset row column)) (field_of dataset row column) value) ≡ Err (OfEdit (bad_id (field_of dataset row column) fault))
+refused_for s dataset row column value reading fault h = ap (λ o. writing s New reading (write_unless o (field_of dataset row column) value)) h
 
 pub writes_answered : WritesAreAnswered
 writes_answered s dataset row column value reading =
     let names : FieldNames = field_of dataset row column in
     let ws : List Write = write dataset (Given row) column value ∷ [] in record {
-      accepted = λ clock are drawn. (_, (named s reading names value are ∙ ap (written s ws) drawn, refl));
-      no_stamp = λ fault are drawn. named s reading names value are ∙ ap (written s ws) drawn;
+      accepted = λ clock are drawn. (_, (named s reading names value are ∙ ap (written s New ws) drawn, refl));
+      no_stamp = λ fault are drawn. named s reading names value are ∙ ap (written s New ws) drawn;
       bad_name = λ bad. refused bad (names_fault (field_of dataset row column)) refl;
       first_bad = λ id h. first id (names_fault (field_of dataset row column)) refl h;
     }
   where
     refused : (AreNames (field_of dataset row column) → ⊥) → (o : Option NameFault) → names_fault (field_of dataset row column) ≡ o
-        → (id : List ℕ) × (writing s reading (write_unless (names_fault (field_of dataset row column)) (field_of dataset row column) value) ≡ Err (OfEdit (BadId id)))
+        → (id : List ℕ) × (writing s New reading (write_unless (names_fault (field_of dataset row column)) (field_of dataset row column) value) ≡ Err (OfEdit (BadId id)))
     refused bad None is = absurd (bad (names_without_fault (field_of dataset row column) is))
     refused bad (Some fault) is =
         let t = first_told dataset row column fault is in
         (t.id, refused_for s dataset row column value reading fault is ∙ ap (λ f. Err (OfEdit f)) t.told)
 
     first : (id : List ℕ) (o : Option NameFault) → names_fault (field_of dataset row column) ≡ o
-        → writing s reading (write_unless o (field_of dataset row column) value) ≡ Err (OfEdit (BadId id)) → IsFirstBadName dataset row column id
+        → writing s New reading (write_unless o (field_of dataset row column) value) ≡ Err (OfEdit (BadId id)) → IsFirstBadName dataset row column id
     first id None is h = absurd (no_bad_id s (write dataset (Given row) column value ∷ []) (draw s.clock reading 1) id h)
     first id (Some fault) is h =
         let t = first_told dataset row column fault is in

@@ -23,7 +23,7 @@ value_of m = m.value
 
 -- ---- the values that messages leave one after the other
 
-abbrev values_after : Values → List Message → Values
+abbrev pub values_after : Values → List Message → Values
 values_after values [] = values
 values_after values (m ∷ ms) = values_after (with_value values m.field m.value) ms
 
@@ -32,7 +32,7 @@ rows_after values rows [] are = are
 rows_after values rows (m ∷ ms) are = rows_after (with_value values m.field m.value) (with_field rows m.field m.value) ms (rows_follow values m.field m.value rows are)
 
 -- a field has the value of its latest message, or else that of before
-after_is : (values : Values) (ms : List Message) (f : FieldNames) → values_after values ms f ≡ option_or (value_in ms f) (values f)
+pub after_is : (values : Values) (ms : List Message) (f : FieldNames) → values_after values ms f ≡ option_or (value_in ms f) (values f)
 after_is values [] f = refl
 after_is values (m ∷ ms) f =
     after_is (with_value values m.field m.value) ms f

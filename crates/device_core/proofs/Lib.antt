@@ -4,6 +4,7 @@ pub mod Ids
 pub mod Drawing
 pub mod Greatest
 pub mod Writing
+pub mod RowsDated
 pub mod Making
 pub mod ReadBack
 pub mod GreatestTold
@@ -12,3 +13,4 @@ pub mod Answering
 pub mod Several
 pub mod Accepting
 pub mod RowsNamed
+pub mod Undoing

@@ -1,13 +1,18 @@
 -- An edit that makes writes, and that they are valid.
 use Rattle.std.proofs.Common.{◌≡◌, List, Ok, sym, ◌∙◌}
 use Rattle.book_rows.specs.declared.rows.Rows.{Rows}
-use Rattle.book_rows.specs.Named.{HasNames}
 use Rattle.book_rows.specs.declared.write.Write.{Write}
 use Rattle.book_rows.specs.Writes.{AreWrites}
 use Rattle.book_edits.proofs.ValidWrites as books
+use Rattle.split_transfer.proofs.ValidWrites as pairs
+use Rattle.field_merge.specs.declared.message.Message.{Message}
+use Rattle.field_merge.specs.Messages.{AreMessages}
+use Rattle.device_core.specs.Books.{rows_of}
+use Rattle.device_core.proofs.RowsNamed.{rows_named}
+use Rattle.device_core.proofs.RowsDated.{rows_dated}
 use Rattle.book_edits.specs.declared.edit.BookEdit.TheVariants.{Set, AccountAdd, AccountRename, AccountOffbudget, AccountReopen, AccountClose, GroupAdd, GroupRename, GroupDelete, CategoryAdd, CategoryRename, CategoryMove, CategoryDelete, PayeeAdd, PayeeRename, PayeeDelete, TxAdd, Budget, Carryover, Hold, Move, Note}
 use Rattle.device_core.specs.declared.edit.Edit.{Edit}
-use Rattle.device_core.specs.declared.edit.Edit.TheVariants.{Book}
+use Rattle.device_core.specs.declared.edit.Edit.TheVariants.{Book, Pair}
 use Rattle.device_core.specs.Edits.{writes_of, IsEdit, MayWantMemory}
 
 -- memory may have been wanted
@@ -34,7 +39,9 @@ made_may rows (Book (Carryover month category carries)) ws made = tt
 made_may rows (Book (Hold month amount)) ws made = tt
 made_may rows (Book (Move month from to amount)) ws made = tt
 made_may rows (Book (Note id text)) ws made = tt
+made_may rows (Pair edit) ws made = tt
 
--- the writes of an edit in a book whose ids are names
-pub writes_valid : (rows : Rows) (edit : Edit) (ws : List Write) → HasNames rows → IsEdit edit → writes_of rows edit ≡ Ok ws → AreWrites ws
-writes_valid rows (Book edit) ws names is h = books.writes_valid rows names edit ws is h
+-- the writes of an edit in the book of valid messages
+pub writes_valid : (ms : List Message) (edit : Edit) (ws : List Write) → AreMessages ms → IsEdit edit → writes_of (rows_of ms) edit ≡ Ok ws → AreWrites ws
+writes_valid ms (Book edit) ws are is h = books.writes_valid (rows_of ms) (rows_named ms are) edit ws is h
+writes_valid ms (Pair edit) ws are is h = pairs.writes_valid (rows_of ms) (rows_named ms are) edit ws (rows_dated ms edit) h

@@ -63,6 +63,7 @@ nothing_taken s reading = record {
   grown = omega arith;
   pending = refl;
   none_made = refl;
+  same_history = refl;
   at_clock = λ t e. absurd (cc);
   at_rest = λ e. refl;
   own = refl;
@@ -71,7 +72,7 @@ nothing_taken s reading = record {
 }
 
 some_taken : (s : State) (ns : List Message) (reading : ℕ) (t clock : Stamp) → greatest_of ns ≡ Some t → receive s.clock reading t ≡ Ok clock
-    → AreTakenIn s ns reading (accepted_as (with_messages s.messages ns clock []) (length (new_in s.messages ns)))
+    → AreTakenIn s ns reading (accepted_as (with_messages s.messages ns clock s.history []) (length (new_in s.messages ns)))
 some_taken s ns reading t clock is drawn =
     let after = receive_later s.clock t clock reading drawn in
     let up : IsAhead clock ns = ahead_later t clock ns after.came (of_ahead t ns is) in record {
@@ -79,6 +80,7 @@ some_taken s ns reading t clock is drawn =
       grown = one_each s.messages ns;
       pending = refl;
       none_made = refl;
+      same_history = refl;
       at_clock = λ u e. let same : t ≡ u = cc in subst (λ (x : Stamp). receive s.clock reading x ≡ Ok clock) same drawn;
       at_rest = λ none. absurd (let no = ap greatest_of none in cc);
       own = after.own;
@@ -92,7 +94,7 @@ received_joined s ns reading a h = by (greatest_of ns) refl h
     taken : (t : Stamp) (r : Result Stamp ClockFault) → greatest_of ns ≡ Some t → receive s.clock reading t ≡ r → taken_in s ns r ≡ Ok a → AreTakenIn s ns reading a
     taken t (Err fault) is drawn k = absurd (cc)
     taken t (Ok clock) is drawn k =
-        let same : accepted_as (with_messages s.messages ns clock []) (length (new_in s.messages ns)) ≡ a = cc in
+        let same : accepted_as (with_messages s.messages ns clock s.history []) (length (new_in s.messages ns)) ≡ a = cc in
         subst (AreTakenIn s ns reading) same (some_taken s ns reading t clock is drawn)
 
     by : (o : Option Stamp) → greatest_of ns ≡ o → receiving s ns reading o ≡ Ok a → AreTakenIn s ns reading a

@@ -25,6 +25,8 @@ use Rattle.book_rows.specs.declared.fault.EditFault.{EditFault}
 use Rattle.book_rows.specs.declared.fault.EditFault.TheVariants.{TooManyWrites}
 use Rattle.book_rows.specs.declared.write.RowName.TheVariants.{Made}
 use Rattle.book_rows.specs.declared.write.Write.{Write}
+use Rattle.edit_history.specs.declared.history.Turn.{Turn}
+use Rattle.edit_history.specs.declared.history.Turn.TheVariants.{New}
 use Rattle.device_core.specs.declared.edit.LineRefusal.TheVariants.{Edit as OfEdit}
 use Rattle.device_core.specs.Books.{rows_of}
 use Rattle.device_core.specs.Edits.{writes_of}
@@ -86,11 +88,11 @@ before_next : (ms : List Message) (n : Message) (next : Stamp) → AreBefore n.s
 before_next [] n next low later = (later, tt)
 before_next (m ∷ ms) n next low later = (later_trans m.stamp n.stamp next low.0 later, before_next ms n next low.1 later)
 
-record AreBehind (ms ns : List Message) : Type 0 where
-  joined : join ms ns ≡ ms ++ ns
-  new : new_in ms ns ≡ ns
+pub record AreBehind (ms ns : List Message) : Type 0 where
+  pub joined : join ms ns ≡ ms ++ ns
+  pub new : new_in ms ns ≡ ns
 
-join_row : (ms : List Message) (first : Stamp) (n : ℕ) (ws : List Write) → AreBefore (stamp_at first n) ms → AreBehind ms (messages_from first n ws)
+pub join_row : (ms : List Message) (first : Stamp) (n : ℕ) (ws : List Write) → AreBefore (stamp_at first n) ms → AreBehind ms (messages_from first n ws)
 join_row ms first n [] low = record { joined = sym (append-nil ms); new = refl }
 join_row ms first n (w ∷ ws) low =
     let m : Message = message_at first n w in
@@ -102,11 +104,11 @@ join_row ms first n (w ∷ ws) low =
       new = ap (λ b. cond b (new_in ms ns) (m ∷ new_in (join_one ms m) ns)) unknown ∙ ap (λ l. m ∷ new_in l ns) one ∙ ap (λ l. m ∷ l) rest.new;
     }
 
-later_at : (clock first : Stamp) (n : ℕ) → IsLater clock first → IsLater clock (stamp_at first n)
+pub later_at : (clock first : Stamp) (n : ℕ) → IsLater clock first → IsLater clock (stamp_at first n)
 later_at clock first n (inl p) = inl p
 later_at clock first n (inr p) = inr (p.0, (let x = p.1 in omega arith))
 
-row_length : (first : Stamp) (n : ℕ) (ws : List Write) → length (messages_from first n ws) ≡ length ws
+pub row_length : (first : Stamp) (n : ℕ) (ws : List Write) → length (messages_from first n ws) ≡ length ws
 row_length first n [] = refl
 row_length first n (w ∷ ws) = ap suc (row_length first (n + 1) ws)
 
@@ -157,19 +159,19 @@ are_other f (m ∷ ms) alone = (not_of f m.field alone.0, are_other f ms alone.1
 -- ---- what was written
 
 -- the clock drew this for the writes
-pub record IsWritten (s : State) (reading : ℕ) (ws : List Write) (accepted : Accepted) : Type 0 where
+pub record IsWritten (s : State) (turn : Turn) (reading : ℕ) (ws : List Write) (accepted : Accepted) : Type 0 where
   pub clock : Stamp
   pub drawn : draw s.clock reading (length ws) ≡ Ok clock
-  pub is : accepted_as (with_writes s.messages (first_in_row clock (length ws)) ws clock) (length ws) ≡ accepted
+  pub is : accepted_as (with_writes s turn (first_in_row clock (length ws)) ws clock) (length ws) ≡ accepted
 
-pub is_written : (s : State) (reading : ℕ) (w : Write) (ws : List Write) (a : Accepted) → writing s reading (Ok (w ∷ ws)) ≡ Ok a → IsWritten s reading (w ∷ ws) a
-is_written s reading w ws a h = by (nat_lt 65_536 (length (w ∷ ws))) h
+pub is_written : (s : State) (turn : Turn) (reading : ℕ) (w : Write) (ws : List Write) (a : Accepted) → writing s turn reading (Ok (w ∷ ws)) ≡ Ok a → IsWritten s turn reading (w ∷ ws) a
+is_written s turn reading w ws a h = by (nat_lt 65_536 (length (w ∷ ws))) h
   where
-    go : (d : Result Stamp ClockFault) → draw s.clock reading (length (w ∷ ws)) ≡ d → written s (w ∷ ws) d ≡ Ok a → IsWritten s reading (w ∷ ws) a
+    go : (d : Result Stamp ClockFault) → draw s.clock reading (length (w ∷ ws)) ≡ d → written s turn (w ∷ ws) d ≡ Ok a → IsWritten s turn reading (w ∷ ws) a
     go (Ok clock) is k = record { clock = clock; drawn = is; is = cc }
     go (Err fault) is k = absurd (cc)
 
-    by : (many : Bool) → cond many (Err (OfEdit (TooManyWrites (length (w ∷ ws))))) (written s (w ∷ ws) (draw s.clock reading (length (w ∷ ws)))) ≡ Ok a → IsWritten s reading (w ∷ ws) a
+    by : (many : Bool) → cond many (Err (OfEdit (TooManyWrites (length (w ∷ ws))))) (written s turn (w ∷ ws) (draw s.clock reading (length (w ∷ ws)))) ≡ Ok a → IsWritten s turn reading (w ∷ ws) a
     by true k = absurd (cc)
     by false k = go (draw s.clock reading (length (w ∷ ws))) refl k
 
@@ -210,9 +212,9 @@ to_start first ws id m =
       text = ap (id_at first) (sym place) ∙ m.text;
     }
 
-joined_writes : (s : State) (clock first : Stamp) (ws : List Write) → clock ≡ stamp_at first (length ws - 1) → IsLater s.clock first → first.node ≡ s.clock.node → IsAhead s.clock s.messages
-    → AreJoinedWrites s ws (accepted_as (with_writes s.messages first ws clock) (length ws))
-joined_writes s clock first ws row later own ahead =
+joined_writes : (s : State) (turn : Turn) (clock first : Stamp) (ws : List Write) → clock ≡ stamp_at first (length ws - 1) → IsLater s.clock first → first.node ≡ s.clock.node → IsAhead s.clock s.messages
+    → AreJoinedWrites s turn ws (accepted_as (with_writes s turn first ws clock) (length ws))
+joined_writes s turn clock first ws row later own ahead =
     let b = join_row s.messages first 0 ws (all_past s.clock (stamp_at first 0) s.messages ahead (later_at s.clock first 0 later)) in record {
       messages = stamped first ws;
       first = first;
@@ -233,26 +235,27 @@ joined_writes s clock first ws row later own ahead =
       made_new = λ id m none c there is.
           let x = made_makes first 0 ws id c in
           not_both s.clock (stamp_at first (0 + x.place)) (later_at s.clock first (0 + x.place) later) (none m (stamp_at first (0 + x.place)) there (is ∙ sym x.text));
+      entry = refl;
       pending = ap (map record_of) b.new;
       counted = refl;
     }
 
-some_joined : (s : State) (reading : ℕ) (w : Write) (ws : List Write) (a : Accepted) → IsAhead s.clock s.messages → writing s reading (Ok (w ∷ ws)) ≡ Ok a → AreJoinedWrites s (w ∷ ws) a
-some_joined s reading w ws a ahead h =
-    let x = is_written s reading w ws a h in
+pub some_joined : (s : State) (turn : Turn) (reading : ℕ) (w : Write) (ws : List Write) (a : Accepted) → IsAhead s.clock s.messages → writing s turn reading (Ok (w ∷ ws)) ≡ Ok a → AreJoinedWrites s turn (w ∷ ws) a
+some_joined s turn reading w ws a ahead h =
+    let x = is_written s turn reading w ws a h in
     let d = is_drawn s.clock x.clock reading (length (w ∷ ws)) x.drawn in
     let first : d.first ≡ first_in_row x.clock (length (w ∷ ws)) = sym (first_is x.clock d.first (length (w ∷ ws)) d.row) in
-    subst (AreJoinedWrites s (w ∷ ws)) x.is
-    (subst (λ (t : Stamp). AreJoinedWrites s (w ∷ ws) (accepted_as (with_writes s.messages t (w ∷ ws) x.clock) (length (w ∷ ws)))) first
-    (joined_writes s x.clock d.first (w ∷ ws) d.row d.later d.own ahead))
+    subst (AreJoinedWrites s turn (w ∷ ws)) x.is
+    (subst (λ (t : Stamp). AreJoinedWrites s turn (w ∷ ws) (accepted_as (with_writes s turn t (w ∷ ws) x.clock) (length (w ∷ ws)))) first
+    (joined_writes s turn x.clock d.first (w ∷ ws) d.row d.later d.own ahead))
 
 pub writes_joined : WritesAreJoined
 writes_joined = record {
   joined = some_joined;
-  accepted = λ s reading w ws clock few drawn. (_, (writing_some s reading (w ∷ ws) (omega arith) few ∙ ap (written s (w ∷ ws)) drawn, refl));
-  no_stamp = λ s reading w ws fault few drawn. writing_some s reading (w ∷ ws) (omega arith) few ∙ ap (written s (w ∷ ws)) drawn;
+  accepted = λ s turn reading w ws clock few drawn. (_, (writing_some s turn reading (w ∷ ws) (omega arith) few ∙ ap (written s turn (w ∷ ws)) drawn, refl));
+  no_stamp = λ s turn reading w ws fault few drawn. writing_some s turn reading (w ∷ ws) (omega arith) few ∙ ap (written s turn (w ∷ ws)) drawn;
   too_many = writing_many;
-  none = λ s reading. refl;
+  none = λ s turn reading. refl;
 }
 
 -- ---- an edit
@@ -260,7 +263,7 @@ writes_joined = record {
 pub edits_made : EditsAreMade
 edits_made s edit reading a ahead h = by (writes_of (rows_of s.messages) edit) refl h
   where
-    by : (o : Result (List Write) EditFault) → writes_of (rows_of s.messages) edit ≡ o → writing s reading o ≡ Ok a → IsMade s edit a
+    by : (o : Result (List Write) EditFault) → writes_of (rows_of s.messages) edit ≡ o → writing s New reading o ≡ Ok a → IsMade s edit a
     by (Err fault) e k = absurd (cc)
     by (Ok []) e k = record { writes = []; meant = e; some = λ w ws is. absurd (cc); none = λ is. cc }
-    by (Ok (w ∷ ws)) e k = record { writes = w ∷ ws; meant = e; some = λ v vs is. some_joined s reading w ws a ahead k; none = λ is. absurd (cc) }
+    by (Ok (w ∷ ws)) e k = record { writes = w ∷ ws; meant = e; some = λ v vs is. some_joined s New reading w ws a ahead k; none = λ is. absurd (cc) }

@@ -6,21 +6,22 @@ use Rattle.hybrid_clock.specs.declared.stamp.Stamp.{Stamp}
 use Rattle.hybrid_clock.specs.Clock.{draw}
 use Rattle.book_rows.specs.declared.fault.EditFault.TheVariants.{TooManyWrites}
 use Rattle.book_rows.specs.declared.write.Write.{Write}
+use Rattle.edit_history.specs.declared.history.Turn.{Turn}
 use Rattle.device_core.specs.declared.edit.LineRefusal.TheVariants.{Edit as OfEdit}
 use Rattle.device_core.specs.Device.{State, at_rest, accepted_as, written, writing, first_in_row}
 
-pub writing_none : (s : State) (reading : ℕ) (ws : List Write) → length ws ≡ 0 → writing s reading (Ok ws) ≡ Ok (accepted_as (at_rest s) 0)
-writing_none s reading [] none = refl
-writing_none s reading (w ∷ ws) none = absurd (omega arith)
+pub writing_none : (s : State) (turn : Turn) (reading : ℕ) (ws : List Write) → length ws ≡ 0 → writing s turn reading (Ok ws) ≡ Ok (accepted_as (at_rest s) 0)
+writing_none s turn reading [] none = refl
+writing_none s turn reading (w ∷ ws) none = absurd (omega arith)
 
-pub writing_many : (s : State) (reading : ℕ) (ws : List Write) → 65_536 < length ws → writing s reading (Ok ws) ≡ Err (OfEdit (TooManyWrites (length ws)))
-writing_many s reading [] many = absurd (omega arith)
-writing_many s reading (w ∷ ws) many =
+pub writing_many : (s : State) (turn : Turn) (reading : ℕ) (ws : List Write) → 65_536 < length ws → writing s turn reading (Ok ws) ≡ Err (OfEdit (TooManyWrites (length ws)))
+writing_many s turn reading [] many = absurd (omega arith)
+writing_many s turn reading (w ∷ ws) many =
     let test : nat_lt 65_536 (length (w ∷ ws)) ≡ true = grind (arith, nat_tests) in rw test refl
 
-pub writing_some : (s : State) (reading : ℕ) (ws : List Write) → 0 < length ws → length ws ≤ 65_536 → writing s reading (Ok ws) ≡ written s ws (draw s.clock reading (length ws))
-writing_some s reading [] some few = absurd (omega arith)
-writing_some s reading (w ∷ ws) some few =
+pub writing_some : (s : State) (turn : Turn) (reading : ℕ) (ws : List Write) → 0 < length ws → length ws ≤ 65_536 → writing s turn reading (Ok ws) ≡ written s turn ws (draw s.clock reading (length ws))
+writing_some s turn reading [] some few = absurd (omega arith)
+writing_some s turn reading (w ∷ ws) some few =
     let test : nat_lt 65_536 (length (w ∷ ws)) ≡ false = grind (arith, nat_tests) in rw test refl
 
 pub ruleset writings = (writing_none, writing_many, writing_some)

@@ -7,13 +7,15 @@ use Rattle.hybrid_clock.specs.Clock.{receive}
 use Rattle.field_merge.specs.declared.message.Message.{Message}
 use Rattle.field_merge.specs.Log.{at_stamp, join, latest}
 use Rattle.device_core.specs.declared.edit.Edit.TheVariants.{Book}
+use Rattle.edit_history.specs.declared.history.Turn.TheVariants.{New}
+use Rattle.edit_history.specs.History.{after}
 use Rattle.book_edits.specs.declared.edit.BookEdit.TheVariants.{Set}
 use Rattle.kept_messages.specs.Records.{record_of}
 use Rattle.kept_messages.specs.News.{new_in}
-use Rattle.device_core.specs.Device.{State, Accepted, IsAhead, edited, greatest_of, received}
+use Rattle.device_core.specs.Device.{State, Accepted, IsAhead, written_over, edited, greatest_of, received}
 
 -- one message under a new timestamp, which is the device's own and that at which its clock now stands, has joined those of before: it has the value that was written,
--- it is the latest of its field, its record alone is pending, no id was made, and one write was counted
+-- it is the latest of its field, its record alone is pending, no id was made, what it wrote over can be undone and nothing redone, and one write was counted
 pub record IsReadBack (before : State) (dataset row column : List ℕ) (value : Value) (accepted : Accepted) : Type 0 where
   pub message : Message
   pub new : at_stamp before.messages message.stamp ≡ None
@@ -24,6 +26,7 @@ pub record IsReadBack (before : State) (dataset row column : List ℕ) (value : 
   pub has_value : message.value ≡ value
   pub pending : accepted.batch ≡ record_of message ∷ []
   pub none_made : accepted.made ≡ []
+  pub entry : accepted.state.history ≡ after New before.history (written_over before.messages (message ∷ []))
   pub one : accepted.count ≡ 1
 
 -- a write that is accepted is read back, where the clock is not behind a message: its timestamp is new, and no message of its field is later

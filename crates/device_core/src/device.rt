@@ -13,14 +13,16 @@ ghost use Rattle.device_core.specs.declared.edit.LineRefusal.TheVariants.{Edit a
 ghost use Rattle.device_core.specs.Books.{rows_of};
 ghost use Rattle.book_rows.specs.Writes.{AreWrites};
 ghost use Rattle.book_edits.specs.Faults.{IsEditFault};
+ghost use Rattle.edit_history.specs.History.{latest_of, after};
 ghost use Rattle.device_core.specs.Edits.{IsEdit, MayWantMemory, writes_of};
-ghost use Rattle.device_core.specs.Device.{at_rest, begun, with_messages, with_writes, writing, edited, later_of, greatest_of, received, IsAhead, IsAccepted, IsRefused};
+ghost use Rattle.device_core.specs.Device.{at_rest, begun, with_messages, with_writes, written_over, writing, writes_back, edited, undone, redone, later_of, greatest_of, received, IsAhead, IsAccepted, IsRefused};
 
 use crate::edit::{Edit, LineRefusal, edit_writes};
 use crate::known::{Known, join_all, read_all};
 use crate::placing::place_writes;
 use book_rows::{Book, EditFault, Write};
 use budget_ports::Record;
+use edit_history::{History, Turn, entry_over, undo_writes};
 use field_merge::{Log, Message};
 use field_values::{Items, NoMemory, Steps, Txt};
 use hybrid_clock::{HybridClock, Node, Stamp};
@@ -35,7 +37,7 @@ const MOST_WRITES: usize = 65_536;
 
 /// A device of a household.
 ///
-/// A contract sees its messages, the timestamp at which its clock stands, the records that are not
+/// A contract sees its messages, the timestamp at which its clock stands, what can be undone and redone, the records that are not
 /// kept yet, the ids that the last accepted line made for rows, and whether it is spent. A call that answers
 /// `NoMemory` and may change the device leaves it spent; then nothing but `is_spent` may be asked of
 /// it.
@@ -44,6 +46,7 @@ pub struct Device {
     alloc: Global,
     known: Known,
     clock: HybridClock,
+    history: History,
     batch: Vec<Record>,
     made: Items<Txt>,
     spent: bool,
@@ -55,7 +58,7 @@ impl Model for Device {
 
     ghost Value = { DeviceState };
 
-    ghost view = { λ d. record { state = record { messages = d.known.log.messages; clock = d.clock }; batch = d.batch.items; made = d.made; spent = d.spent } };
+    ghost view = { λ d. record { state = record { messages = d.known.log.messages; clock = d.clock; history = d.history }; batch = d.batch.items; made = d.made; spent = d.spent } };
 
     ghost invariant = { λ d. d.spent ≡ false → Stands d.known d.clock d.batch.items };
 }
@@ -64,7 +67,7 @@ impl Device {
     /// A device with this node that begins with the messages that records keep. Of records with one
     /// timestamp the first counts.
     ///
-    /// Its clock goes on after the last of them, and nothing is pending.
+    /// Its clock goes on after the last of them, nothing is pending, and nothing can be undone or redone.
     ///
     /// # Errors
     ///
@@ -83,6 +86,7 @@ impl Device {
             alloc,
             known,
             clock,
+            history: History::new(alloc),
             batch: Vec::new(alloc),
             made: Items::new(Vec::new(alloc)),
             spent: false,
@@ -93,7 +97,8 @@ impl Device {
     /// writes it was. What was pending has to be kept before (`commit`).
     ///
     /// The writes become messages under timestamps in a row, whose records are then pending; the id of a row
-    /// that is made is the text of its first write's timestamp. An edit without writes draws no timestamp. The counter of steps counts nothing yet.
+    /// that is made is the text of its first write's timestamp. What they wrote over can then be undone, and nothing can be redone any
+    /// more. An edit without writes draws no timestamp, and leaves what can be undone and redone. The counter of steps counts nothing yet.
     ///
     /// # Errors
     ///
@@ -116,7 +121,7 @@ impl Device {
         ensures steps { steps.new ≡ steps.old }
     {
         match self.writes(edit) {
-            Ok(writes) => self.write(writes.as_slice(), reading),
+            Ok(writes) => self.write(Turn::New, writes.as_slice(), reading),
             Err(EditFault::NoMemory) => {
                 self.spent = true;
                 Err(LineRefusal::NoMemory)
@@ -137,14 +142,109 @@ impl Device {
         edit_writes(self.alloc, self.book(), edit)
     }
 
+    /// Undoes the latest edit that was not undone, at a reading of the wall clock, in milliseconds since 1970, and answers how many writes
+    /// it was. What was pending has to be kept before (`commit`).
+    ///
+    /// The writes are taken from what the edit wrote over, whatever has come since. Each field that had a value gets it back; of a row that
+    /// was not there, and whose dataset has the column `tombstone`, that column gets 1, once; another field gets 0 where it is a flag or a
+    /// number, and else null. What they write over in their turn can then be redone. They are made as those of an edit are. The counter of
+    /// steps counts nothing yet.
+    ///
+    /// # Errors
+    ///
+    /// `NothingToUndo`, before memory is taken; then the clock. After a refusal the device is as it was, and after `NoMemory` it is spent.
+    pub fn undo<G: Ledger>(
+        &mut self,
+        reading: u64,
+        steps: &mut Steps<G>,
+    ) -> Result<u32, LineRefusal>
+        requires live { self.old.spent ≡ false }
+        requires idle { self.old.batch ≡ [] }
+        ensures ok { IfOk result (IsAccepted (undone self.old.state reading) self.new) }
+        ensures refused { IfErr result (IsRefused (undone self.old.state reading) self.old self.new) }
+        ensures live { OnOk result (self.new.spent ≡ false) }
+        ensures memory { result ≢ Err (OfEdit EditFault.NoMemory) }
+        ensures empty { result ≡ Err LineRefusal.NoMemory → self.old.state.history.undo ≢ [] }
+        ensures steps { steps.new ≡ steps.old }
+    {
+        match self.undo_writes() {
+            Ok(writes) => self.write(Turn::Undo, writes.as_slice(), reading),
+            Err(EditFault::NoMemory) => {
+                self.spent = true;
+                Err(LineRefusal::NoMemory)
+            }
+            Err(fault) => Err(LineRefusal::Edit(fault)),
+        }
+    }
+
+    /// Redoes the latest edit that was undone: it undoes the undo, as `undo` undoes an edit. What its writes write over can then be undone
+    /// again.
+    ///
+    /// # Errors
+    ///
+    /// `NothingToRedo`, before memory is taken; then the clock. After a refusal the device is as it was, and after `NoMemory` it is spent.
+    pub fn redo<G: Ledger>(
+        &mut self,
+        reading: u64,
+        steps: &mut Steps<G>,
+    ) -> Result<u32, LineRefusal>
+        requires live { self.old.spent ≡ false }
+        requires idle { self.old.batch ≡ [] }
+        ensures ok { IfOk result (IsAccepted (redone self.old.state reading) self.new) }
+        ensures refused { IfErr result (IsRefused (redone self.old.state reading) self.old self.new) }
+        ensures live { OnOk result (self.new.spent ≡ false) }
+        ensures memory { result ≢ Err (OfEdit EditFault.NoMemory) }
+        ensures empty { result ≡ Err LineRefusal.NoMemory → self.old.state.history.redo ≢ [] }
+        ensures steps { steps.new ≡ steps.old }
+    {
+        match self.redo_writes() {
+            Ok(writes) => self.write(Turn::Redo, writes.as_slice(), reading),
+            Err(EditFault::NoMemory) => {
+                self.spent = true;
+                Err(LineRefusal::NoMemory)
+            }
+            Err(fault) => Err(LineRefusal::Edit(fault)),
+        }
+    }
+
+    /// The writes that undo the latest entry that can be undone.
+    fn undo_writes(&self) -> Result<Vec<Write>, EditFault>
+        requires live { self.now.spent ≡ false }
+        ensures ok { IfOk result (λ ws. writes_back EditFault.NothingToUndo (latest_of self.now.state.history.undo) ≡ Ok ws.items) }
+        ensures valid { IfOk result (λ ws. AreWrites ws.items) }
+        ensures err { IfErr result (IsEditFault (writes_back EditFault.NothingToUndo (latest_of self.now.state.history.undo))) }
+        ensures some { OnOk result (self.now.state.history.undo ≢ []) }
+        ensures memory { result ≡ Err EditFault.NoMemory → self.now.state.history.undo ≢ [] }
+    {
+        match self.history.undo() {
+            Some(entry) => Ok(undo_writes(self.alloc, entry.as_slice())?),
+            None => Err(EditFault::NothingToUndo),
+        }
+    }
+
+    /// The writes that undo the latest entry that can be redone.
+    fn redo_writes(&self) -> Result<Vec<Write>, EditFault>
+        requires live { self.now.spent ≡ false }
+        ensures ok { IfOk result (λ ws. writes_back EditFault.NothingToRedo (latest_of self.now.state.history.redo) ≡ Ok ws.items) }
+        ensures valid { IfOk result (λ ws. AreWrites ws.items) }
+        ensures err { IfErr result (IsEditFault (writes_back EditFault.NothingToRedo (latest_of self.now.state.history.redo))) }
+        ensures some { OnOk result (self.now.state.history.redo ≢ []) }
+        ensures memory { result ≡ Err EditFault.NoMemory → self.now.state.history.redo ≢ [] }
+    {
+        match self.history.redo() {
+            Some(undone) => Ok(undo_writes(self.alloc, undone.as_slice())?),
+            None => Err(EditFault::NothingToRedo),
+        }
+    }
+
     /// Makes writes at a reading of the wall clock.
     #[tactic(auto, using(crate::proofs::Writing::writings))]
-    fn write(&mut self, writes: &[Write], reading: u64) -> Result<u32, LineRefusal>
+    fn write(&mut self, turn: Turn, writes: &[Write], reading: u64) -> Result<u32, LineRefusal>
         requires live { self.old.spent ≡ false }
         requires idle { self.old.batch ≡ [] }
         requires valid { AreWrites writes.now }
-        ensures ok { IfOk result (IsAccepted (writing self.old.state reading (Ok writes.now)) self.new) }
-        ensures refused { IfErr result (IsRefused (writing self.old.state reading (Ok writes.now)) self.old self.new) }
+        ensures ok { IfOk result (IsAccepted (writing self.old.state turn reading (Ok writes.now)) self.new) }
+        ensures refused { IfErr result (IsRefused (writing self.old.state turn reading (Ok writes.now)) self.old self.new) }
         ensures live { OnOk result (self.new.spent ≡ false) }
         ensures memory { result ≢ Err (OfEdit EditFault.NoMemory) }
     {
@@ -160,7 +260,7 @@ impl Device {
             Ok(first) => first,
             Err(fault) => return Err(LineRefusal::Clock(fault)),
         };
-        match self.join_writes(first, writes) {
+        match self.join_writes(turn, first, writes) {
             Ok(()) => Ok(count as u32),
             Err(NoMemory) => Err(LineRefusal::NoMemory),
         }
@@ -174,23 +274,61 @@ impl Device {
     }
 
     /// Joins writes under timestamps in a row, up to that of the clock.
-    fn join_writes(&mut self, first: Stamp, writes: &[Write]) -> Result<(), NoMemory>
+    fn join_writes(&mut self, turn: Turn, first: Stamp, writes: &[Write]) -> Result<(), NoMemory>
         requires live { self.old.spent ≡ false }
         requires idle { self.old.batch ≡ [] }
         requires valid { AreWrites writes.now }
+        requires some { writes.now ≢ [] }
         requires stamp { IsStamp first }
         requires row { self.old.state.clock ≡ record first { counter = first.counter + (length writes.now - 1) } }
         requires room { first.counter + length writes.now ≤ 65_536 }
-        ensures ok { OnOk result (self.new ≡ with_writes self.old.state.messages first writes.now self.old.state.clock) }
+        ensures ok { OnOk result (self.new ≡ with_writes self.old.state turn first writes.now self.old.state.clock) }
         ensures err { OnErr result (self.new.spent ≡ true) }
     {
         match place_writes(self.alloc, &first, writes) {
-            Ok((messages, made)) => self.join(messages.as_slice(), made),
+            Ok((messages, made)) => self.join_over(turn, messages.as_slice(), made),
             Err(fault) => {
                 self.spent = true;
                 Err(fault)
             }
         }
+    }
+
+    /// Joins the messages of a line's writes, with what they write over, by a line that made these ids.
+    fn join_over(
+        &mut self,
+        turn: Turn,
+        messages: &[Message],
+        made: Items<Txt>,
+    ) -> Result<(), NoMemory>
+        requires live { self.old.spent ≡ false }
+        requires idle { self.old.batch ≡ [] }
+        requires valid { AreMessages messages.now }
+        requires some { messages.now ≢ [] }
+        requires few { length messages.now ≤ 65_536 }
+        requires ahead { IsAhead self.old.state.clock messages.now }
+        ensures ok { OnOk result (self.new ≡ with_messages self.old.state.messages messages.now self.old.state.clock (after turn self.old.state.history (written_over self.old.state.messages messages.now)) made) }
+        ensures err { OnErr result (self.new.spent ≡ true) }
+    {
+        match self.write_over(turn, messages) {
+            Ok(()) => self.join(messages, made),
+            Err(fault) => {
+                self.spent = true;
+                Err(fault)
+            }
+        }
+    }
+
+    /// Goes on with what messages write over, that are to join.
+    fn write_over(&mut self, turn: Turn, messages: &[Message]) -> Result<(), NoMemory>
+        requires live { self.old.spent ≡ false }
+        requires valid { AreMessages messages.now }
+        requires some { messages.now ≢ [] }
+        requires few { length messages.now ≤ 65_536 }
+        ensures { OnOk result (self.new ≡ record self.old { state = record self.old.state { history = after turn self.old.state.history (written_over self.old.state.messages messages.now) } }) }
+    {
+        let entry = entry_over(self.alloc, &self.known.log, &self.known.book, messages)?;
+        self.history.advance(turn, entry)
     }
 
     /// Joins messages, the records of the new ones of which are then pending, by a line that made these ids.
@@ -199,7 +337,7 @@ impl Device {
         requires idle { self.old.batch ≡ [] }
         requires valid { AreMessages messages.now }
         requires ahead { IsAhead self.old.state.clock messages.now }
-        ensures ok { OnOk result (self.new ≡ with_messages self.old.state.messages messages.now self.old.state.clock made) }
+        ensures ok { OnOk result (self.new ≡ with_messages self.old.state.messages messages.now self.old.state.clock self.old.state.history made) }
         ensures err { OnErr result (self.new.spent ≡ true) }
     {
         self.made = made;
@@ -213,7 +351,7 @@ impl Device {
     /// many were new. What was pending has to be kept before (`commit`).
     ///
     /// The clock receives once, by the greatest timestamp. The records of the new messages are then
-    /// pending. The counter of steps counts nothing yet.
+    /// pending. What can be undone and redone stays. The counter of steps counts nothing yet.
     ///
     /// # Errors
     ///

@@ -5,6 +5,7 @@ ghost use Rattle.book_rows.specs.declared.fault.EditFault.TheVariants.{NoMemory 
 ghost use Rattle.book_edits.specs.Faults.{IsEditFault};
 ghost use Rattle.device_core.specs.Edits.{writes_of, IsEdit, MayWantMemory, RefusesId};
 
+use crate::copies::copy_pair;
 use book_edits::{BookEdit, writes};
 use book_rows::{Book, EditFault, Write};
 use field_values::NoMemory;
@@ -48,12 +49,12 @@ pub enum Edit {
 
 impl Edit {
     /// An equal edit.
-    pub fn copy(&self) -> Result<Edit, NoMemory>
+    pub fn copy(&self, alloc: Global) -> Result<Edit, NoMemory>
         ensures { IfOk result (λ edit. edit ≡ self.now) }
     {
         match self {
             Edit::Book(edit) => Ok(Edit::Book(edit.copy()?)),
-            Edit::Pair(edit) => Ok(Edit::Pair(edit.copy()?)),
+            Edit::Pair(edit) => Ok(Edit::Pair(copy_pair(alloc, edit)?)),
         }
     }
 }

@@ -6,6 +6,7 @@ ghost use Rattle.device_core.specs.Books.{BooksFollowMessages};
 ghost use Rattle.device_core.specs.Greatest.{GreatestIsTold};
 ghost use Rattle.device_core.specs.ReadBack.{EditsReadBack, ReceivedAreJoined};
 ghost use Rattle.device_core.specs.Several.{EditsAreMade, WritesAreJoined};
+ghost use Rattle.device_core.specs.Undoing.{EntriesAreTakenBack, LinesAreUndone};
 
 /// A law: a device begins with the messages that it is given, and a clock of its node at the time and the
 /// counter of the last of them, or at the start of 1970 where there are none.
@@ -81,4 +82,17 @@ pub fn received_are_joined()
 /// has a greater one. Only of no messages there is none.
 pub fn greatest_is_told()
     ensures { GreatestIsTold }
+{}
+
+/// A law: an undo, and so a redo, is refused where there is no entry, else for the fault of the clock where it draws no timestamps for
+/// the writes that undo the latest entry; else it is accepted. The writes that it makes are those of the entry, as `writes_are_joined`
+/// says, whatever messages have come since.
+pub fn entries_are_taken_back()
+    ensures { EntriesAreTakenBack }
+{}
+
+/// A law: an undo right after an edit with writes leaves each field that had a value with that value, and deletes each row that the edit
+/// made; so does a redo right after an undo, and an undo right after a redo.
+pub fn lines_are_undone()
+    ensures { LinesAreUndone }
 {}

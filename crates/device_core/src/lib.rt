@@ -2,6 +2,7 @@
 //! messages that are not kept yet.
 #![tactic(auto)]
 
+mod copies;
 mod device;
 mod edit;
 mod known;
@@ -15,6 +16,7 @@ pub use edit::{Edit, LineRefusal};
 pub use kept_messages::StartFault;
 pub use laws::{
     accepted_are_joined, books_follow_messages, devices_begin, edits_are_made, edits_read_back,
-    greatest_is_told, messages_are_answered, received_are_joined, writes_are_answered,
-    writes_are_joined,
+    entries_are_taken_back, greatest_is_told, lines_are_undone, messages_are_answered,
+    received_are_joined, writes_are_answered, writes_are_joined,
 };
+pub use split_transfer::{PairEdit, SplitPart, TxChange};

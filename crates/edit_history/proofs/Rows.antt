@@ -60,7 +60,7 @@ row_of values f k v known h = by (dataset_of f.dataset) (column_of f.column) ref
     by (Some d) (Some c) is_d is_c =
         let kind : dataset_kind d c ≡ Some k = sym (ap₂ known_kind is_d is_c) ∙ known in
         let at : values_at values d f.row c ≡ Some v =
-            ap₂ (λ (a b : Text). values (field_of a f.row b)) (sym (dataset_named f.dataset d is_d)) (sym (column_named f.column c is_c)) ∙ h in
+        ap₂ (λ (a b : Text). values (field_of a f.row b)) (sym (dataset_named f.dataset d is_d)) (sym (column_named f.column c is_c)) ∙ h in
         in_dataset values f d is_d
         ∙ some_column (λ (c : Column). is_some (dataset_kind d c) && is_some (values_at values d f.row c)) c (both _ _ (ap is_some kind) (ap is_some at))
 
@@ -91,7 +91,7 @@ has_got before after f new there = by (dataset_of f.dataset) refl
     by None is = true_false false (sym (ap (some_and (λ (d : Dataset). has_column (dataset_kind d) (values_at after d f.row))) is) ∙ there) refl
     by (Some d) is =
         let got = any_both (λ (c : Column). is_some (dataset_kind d c) && is_some (values_at after d f.row c)) (λ (c : Column). is_some (dataset_kind d c) && is_some (values_at before d f.row c)) all_columns
-            (sym (in_dataset after f d is) ∙ there) (sym (in_dataset before f d is) ∙ new) in
+        (sym (in_dataset after f d is) ∙ there) (sym (in_dataset before f d is) ∙ new) in
         let parts = both_parts _ _ got.1 in
         let name : f.dataset ≡ dataset_name d = dataset_named f.dataset d is in
         record {

@@ -13,13 +13,14 @@ use Rattle.edit_history.proofs.before.entry_over.Goals as goal
 
 pub loop-message-preserved : goal.loop-message-preserved
 loop-message-preserved c = (
-    c.in_ok-push_before.ensures.found
-    ∙ ap (λ (found : List Before). found ++ cond (list_any (λ (b : Before). names_eq b.field c.message-item.result.field) found) [] (before_of (value_in c.args.log.now.messages) c.message-item.result.field ∷ [])) c.loop-message.invariant.0
-    ∙ entry_more (value_in c.args.log.now.messages) c.args.messages.now c.loop-message.message-index c.message-item.result c.loop-message-test.true c.message-item.is,
-    c.in_ok-push_before.ensures.seen)
+  c.in_ok-push_before.ensures.found
+      ∙ ap (λ (found : List Before). found ++ cond (list_any (λ (b : Before). names_eq b.field c.message-item.result.field) found) [] (before_of (value_in c.args.log.now.messages) c.message-item.result.field ∷ [])) c.loop-message.invariant.0
+      ∙ entry_more (value_in c.args.log.now.messages) c.args.messages.now c.loop-message.message-index c.message-item.result c.loop-message-test.true c.message-item.is,
+  c.in_ok-push_before.ensures.seen,
+)
 
 pub returns-clause-valid : goal.returns-clause-valid
 returns-clause-valid c =
     let same : c.new.result ≡ entry_over (value_in c.args.log.now.messages) (map (λ (m : Message). m.field) c.args.messages.now) =
-        c.new.ensures ∙ c.loop-message.invariant.0 ∙ ap (λ (l : List Message). entry_over (value_in c.args.log.now.messages) (map (λ (m : Message). m.field) l)) (take_all c.loop-message.message-index c.args.messages.now (omega arith)) in
+    c.new.ensures ∙ c.loop-message.invariant.0 ∙ ap (λ (l : List Message). entry_over (value_in c.args.log.now.messages) (map (λ (m : Message). m.field) l)) (take_all c.loop-message.message-index c.args.messages.now (omega arith)) in
     subst IsEntry (sym same) (entry_valid c.args.log.now.messages c.args.messages.now c.requires.known c.requires.valid c.requires.some c.requires.few)

@@ -13,15 +13,16 @@ use Rattle.edit_history.proofs.undo.undo_writes.Goals as goal
 
 pub loop-before-preserved : goal.loop-before-preserved
 loop-before-preserved c = (
-    c.in_ok-push_write.ensures.found
-    ∙ ap (λ (found : List Write). found ++ cond (set.contains names_cmp c.loop-before.seen c.in_ok-field.field) [] (write_of (c.in_ok-field.field, c.in_ok-field.value) ∷ [])) c.loop-before.invariant.0
-    ∙ ap (λ (b : Bool). undo_writes (take c.loop-before.before-index c.args.entry.now) ++ cond b [] (write_of (c.in_ok-field.field, c.in_ok-field.value) ∷ [])) (c.loop-before.invariant.1 c.in_ok-field.field)
-    ∙ ap (λ (u : FieldNames × Value). undo_writes (take c.loop-before.before-index c.args.entry.now) ++ cond (wrote first (map undo_of (take c.loop-before.before-index c.args.entry.now)) u.0) [] (write_of u ∷ [])) c.in_ok-field.ensures
-    ∙ undo_more c.args.entry.now c.loop-before.before-index c.before-item.result c.loop-before-test.true c.before-item.is,
-    λ f. c.in_ok-push_write.ensures.seen f
-    ∙ ap (cond (names_eq c.in_ok-field.field f) true) (c.loop-before.invariant.1 f)
-    ∙ ap (λ (u : FieldNames × Value). cond (names_eq u.0 f) true (wrote first (map undo_of (take c.loop-before.before-index c.args.entry.now)) f)) c.in_ok-field.ensures
-    ∙ undo_seen c.args.entry.now c.loop-before.before-index c.before-item.result f c.loop-before-test.true c.before-item.is)
+  c.in_ok-push_write.ensures.found
+      ∙ ap (λ (found : List Write). found ++ cond (set.contains names_cmp c.loop-before.seen c.in_ok-field.field) [] (write_of (c.in_ok-field.field, c.in_ok-field.value) ∷ [])) c.loop-before.invariant.0
+      ∙ ap (λ (b : Bool). undo_writes (take c.loop-before.before-index c.args.entry.now) ++ cond b [] (write_of (c.in_ok-field.field, c.in_ok-field.value) ∷ [])) (c.loop-before.invariant.1 c.in_ok-field.field)
+      ∙ ap (λ (u : FieldNames × Value). undo_writes (take c.loop-before.before-index c.args.entry.now) ++ cond (wrote first (map undo_of (take c.loop-before.before-index c.args.entry.now)) u.0) [] (write_of u ∷ [])) c.in_ok-field.ensures
+      ∙ undo_more c.args.entry.now c.loop-before.before-index c.before-item.result c.loop-before-test.true c.before-item.is,
+  λ f. c.in_ok-push_write.ensures.seen f
+      ∙ ap (cond (names_eq c.in_ok-field.field f) true) (c.loop-before.invariant.1 f)
+      ∙ ap (λ (u : FieldNames × Value). cond (names_eq u.0 f) true (wrote first (map undo_of (take c.loop-before.before-index c.args.entry.now)) f)) c.in_ok-field.ensures
+      ∙ undo_seen c.args.entry.now c.loop-before.before-index c.before-item.result f c.loop-before-test.true c.before-item.is,
+)
 
 pub returns-clause-valid : goal.returns-clause-valid
 returns-clause-valid c =

@@ -14,7 +14,7 @@ invariant_of-result c = λ _.
     let ms = c.in_ok-known.known.log.messages in record {
       right = c.in_ok-known.ensures.known;
       ahead = subst (λ (s : Stamp). IsAhead s ms) (sym (c.new-clock.ensures ∙ ap (clock_after c.args.node) c.last.ensures)) (after_ahead c.args.node ms (rising_set c.args.records.now ms c.in_ok-known.ensures.messages));
-      keys = subst HaveKeys (sym c.new.ensures.items) tt;
+      keys = subst HaveKeys (sym c.new-2.ensures.items) tt;
     }
 
 pub new-clock-requires-clause-last : goal.new-clock-requires-clause-last

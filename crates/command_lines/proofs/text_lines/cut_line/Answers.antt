@@ -1,7 +1,7 @@
 use Rattle.std.proofs.Common.{lit<}
 use Rattle.std.proofs.lemmas.Str.Pattern.{split_parts}
 use Rattle.command_lines.proofs.Cutting.{pieces-cut, cut_shorter}
-use Rattle.command_lines.proofs.answer.cut_line.Goals as goal
+use Rattle.command_lines.proofs.text_lines.cut_line.Goals as goal
 
 pub returns-clause-pieces : goal.returns-clause-pieces
 returns-clause-pieces c =

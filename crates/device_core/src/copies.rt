@@ -1,0 +1,83 @@
+//! Copies of edits of transactions that hang together.
+ghost use Rattle.std.specs.Prelude.{◌≡◌, IfOk};
+
+use field_values::{Items, NoMemory, Txt};
+use split_transfer::{PairEdit, SplitPart, TxChange};
+use std::alloc::Global;
+
+/// A copy of a text that may be absent.
+fn copy_of(text: &Option<Txt>) -> Result<Option<Txt>, NoMemory>
+    ensures { IfOk result (λ t. t ≡ text.now) }
+{
+    match text {
+        Some(text) => Ok(Some(text.copy()?)),
+        None => Ok(None),
+    }
+}
+
+/// An equal change.
+fn copy_change(change: &TxChange) -> Result<TxChange, NoMemory>
+    ensures { IfOk result (λ c. c ≡ change.now) }
+{
+    match change {
+        TxChange::Date(date) => Ok(TxChange::Date(*date)),
+        TxChange::Amount(amount) => Ok(TxChange::Amount(*amount)),
+        TxChange::Account(account) => Ok(TxChange::Account(account.copy()?)),
+        TxChange::Payee(payee) => Ok(TxChange::Payee(copy_of(payee)?)),
+        TxChange::Category(category) => Ok(TxChange::Category(copy_of(category)?)),
+        TxChange::Notes(notes) => Ok(TxChange::Notes(notes.copy()?)),
+        TxChange::Cleared(cleared) => Ok(TxChange::Cleared(*cleared)),
+        TxChange::Schedule(schedule) => Ok(TxChange::Schedule(copy_of(schedule)?)),
+    }
+}
+
+/// An equal part.
+fn copy_part(part: &SplitPart) -> Result<SplitPart, NoMemory>
+    ensures { IfOk result (λ p. p ≡ part.now) }
+{
+    Ok(SplitPart {
+        amount: part.amount,
+        category: copy_of(&part.category)?,
+    })
+}
+
+/// Equal parts.
+fn copy_parts(alloc: Global, parts: &[SplitPart]) -> Result<Items<SplitPart>, NoMemory>
+    ensures { IfOk result (λ ps. ps ≡ parts.now) }
+{
+    let mut copies = Vec::new(alloc);
+    for part in parts {
+        copies.push(copy_part(part)?)?;
+    }
+    Ok(Items::new(copies))
+}
+
+/// An equal edit.
+pub(crate) fn copy_pair(alloc: Global, edit: &PairEdit) -> Result<PairEdit, NoMemory>
+    ensures { IfOk result (λ e. e ≡ edit.now) }
+{
+    match edit {
+        PairEdit::TxSet { id, change } => Ok(PairEdit::TxSet {
+            id: id.copy()?,
+            change: copy_change(change)?,
+        }),
+        PairEdit::TxDelete { id } => Ok(PairEdit::TxDelete { id: id.copy()? }),
+        PairEdit::Split { id, parts } => Ok(PairEdit::Split {
+            id: id.copy()?,
+            parts: copy_parts(alloc, parts.as_slice())?,
+        }),
+        PairEdit::Transfer {
+            from,
+            to,
+            date,
+            amount,
+            notes,
+        } => Ok(PairEdit::Transfer {
+            from: from.copy()?,
+            to: to.copy()?,
+            date: *date,
+            amount: *amount,
+            notes: notes.copy()?,
+        }),
+    }
+}
