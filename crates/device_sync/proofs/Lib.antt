@@ -7,3 +7,5 @@ pub mod Tens
 pub mod Turns
 pub mod Loop
 pub mod Promise
+pub mod Spelled
+pub mod Serving

@@ -1,5 +1,5 @@
 -- The conversation goes on by one turn.
-use Rattle.std.proofs.Common.{◌≡◌, ◌⊎◌, inl, inr, ℕ, suc, ◌+◌, ◌-◌, List, [], ◌∷◌, ◌++◌, Option, None, Some, Result, Ok, Err, ℤ, length, map, refl, sym, ap, ◌∙◌, subst, append-nil, append_assoc, length-append, arith}
+use Rattle.std.proofs.Common.{◌≡◌, ◌⊎◌, inl, inr, ℕ, suc, ◌+◌, ◌-◌, List, [], ◌∷◌, ◌++◌, Option, None, Some, Result, Ok, Err, ℤ, length, map, refl, sym, ap, ap₂, ◌∙◌, subst, append-nil, append_assoc, length-append, arith}
 use Rattle.std.proofs.lemmas.List.{map-append}
 use Rattle.std.specs.FinMap.{get, insert}
 use Rattle.budget_ports.specs.Contents.{Contents, with_text}
@@ -17,7 +17,7 @@ use Rattle.device_sync.specs.declared.fault.Synced.{Synced}
 use Rattle.device_sync.specs.declared.round.Compared.TheVariants.{Agreed, Differ}
 use Rattle.device_sync.specs.declared.target.Target.{Target}
 use Rattle.device_sync.specs.Requests.{first_since}
-use Rattle.device_sync.specs.Talk.{Outcome, going_on, agreed, out_of_sync, not_taken, refused, bad_reply, Next, ends, asks, Turn, exchange_of, Follows, Talk}
+use Rattle.device_sync.specs.Talk.{Outcome, going_on, agreed, out_of_sync, not_taken, refused, bad_reply, Next, ends, asks, next, Turn, exchange_of, Follows, Talk}
 use Rattle.device_sync.specs.Sync.{Told, Carries, text_of, IsUnanswered, IsUnjudged, TakesTurn, further, IsLeft, reached, IsLateTurn, IsCut, IsRound, IsCutOff, IsAnswered, MayBeLeft, IsNumber, IsCounted, HasConversed, HasTalked, synced_name, UnlessSpoilt, IfUsable}
 use Rattle.device_sync.proofs.Turns.{carries_same, carries_both}
 
@@ -57,7 +57,7 @@ done_more : (done : List Turn) (x : Turn) → map exchange_of (done ++ x ∷ [])
 done_more done x = map-append exchange_of done (x ∷ [])
 
 -- where a reply leads
-how_reached : Next → Outcome
+abbrev how_reached : Next → Outcome
 how_reached (ends p how) = how
 how_reached (asks p moment) = going_on (moment_text moment)
 
@@ -78,11 +78,11 @@ module _ (target : Target) (group : List ℕ) (reading : ℕ) (first : List ℕ)
       (t.sent, t.judged, subst (λ (n : Next). Follows n ys end o (λ q moment. Talk target reading left (moment_text moment) q ys end o)) (sym (t.follows left)) h)
 
   -- what is known of the keeper after a turn
-  pub record Keeps (end : State) (alone : Type 0) : Type 0 where
+  pub record Keeps (end : State) (AloneThen : Type 0) : Type 0 where
     pub back : new.tells → mid.tells
     pub carries : new.tells → Carries group here.messages end.messages mid.contents new.contents
     pub texts : new.tells → new.contents.texts ≡ mid.contents.texts
-    pub alone : alone
+    pub alone : AloneThen
 
   abbrev IsAloneThen : Type 0
   IsAloneThen = IsAlone mid.tells mid.contents mid.left → IsAlone new.tells new.contents new.left

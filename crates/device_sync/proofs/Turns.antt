@@ -29,7 +29,7 @@ use Rattle.sync_wire.specs.declared.request.SyncRequest.{SyncRequest}
 use Rattle.sync_wire.specs.Wire.{IsRequest}
 use Rattle.sync_wire.specs.Canon.{request_bytes}
 use Rattle.device_sync.specs.Requests.{request_of, IsAsked}
-use Rattle.device_sync.specs.Talk.{root_of, trie_in, Next, ends, bad_reply, refused, not_taken, exchange_of, compared, taken, next}
+use Rattle.device_sync.specs.Talk.{root_of, trie_in, Next, ends, agreed, bad_reply, refused, not_taken, exchange_of, compared, taken, next}
 use Rattle.device_sync.specs.Sync.{Told, reached, IsKept, KeepsOrNot, IsLateTurn, IsCut, text_of, IsUnanswered, IsUnjudged, TakesTurn, further, AreCompared, IsLeft, IsSettled, IsRound, IsTaken, Carries, fails_link}
 use Rattle.device_sync.proofs.Conversation.{told_minute, told_small}
 

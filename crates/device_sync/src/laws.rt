@@ -1,5 +1,6 @@
 //! Facts about all conversations, which a proof can call for.
 ghost use Rattle.device_sync.specs.Laws.{RepliesHaveOneMeaning, TalksAreTold, TalksConverge};
+ghost use Rattle.device_sync.specs.Served.{ServedIsHonest};
 
 /// A law: a reply is judged as one thing.
 pub fn replies_have_one_meaning()
@@ -16,4 +17,12 @@ pub fn talks_are_told()
 /// equal timestamps mean equal messages, both have joined both sets.
 pub fn talks_converge()
     ensures { TalksConverge }
+{}
+
+/// A law: where `sync_server::serve_one` wrote a whole reply to the request of a device, over contents that have the request's group, that was an
+/// exchange of an honest server: the answer to the request and nothing else with the status 200, after which the group has the messages of both; or one of
+/// the statuses 413, 503 and 507, after which the group is as it was. The token has to be one that can stand in a head, and the meaning of the written
+/// answer is a premise, which `sync_wire::write_response` promises.
+pub fn served_is_honest()
+    ensures { ServedIsHonest }
 {}
