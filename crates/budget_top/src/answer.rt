@@ -250,6 +250,7 @@ fn answer_line<K: Keeper, G: Ledger>(
     requires group { group.now ≡ device_group }
     requires valid { IfOk asked IsCommand }
     requires plain { IsPlain asked }
+    ensures plain { IsPlain asked }
     ensures ok { IfOk result (λ a. IsHandled (obeyed device.old.state reading asked) device.new.state a.text a.refused) }
     ensures live { OnOk result (device.new.spent ≡ false) }
     ensures idle { OnOk result (device.new.batch ≡ []) }
