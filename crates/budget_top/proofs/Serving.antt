@@ -88,9 +88,9 @@ module _ (e : Entry) (read : List ℕ) (old : Session) (before now : Seen) (s : 
       (takes_then e.readings before.readings now.readings (readings_of had) (reading ∷ []) s.handled.took took)
 
   talked_now : (given : Given) → Adds before.exchanges now.exchanges (said given) → Adds e.exchanges now.exchanges (talks (have given))
-  talked_now given said =
+  talked_now given adds =
       let P : List Exchange → Type 0 = λ xs. Adds e.exchanges now.exchanges xs in
-      subst P (sym (talks-last had (in_hand read given))) (adds_then e.exchanges before.exchanges now.exchanges (talks had) (said given) s.handled.talk.talked said)
+      subst P (sym (talks-last had (in_hand read given))) (adds_then e.exchanges before.exchanges now.exchanges (talks had) (said given) s.handled.talk.talked adds)
 
   -- what the answer says, of the run
   abbrev Answered : State → List ℕ → Bool → Type 0

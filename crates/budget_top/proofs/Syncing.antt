@@ -454,4 +454,4 @@ idle_of P Q ended p = both_of (P × Q) Q (λ both. both.1) ended p
 
 -- a reading is within the window of timestamps or past it
 pub within_or : (reading : ℕ) → (reading / 60_000 < window) ⊎ (window ≤ reading / 60_000)
-within_or reading = elim (cases_Bool (nat_lt (reading / 60_000) window)) [ inl yes ↦ inl (ltb-true (reading / 60_000) window yes) | inr no ↦ inr (ltb-false (reading / 60_000) window no) ]
+within_or reading = elim (cases_Bool (nat_lt (reading / 60_000) window)) [ inl below ↦ inl (ltb-true (reading / 60_000) window below) | inr above ↦ inr (ltb-false (reading / 60_000) window above) ]

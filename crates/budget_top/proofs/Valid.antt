@@ -42,7 +42,6 @@ use Rattle.device_core.specs.Placing.{messages_from, stamped}
 use Rattle.device_core.proofs.Drawing.{draw_valid, greater, moved_valid}
 use Rattle.device_core.proofs.Greatest.{last_valid, of_valid}
 use Rattle.device_core.proofs.Making.{writes_valid}
-use Rattle.device_core.proofs.RowsNamed.{rows_named}
 use Rattle.device_core.proofs.Stamping.{stamped_valid}
 use Rattle.command_lines.specs.Commands.{command, IsCommand}
 use Rattle.command_lines.specs.declared.command.Command.{Command}
@@ -85,11 +84,11 @@ join_valid ms ns of_ms of_ns =
 -- what was accepted leaves a valid state
 abbrev LeavesValid : Result Accepted LineRefusal → Type 0
 LeavesValid (Ok accepted) = IsState accepted.state
-LeavesValid (Err refusal) = Unit {0}
+LeavesValid (Err why) = Unit {0}
 
 settled_valid : (s : State) (reply : Accepted → Reply) (answer : Result Accepted LineRefusal) → IsState s → LeavesValid answer → IsState (settled s reply answer).0
 settled_valid s reply (Ok accepted) is left = left
-settled_valid s reply (Err refusal) is left = is
+settled_valid s reply (Err why) is left = is
 
 -- ---- what can be undone and redone
 
@@ -152,7 +151,7 @@ edited_valid : (s : State) (edit : Edit) (reading : ℕ) → IsState s → IsEdi
 edited_valid s edit reading is valid = by (writes_of (rows_of s.messages) edit) refl
   where
     by : (o : Result (List Write) EditFault) → writes_of (rows_of s.messages) edit ≡ o → LeavesValid (writing s New reading o)
-    by (Ok ws) e = writing_valid s New reading ws is (writes_valid (rows_of s.messages) edit ws (rows_named s.messages is.messages) valid e)
+    by (Ok ws) e = writing_valid s New reading ws is (writes_valid s.messages edit ws is.messages valid e)
     by (Err fault) e = tt
 
 back_valid : (s : State) (turn : Turn) (fault : EditFault) (reading : ℕ) (es : List (List Before)) → IsState s → AllByRecursion IsEntry es → LeavesValid (writing s turn reading (writes_back fault (latest_of es)))
