@@ -2,7 +2,7 @@
 use Rattle.std.proofs.Common.{◌≡◌, ◌⊎◌, inl, inr, ℕ, zero, suc, ◌*◌, ◌<◌, List, [], ◌∷◌, Option, None, Some, Result, Ok, Err, OnErr, false, ℤ, map, refl, sym, ap, ap₂, ◌∙◌, subst, append-nil, arith}
 use Rattle.budget_ports.specs.Contents.{Contents, appended}
 use Rattle.budget_ports.specs.Exchanges.{Exchange, ended, Adds}
-use Rattle.budget_ports.specs.Keeper.{IsAlone, LeavesNoMore}
+use Rattle.budget_ports.specs.Keeper.{Commits, IsAlone, LeavesNoMore}
 use Rattle.field_merge.specs.declared.message.Message.{Message}
 use Rattle.field_merge.specs.Messages.{AreMessages}
 use Rattle.field_merge.specs.Log.{join}
@@ -30,7 +30,7 @@ use Rattle.sync_wire.specs.Wire.{IsRequest}
 use Rattle.sync_wire.specs.Canon.{request_bytes}
 use Rattle.device_sync.specs.Requests.{request_of, IsAsked}
 use Rattle.device_sync.specs.Talk.{root_of, trie_in, Next, ends, agreed, bad_reply, refused, not_taken, exchange_of, compared, taken, next}
-use Rattle.device_sync.specs.Sync.{Told, reached, IsKept, KeepsOrNot, IsLateTurn, IsCut, text_of, IsUnanswered, IsUnjudged, TakesTurn, further, AreCompared, IsLeft, IsSettled, IsRound, IsTaken, Carries, fails_link}
+use Rattle.device_sync.specs.Sync.{Told, reached, IsKept, KeepsOrNot, TakesOrNot, IsLateTurn, IsCut, text_of, IsUnanswered, IsUnjudged, TakesTurn, further, AreCompared, IsLeft, IsSettled, IsRound, IsTaken, Carries, fails_link}
 use Rattle.device_sync.proofs.Conversation.{told_minute, told_small}
 
 -- ---- the tries
@@ -89,6 +89,19 @@ taken_kept law group s ns reading count d before now valid is kept f = record {
   where
     reached_by : (left : ℕ) → reached (next reading left s (answer ns f)) ≡ d.state
     reached_by left = ap (λ (r : Result Accepted LineRefusal). reached (taken left s f r)) is ∙ reached_compared left d.state f (difference (trie_in d.state) f)
+
+-- what a stop leaves where the batch may not have been kept
+pub stops_taken : BatchesAreKept → (group : List ℕ) (s : State) (ns : List Message) (reading count : ℕ) (d : DeviceState) (told : Type 0) (before : Contents) (left new : Contents → Type 0) → AreMessages ns
+    → IsAccepted (received s ns reading) d count → Commits told left new (appended before group d.batch) → IsAlone told before left → (c : Contents) → new c → told × TakesOrNot group s ns reading before c
+stops_taken law group s ns reading count d told before left new valid is commits alone c may = by (commits c may)
+  where
+    by : left c ⊎ (told × (c ≡ appended before group d.batch)) → told × TakesOrNot group s ns reading before c
+    by (inl there) = let same = alone c there in (same.0, inl same.1)
+    by (inr kept) = (kept.0, inr (taken_kept law group s ns reading count d before c valid is kept.1))
+
+pub with_trie : (group : List ℕ) (s : State) (ns : List Message) (f : Held) (reading : ℕ) (told : Type 0) (before c : Contents) → told × TakesOrNot group s ns reading before c → told × KeepsOrNot group s (answer ns f) reading before c
+with_trie group s ns f reading told before c (knows, inl same) = (knows, inl same)
+with_trie group s ns f reading told before c (knows, inr all) = (knows, inr (all f))
 
 -- ---- an answer
 
