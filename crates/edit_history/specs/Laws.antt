@@ -1,11 +1,23 @@
--- What an undo restores.
-use Rattle.std.specs.Prelude.{◌≡◌, ◌≢◌, pos, false, true, List, [], ◌∷◌, ◌++◌, map, Option, None, Some}
-use Rattle.std.specs.List.{Contains}
+-- What an entry tells, and what an undo restores.
+use Rattle.std.specs.Prelude.{◌≡◌, ◌↔◌, ◌≢◌, pos, false, true, List, [], ◌∷◌, ◌++◌, map, Option, None, Some}
+use Rattle.std.specs.List.{Contains, IsDistinct}
 use Rattle.field_values.specs.declared.value.Value.{Value}
 use Rattle.field_values.specs.declared.value.Value.TheVariants.{Number}
-use Rattle.field_values.specs.Names.{FieldNames}
+use Rattle.field_values.specs.Names.{FieldNames, names_eq}
 use Rattle.book_rows.specs.Rows.{Values, with_value, has_tombstone}
-use Rattle.edit_history.specs.Undo.{has_row, entry_over, tombstone_of, undo_values}
+use Rattle.edit_history.specs.declared.before.Before.{Before}
+use Rattle.edit_history.specs.Undo.{has_row, before_of, entry_over, tombstone_of, undo_values}
+
+-- an entry tells each field that is written, once, and no other field, each as it is before
+pub record TellsBefore (values : Values) (fs : List FieldNames) (entry : List Before) : Type 0 where
+  pub once : IsDistinct names_eq (map (λ b. b.field) entry)
+  pub exactly : (f : FieldNames) → Contains (map (λ b. b.field) entry) f ↔ Contains fs f
+  pub as_before : (b : Before) → Contains entry b → b ≡ before_of values b.field
+
+-- so does each entry, and no field is written twice by what undoes one
+pub record EntriesAreTold : Type 0 where
+  pub entries : (values : Values) (fs : List FieldNames) → TellsBefore values fs (entry_over values fs)
+  pub undone_once : (entry : List Before) → IsDistinct names_eq (map (λ w. w.0) (undo_values entry))
 
 -- the values with others in fields, which are written one after the other
 abbrev pub with_values : Values → List (FieldNames × Value) → Values

@@ -13,5 +13,5 @@ mod undo;
 
 pub use before::{Before, entry_over};
 pub use history::{History, Turn};
-pub use laws::entries_undo;
+pub use laws::{entries_are_told, entries_undo};
 pub use undo::undo_writes;
