@@ -18,7 +18,7 @@ use Rattle.device_sync.specs.declared.round.Compared.TheVariants.{Agreed, Differ
 use Rattle.device_sync.specs.declared.target.Target.{Target}
 use Rattle.device_sync.specs.Requests.{first_since}
 use Rattle.device_sync.specs.Talk.{Outcome, going_on, agreed, out_of_sync, not_taken, refused, bad_reply, Next, ends, asks, next, Turn, exchange_of, Follows, Talk}
-use Rattle.device_sync.specs.Sync.{Told, Carries, text_of, IsUnanswered, IsUnjudged, TakesTurn, further, IsLeft, reached, IsLateTurn, IsCut, IsRound, IsCutOff, IsAnswered, MayBeLeft, IsNumber, IsCounted, HasConversed, HasTalked, synced_name, UnlessSpoilt, IfUsable}
+use Rattle.device_sync.specs.Sync.{Told, Carries, text_of, IsUnanswered, TakesTurn, further, IsLeft, reached, IsLateTurn, IsCut, IsRound, IsCutOff, IsAnswered, MayBeLeft, IsNumber, IsCounted, HasConversed, HasTalked, synced_name, UnlessSpoilt, IfUsable}
 use Rattle.device_sync.proofs.Turns.{carries_same, carries_both}
 
 -- The turns so far, after which the conversation goes on from a text with so many requests more than one

@@ -1,31 +1,29 @@
 -- What a server did for the request of a device is an honest exchange.
-use Rattle.std.proofs.Common.{◌≡◌, ◌≢◌, ◌⊎◌, inl, inr, ◌∙◌, ℕ, ◌+◌, ◌^◌, ◌<◌, ◌≤◌, List, [], ◌∷◌, ◌++◌, ◌==◌, length, take, drop, Bool, true, false, cond, nat_lt, Option, Some, None, Result, Ok, Err, refl, sym, ap, subst, arith, codes, length-append}
+use Rattle.std.proofs.Common.{◌≡◌, ◌≢◌, ◌⊎◌, inl, inr, ◌∙◌, ℕ, ◌^◌, ◌<◌, List, [], ◌∷◌, ◌++◌, ◌==◌, length, take, drop, Bool, true, false, cond, nat_lt, Option, Some, Result, Ok, Err, refl, sym, ap, subst, arith, codes, length-append}
 use Rattle.std.specs.Fmt.{decimal}
-use Rattle.std.specs.FinMap.{get}
-use Rattle.std.proofs.lemmas.Bool.{ltb-false, ltb-true}
+use Rattle.std.specs.Str.{bytes_eq}
 use Rattle.std.proofs.lemmas.Bool.Decides.{nat_tests}
 use Rattle.std.proofs.lemmas.List.{take_all, take-append-drop}
+use Rattle.std.proofs.lemmas.Slice.Eq.{bytes_eq-Decides}
 use Rattle.httparse.specs.Grammar.{RequestHead, ReadsRequest}
 use Rattle.httparse.proofs.GrammarLemmas.{request_unique}
 use Rattle.budget_ports.specs.Contents.{Contents, records_after}
 use Rattle.budget_ports.specs.Exchanges.{ended}
 use Rattle.field_merge.specs.declared.message.Message.{Message}
-use Rattle.field_merge.specs.Log.{join}
 use Rattle.kept_messages.specs.Records.{kept_set}
 use Rattle.sync_wire.specs.declared.request.SyncRequest.{SyncRequest}
 use Rattle.sync_wire.specs.Laws.{IsEither}
-use Rattle.sync_wire.specs.Wire.{IsRequest, IsRequestFault, IsResponse}
+use Rattle.sync_wire.specs.Wire.{IsRequest, IsRequestFault}
 use Rattle.sync_wire.specs.Canon.{request_bytes, response_bytes}
 use Rattle.sync_wire.proofs.Readings.{is_either, request_reads as request_is_read}
 use Rattle.sync_server.specs.declared.refusal.Refusal.{Refusal}
-use Rattle.sync_server.specs.declared.refusal.Refusal.TheVariants.{TooLarge, KeeperFault, NoMemory, EncryptedMessage, SinceRequired}
-use Rattle.sync_server.specs.declared.served.Served.TheVariants as served
+use Rattle.sync_server.specs.declared.refusal.Refusal.TheVariants.{TooLarge, KeeperFault, NoMemory, EncryptedMessage, SinceRequired, FileHasReset}
 use Rattle.sync_server.specs.Answer.{answer_of}
-use Rattle.sync_server.specs.Heads.{HasHead, judge_head}
+use Rattle.sync_server.specs.Heads.{judge_head}
 use Rattle.sync_server.specs.Outside.{HasFound}
 use Rattle.sync_server.specs.Replies.{refusal_bytes, reply_bytes}
-use Rattle.sync_server.specs.Serving.{Found, found_in, Verdict, Accepts, Refuses, judge_request, judge_found, DecidesBody, no_request, request, DecidesRest, refused, short, whole, Decides, by_head, too_large, no_head, bytes_end, Means, decided, keeper_fault, no_memory, reply_of, kept_after, Visit, IsServed, answered}
-use Rattle.sync_server.proofs.Requests.{grows, set_is}
+use Rattle.sync_server.specs.Serving.{Found, found_in, Verdict, Accepts, Refuses, judge_request, judge_found, judge_set, DecidesBody, no_request, request, DecidesRest, refused, short, whole, Decides, by_head, too_large, no_head, bytes_end, Means, decided, keeper_fault, no_memory, reply_of, kept_after, answered}
+use Rattle.sync_server.specs.Laws.{AcceptedAreKept}
 use Rattle.device_sync.specs.Replies.{IsReply}
 use Rattle.device_sync.specs.Requests.{head_text, request_text, IsAsked}
 use Rattle.device_sync.specs.Honest.{front_of, Answers, Served, answers, declines}
@@ -104,16 +102,20 @@ some_byte : (bs : List ℕ) → bs ≢ [] → (length bs == 0) ≡ false
 some_byte [] h = absurd (h refl)
 some_byte (b ∷ bs) h = grind (arith, nat_tests)
 
+same_bytes : (b : List ℕ) → bytes_eq b b ≡ true
+same_bytes b = (bytes_eq-Decides b b).1 refl
+
 -- over the group's messages it is accepted
 accepts : (k : Contents) (q : SyncRequest) (r : List Message) → IsOfDevice q → HasGroup k q r → judge_request q (found_in k q) ≡ Accepts r q
 accepts k q r of has =
     ap (λ (b : Bool). cond b (Refuses EncryptedMessage) (cond (length q.since == 0) (Refuses SinceRequired) (judge_found q (found_in k q).group (found_in k q).set))) of.plain
     ∙ ap (λ (b : Bool). cond b (Refuses SinceRequired) (judge_found q (found_in k q).group (found_in k q).set)) (some_byte q.since of.since)
     ∙ ap (λ (g : Option (List ℕ)). judge_found q g (found_in k q).set) has.file
-    ∙ set_is q (kept_set (records_after k q.group [])) r has.set
+    ∙ ap (λ (b : Bool). cond b (judge_set q (found_in k q).set) (Refuses FileHasReset)) (same_bytes q.group)
+    ∙ ap (judge_set q) has.set
 
-pub served_honest : ServedIsHonest
-served_honest token old q r s visit status fits of asked has small short_reply means (answered there is has_status wrote sound) kept = by is
+pub served_honest : AcceptedAreKept → ServedIsHonest
+served_honest law token old q r s visit status fits of asked has small short_reply means (answered there is has_status wrote sound) kept = by is
   where
     x_got : (text : List ℕ) → visit.wrote ≡ text → Some (front_of visit.wrote) ≡ Some (front_of text)
     x_got text e = ap (λ (z : List ℕ). Some (front_of z)) e
@@ -137,7 +139,7 @@ served_honest token old q r s visit status fits of asked has small short_reply m
           body = body;
           reply = subst (λ (z : List ℕ). IsReply z 200 body) (sym text) (answer_reads body few);
           said = means e;
-          joined = same_ok (sym (subst (λ (v : Verdict). kept_set (records_after (kept_after v old) q.group []) ≡ Ok s) e kept) ∙ grows old q r of.valid has.set);
+          joined = same_ok (sym (subst (λ (v : Verdict). kept_set (records_after (kept_after v old) q.group []) ≡ Ok s) e kept) ∙ law.joined old q r of.valid has.set);
         }))
 
     by_decision : ((visit.verdict ≡ Refuses TooLarge) ⊎ ((found : Found) × (HasFound old q found × (visit.verdict ≡ judge_request q found)))) → Served token r (ended visit.came (front_of visit.wrote)) s

@@ -1,26 +1,23 @@
 -- The heads of requests and of replies, as they are written, are read back.
-use Rattle.std.proofs.Common.{◌≡◌, ◌≢◌, ◌∙◌, ℕ, ◌+◌, ◌-◌, ◌*◌, ◌^◌, ◌<◌, ◌≤◌, List, [], ◌∷◌, ◌++◌, length, map, reverse, Bool, true, false, not, cond, ◌&&◌, ◌||◌, ◌==◌, nat_lt, Option, Some, None, Result, Ok, Err, refl, sym, ap, ap₂, subst, arith, append_assoc, codes, length-append}
-use Rattle.std.specs.Prelude.{All, unwrap_or, IsTrue}
+use Rattle.std.proofs.Common.{◌≡◌, ◌∙◌, ℕ, ◌+◌, ◌-◌, ◌*◌, ◌^◌, ◌<◌, ◌≤◌, List, [], ◌∷◌, ◌++◌, length, map, reverse, Bool, true, false, cond, ◌&&◌, ◌==◌, nat_lt, Some, None, Result, Ok, Err, refl, sym, ap, subst, arith, append_assoc, codes, length-append}
+use Rattle.std.specs.Prelude.{unwrap_or}
 use Rattle.std.specs.Fmt.{digits, decimal}
-use Rattle.std.specs.List.{list_all, list_any}
+use Rattle.std.specs.List.{list_all}
 use Rattle.std.specs.Char.{is_ascii_digit, digit_value}
 use Rattle.std.specs.Str.{bytes_eq}
 use Rattle.std.specs.Str.Parse.{AllDigits, digits_value, digits_value_after}
 use Rattle.std.proofs.lemmas.Bool.{and_parts, lt-ltb}
 use Rattle.std.proofs.lemmas.Bool.Decides.{nat_tests}
 use Rattle.std.proofs.lemmas.List.{reverse-append}
-use Rattle.std.proofs.lemmas.List.Elements.{All-nil, All-cons}
 use Rattle.std.proofs.lemmas.Fmt.{decimal_is_IsNumeral, length-decimal-le}
 use Rattle.std.proofs.lemmas.Str.Parse.{digit_from_value}
 use Rattle.std.proofs.lemmas.Slice.Eq.{bytes_eq-Decides}
-use Rattle.httparse.specs.Grammar.{is_token_byte, is_value_byte, is_ows, AllPass, IsToken, Field, IsField, skip_ows, trim_ows, crlf, RequestHead, IsRequestHead, print_request, ReadsRequest, ResponseHead, ReadsResponse, print_response}
+use Rattle.httparse.specs.Grammar.{is_token_byte, is_value_byte, RequestHead, ReadsRequest, ReadsResponse}
 use Rattle.httparse.specs.Spans.{name_and_value}
-use Rattle.httparse.proofs.TrimLemmas.{trim_ows_space}
-use Rattle.httparse.proofs.GrammarLemmas.{cons-append}
 use Rattle.http.specs.StatusCode.{reason_phrase}
 use Rattle.http1.specs.Fields.{Header}
-use Rattle.http1.specs.Head.{starts_visible, is_header, are_headers, head_refusal, is_status_line, is_request_line, field_of, print_headers, section_text, status_digits, request_head, response_head, request_text, response_text}
-use Rattle.http1.proofs.HeadRoundTrip.{request_reads_back, response_reads_back, RequestReadsBack, ResponseReadsBack}
+use Rattle.http1.specs.Head.{starts_visible, is_header, are_headers, head_refusal, is_status_line, is_request_line, print_headers, section_text, status_digits, request_head, response_head, request_text, response_text}
+use Rattle.http1.proofs.HeadRoundTrip.{request_reads_back, response_reads_back}
 use Rattle.http1.proofs.HeadLemmas.{request_text_is, response_text_is}
 use Rattle.sync_server.specs.declared.refusal.Refusal.{Refusal}
 use Rattle.sync_server.specs.declared.refusal.Refusal.TheVariants.{TooLarge}

@@ -28,9 +28,9 @@ use Rattle.device_sync.specs.Replies.{Got, answer, refusal, bad, IsJudged}
 use Rattle.sync_wire.specs.declared.request.SyncRequest.{SyncRequest}
 use Rattle.sync_wire.specs.Wire.{IsRequest}
 use Rattle.sync_wire.specs.Canon.{request_bytes}
-use Rattle.device_sync.specs.Requests.{request_of, IsAsked}
-use Rattle.device_sync.specs.Talk.{root_of, trie_in, Next, ends, agreed, bad_reply, refused, not_taken, exchange_of, compared, taken, next}
-use Rattle.device_sync.specs.Sync.{Told, reached, IsKept, KeepsOrNot, TakesOrNot, IsLateTurn, IsCut, text_of, IsUnanswered, IsUnjudged, TakesTurn, further, AreCompared, IsLeft, IsSettled, IsRound, IsTaken, Carries, fails_link}
+use Rattle.device_sync.specs.Requests.{request_of}
+use Rattle.device_sync.specs.Talk.{root_of, trie_in, Next, ends, agreed, bad_reply, refused, not_taken, compared, taken, next}
+use Rattle.device_sync.specs.Sync.{Told, reached, IsKept, KeepsOrNot, TakesOrNot, IsLateTurn, IsCut, text_of, IsUnanswered, TakesTurn, further, AreCompared, IsLeft, IsSettled, IsRound, IsTaken, Carries, fails_link}
 use Rattle.device_sync.proofs.Conversation.{told_minute, told_small}
 
 -- ---- the tries
@@ -178,10 +178,13 @@ module _ (target : Target) (group : List ℕ) (reading : ℕ) (since : List ℕ)
     adds = adds;
     is_late = record {
       unjudged = inr (came, ap (λ (t : List ℕ). ended t came ∷ []) is);
-      stops = λ a c may. let is_one = stops a c may in (is_one.0, elim is_one.1 [
-        | inl same ↦ inl same
-        | inr kept ↦ inr (record { turn = record { sent = sent; came = came; got = got }; sent = record { text = is; means = means }; judged = judged; is_late = refl; kept = kept })
-      ]);
+      stops = λ a c may. let is_one = stops a c may in (
+        is_one.0,
+        elim is_one.1 [
+          | inl same ↦ inl same
+          | inr kept ↦ inr (record { turn = record { sent = sent; came = came; got = got }; sent = record { text = is; means = means }; judged = judged; is_late = refl; kept = kept })
+        ],
+      );
     };
   }
 

@@ -2,6 +2,8 @@
 ghost use Rattle.device_sync.specs.Laws.{RepliesHaveOneMeaning, TalksAreTold, TalksConverge};
 ghost use Rattle.device_sync.specs.Served.{ServedIsHonest};
 
+use sync_server::accepted_are_kept;
+
 /// A law: a reply is judged as one thing.
 pub fn replies_have_one_meaning()
     ensures { RepliesHaveOneMeaning }
@@ -25,4 +27,6 @@ pub fn talks_converge()
 /// answer is a premise, which `sync_wire::write_response` promises.
 pub fn served_is_honest()
     ensures { ServedIsHonest }
-{}
+{
+    accepted_are_kept();
+}
