@@ -7,7 +7,7 @@ use Rattle.budget_top.proofs.sync_line.sync_line.Goals as goal
 pub returns-clause-answered : goal.returns-clause-answered
 returns-clause-answered g c = elim (within_or c.args.reading) [
   | inl within ↦
-      sync_oks c.talks_are_told.ensures _ _ _ _ c.sync-ended.result _ _ _ _ _ _ _ _ _ _ within (c.sync-ended.ensures.talked within) c.sync-ended.ensures.synced c.sync-ended.ensures.unsynced
+      sync_oks c.talks_are_told.ensures _ _ _ _ c.sync-ended.result _ _ _ _ _ _ _ _ _ _ within (rw c.requires.group at (c.sync-ended.ensures.talked within)) c.sync-ended.ensures.synced c.sync-ended.ensures.unsynced
       c.sync-ended.ensures.link_count c.sync-ended.ensures.before c.tell_sync.result c.tell_sync.ensures
   | inr over ↦
       let same = c.sync-ended.ensures.beyond over in
@@ -17,7 +17,7 @@ returns-clause-answered g c = elim (within_or c.args.reading) [
 pub returns-clause-unanswered : goal.returns-clause-unanswered
 returns-clause-unanswered g c = elim (within_or c.args.reading) [
   | inl within ↦
-      sync_errs c.talks_are_told.ensures _ _ _ _ c.sync-ended.result _ _ _ _ _ _ _ _ _ _ within (c.sync-ended.ensures.talked within) c.sync-ended.ensures.synced c.sync-ended.ensures.unsynced
+      sync_errs c.talks_are_told.ensures _ _ _ _ c.sync-ended.result _ _ _ _ _ _ _ _ _ _ within (rw c.requires.group at (c.sync-ended.ensures.talked within)) c.sync-ended.ensures.synced c.sync-ended.ensures.unsynced
       c.sync-ended.ensures.link_count c.sync-ended.ensures.before c.tell_sync.result
   | inr over ↦
       let same = c.sync-ended.ensures.beyond over in
