@@ -41,19 +41,19 @@ session_lines_known name = known_in session_lines name misfit session_lines_are 
 
 goes_in : (lines : List LineForm) (name : List ℕ) → AllByRecursion (λ line. GoesOn line.1) lines → GoesOn (words_in lines name misfit)
 goes_in [] name all = tt
-goes_in (line ∷ lines) name all = by (bytes_eq name line.0)
+goes_in (line ∷ lines) name all = by (bytes_eq name line.0) (goes_in lines name all.1)
   where
-    by : (b : Bool) → GoesOn (cond b line.1 (words_in lines name misfit))
-    by true = all.0
-    by false = goes_in lines name all.1
+    by : (b : Bool) → GoesOn (words_in lines name misfit) → GoesOn (cond b line.1 (words_in lines name misfit))
+    by true h = all.0
+    by false h = h
 
 tells_in : (front : List (List ℕ)) (lines : List LineForm) (name : List ℕ) → AllByRecursion (λ line. Tells (front ++ line.0 ∷ []) line.1) lines → Tells (front ++ name ∷ []) (words_in lines name misfit)
 tells_in front [] name all = tt
-tells_in front (line ∷ lines) name all = by (bytes_eq name line.0) refl
+tells_in front (line ∷ lines) name all = by (bytes_eq name line.0) refl (tells_in front lines name all.1)
   where
-    by : (b : Bool) → bytes_eq name line.0 ≡ b → Tells (front ++ name ∷ []) (cond b line.1 (words_in lines name misfit))
-    by true e = subst (λ (n : List ℕ). Tells (front ++ n ∷ []) line.1) (sym ((bytes_eq-Decides name line.0).0 e)) all.0
-    by false e = tells_in front lines name all.1
+    by : (b : Bool) → bytes_eq name line.0 ≡ b → Tells (front ++ name ∷ []) (words_in lines name misfit) → Tells (front ++ name ∷ []) (cond b line.1 (words_in lines name misfit))
+    by true e h = subst (λ (n : List ℕ). Tells (front ++ n ∷ []) line.1) (sym ((bytes_eq-Decides name line.0).0 e)) all.0
+    by false e h = h
 
 changes_go : (id : List ℕ) → AllByRecursion (λ line. GoesOn line.1) (change_forms id)
 changes_go id = (

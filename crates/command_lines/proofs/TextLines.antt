@@ -1,5 +1,5 @@
 -- The lines of a text of which each has its end.
-use Rattle.std.proofs.Common.{◌≡◌, ℕ, suc, ◌+◌, ◌-◌, Bool, true, false, cond, eqb, List, [], ◌∷◌, ◌++◌, append_assoc, append-nil, length, take, map, ◌⊎◌, inl, inr, Option, None, Some, refl, ap, sym, subst, ◌∙◌, arith}
+use Rattle.std.proofs.Common.{◌≡◌, ℕ, zero, suc, ◌+◌, ◌-◌, Bool, true, false, cond, eqb, List, [], ◌∷◌, ◌++◌, append_assoc, append-nil, length, take, map, ◌⊎◌, inl, inr, Option, None, Some, refl, ap, sym, subst, ◌∙◌, arith}
 use Rattle.std.specs.Prelude.{◌==◌, ◌&&◌, not, is_some, pos, ◌-ℤ◌, codes}
 use Rattle.std.specs.Fmt.{signed_decimal}
 use Rattle.std.specs.Ordering.{int_eq}
@@ -31,11 +31,11 @@ onto_cons x ps c = ap (onto_first x) c.are
 
 some_pieces : (text : List ℕ) → IsCons (pieces text)
 some_pieces [] = record { first = []; rest = []; are = refl }
-some_pieces (x ∷ xs) = by (x == 10)
+some_pieces (x ∷ xs) = by (x == 10) (some_pieces xs)
   where
-    by : (b : Bool) → IsCons (cond b ([] ∷ pieces xs) (onto_first x (pieces xs)))
-    by true = record { first = []; rest = pieces xs; are = refl }
-    by false = let c = some_pieces xs in record { first = x ∷ c.first; rest = c.rest; are = onto_cons x (pieces xs) c }
+    by : (b : Bool) → IsCons (pieces xs) → IsCons (cond b ([] ∷ pieces xs) (onto_first x (pieces xs)))
+    by true c = record { first = []; rest = pieces xs; are = refl }
+    by false c = record { first = x ∷ c.first; rest = c.rest; are = onto_cons x (pieces xs) c }
 
 onto_more : (x : ℕ) (ps qs : List (List ℕ)) → IsCons ps → onto_first x (ps ++ qs) ≡ onto_first x ps ++ qs
 onto_more x ps qs c = ap (λ (l : List (List ℕ)). onto_first x (l ++ qs)) c.are ∙ sym (ap (λ (l : List (List ℕ)). l ++ qs) (onto_cons x ps c))
@@ -43,39 +43,40 @@ onto_more x ps qs c = ap (λ (l : List (List ℕ)). onto_first x (l ++ qs)) c.ar
 -- behind the last line feed stands nothing
 pieces_end : (text : List ℕ) → pieces (text ++ 10 ∷ []) ≡ pieces text ++ [] ∷ []
 pieces_end [] = refl
-pieces_end (x ∷ xs) = by (x == 10)
+pieces_end (x ∷ xs) = by (x == 10) (pieces_end xs)
   where
-    by : (b : Bool) → cond b ([] ∷ pieces (xs ++ 10 ∷ [])) (onto_first x (pieces (xs ++ 10 ∷ []))) ≡ cond b ([] ∷ pieces xs) (onto_first x (pieces xs)) ++ [] ∷ []
-    by true = ap (λ (l : List (List ℕ)). [] ∷ l) (pieces_end xs)
-    by false = ap (onto_first x) (pieces_end xs) ∙ onto_more x (pieces xs) ([] ∷ []) (some_pieces xs)
+    by : (b : Bool) → pieces (xs ++ 10 ∷ []) ≡ pieces xs ++ [] ∷ [] → cond b ([] ∷ pieces (xs ++ 10 ∷ [])) (onto_first x (pieces (xs ++ 10 ∷ []))) ≡ cond b ([] ∷ pieces xs) (onto_first x (pieces xs)) ++ [] ∷ []
+    by true h = ap (λ (l : List (List ℕ)). [] ∷ l) h
+    by false h = ap (onto_first x) h ∙ onto_more x (pieces xs) ([] ∷ []) (some_pieces xs)
 
 -- the pieces, each with its end, are the text with an end
 joined : (text : List ℕ) → flat_map ended (pieces text) ≡ text ++ 10 ∷ []
 joined [] = refl
-joined (x ∷ xs) = by (x == 10) refl
+joined (x ∷ xs) = by (x == 10) refl (joined xs)
   where
-    by : (b : Bool) → (x == 10) ≡ b → flat_map ended (cond b ([] ∷ pieces xs) (onto_first x (pieces xs))) ≡ x ∷ (xs ++ 10 ∷ [])
-    by true e = ap (λ (l : List ℕ). 10 ∷ l) (joined xs) ∙ ap (λ (y : ℕ). y ∷ (xs ++ 10 ∷ [])) (sym (eqb-true x 10 e))
-    by false e =
+    by : (b : Bool) → (x == 10) ≡ b → flat_map ended (pieces xs) ≡ xs ++ 10 ∷ [] → flat_map ended (cond b ([] ∷ pieces xs) (onto_first x (pieces xs))) ≡ x ∷ (xs ++ 10 ∷ [])
+    by true e h = ap (λ (l : List ℕ). 10 ∷ l) h ∙ ap (λ (y : ℕ). y ∷ (xs ++ 10 ∷ [])) (sym (eqb-true x 10 e))
+    by false e h =
         let c = some_pieces xs in
         ap (flat_map ended) (onto_cons x (pieces xs) c)
-        ∙ ap (λ (l : List ℕ). x ∷ l) (sym (ap (flat_map ended) c.are) ∙ joined xs)
+        ∙ ap (λ (l : List ℕ). x ∷ l) (sym (ap (flat_map ended) c.are) ∙ h)
 
 -- no piece has a line feed
 pieces_plain : (text : List ℕ) → AllByRecursion Plain (pieces text)
 pieces_plain [] = (tt, tt)
-pieces_plain (x ∷ xs) = by (x == 10) refl
+pieces_plain (x ∷ xs) = by (x == 10) refl (pieces_plain xs)
   where
-    by : (b : Bool) → (x == 10) ≡ b → AllByRecursion Plain (cond b ([] ∷ pieces xs) (onto_first x (pieces xs)))
-    by true e = (tt, pieces_plain xs)
-    by false e =
+    by : (b : Bool) → (x == 10) ≡ b → AllByRecursion Plain (pieces xs) → AllByRecursion Plain (cond b ([] ∷ pieces xs) (onto_first x (pieces xs)))
+    by true e h = (tt, h)
+    by false e h =
         let c = some_pieces xs in
-        let all : AllByRecursion Plain (c.first ∷ c.rest) = subst (AllByRecursion Plain) c.are (pieces_plain xs) in
+        let all : AllByRecursion Plain (c.first ∷ c.rest) = subst (AllByRecursion Plain) c.are h in
         subst (AllByRecursion Plain) (sym (onto_cons x (pieces xs) c)) ((e, all.0), all.1)
 
 plain_lines : (n : ℕ) (texts : List (List ℕ)) → AllByRecursion Plain texts → AreLines (take n texts)
-plain_lines n [] all = tt
-plain_lines 0 (t ∷ ts) all = tt
+plain_lines zero [] all = tt
+plain_lines (suc n) [] all = tt
+plain_lines zero (t ∷ ts) all = tt
 plain_lines (suc n) (t ∷ ts) all = (is_line t all.0, plain_lines n ts all.1)
 
 pub lines_are_lines : (text : List ℕ) → AreLines (lines_of text)
@@ -87,7 +88,7 @@ abbrev IsEnded : List ℕ → Type 0
 IsEnded text = (text ≡ []) ⊎ ((front : List ℕ) × (text ≡ front ++ 10 ∷ []))
 
 take_front : {X : Type 0} (xs : List X) (y : X) → take (length (xs ++ y ∷ []) - 1) (xs ++ y ∷ []) ≡ xs
-take_front xs y =
+take_front {X = X} xs y =
     let long = length-append xs (y ∷ []) in
     let short : length (xs ++ y ∷ []) - 1 ≡ length xs = omega (arith, long) in
     ap (λ (n : ℕ). take n (xs ++ y ∷ [])) short ∙ go xs
@@ -117,17 +118,12 @@ if_ended false text h = inl refl
 module _ (rows : Rows) where
   transfer_ended : (id : Text) (x : TxRow) → IsEnded (told_transfer rows id x)
   transfer_ended id x =
-      if_ended (is_some x.transferred_id && not (is_paired rows id x)) (transfer_line id) (inr (codes "transfer " ++ id, sym (append_assoc (codes "transfer ") id (10 ∷ []))))
+      if_ended (is_some x.transferred_id && not (is_paired rows id x)) (transfer_line id) (inr (codes "transfer " ++ id, refl))
 
   split_ended : (id : Text) (x : TxRow) → IsEnded (told_split rows id x)
   split_ended id x =
-      let rest : List ℕ = signed_decimal (x.amount -ℤ parts_sum rows id) in
       if_ended (x.is_parent && not (int_eq (x.amount -ℤ parts_sum rows id) (pos 0))) (split_line rows id x)
-      (inr (
-        codes "split " ++ id ++ (32 ∷ []) ++ rest,
-        ap (λ (t : List ℕ). codes "split " ++ t) (ap (λ (t : List ℕ). id ++ t) (sym (append_assoc (32 ∷ []) rest (10 ∷ []))) ∙ sym (append_assoc id ((32 ∷ []) ++ rest) (10 ∷ [])))
-            ∙ sym (append_assoc (codes "split ") (id ++ (32 ∷ []) ++ rest) (10 ∷ [])),
-      ))
+      (inr (codes "split " ++ id ++ (32 ∷ []) ++ signed_decimal (x.amount -ℤ parts_sum rows id), refl))
 
   told_ended : (e : Text × TxRow) → IsEnded (told_of rows e)
   told_ended e = if_ended (is_live_tx rows e.1) (told_transfer rows e.0 e.1 ++ told_split rows e.0 e.1)

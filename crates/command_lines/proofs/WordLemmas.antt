@@ -1,7 +1,7 @@
 -- The words of a line, and the command of words.
-use Rattle.std.proofs.Common.{◌≡◌, ℕ, ◌+◌, ◌<◌, ◌≤◌, Bool, true, false, cond, eqb, List, [], ◌∷◌, length, None, Some, Result, Ok, Err, refl, ap, sym, subst, arith}
+use Rattle.std.proofs.Common.{◌≡◌, ◌≢◌, ℕ, ◌+◌, ◌<◌, ◌≤◌, Bool, true, false, cond, eqb, List, [], ◌∷◌, length, None, Some, Result, Ok, Err, refl, ap, sym, subst, arith}
 use Rattle.std.specs.Result.{IsErrAnd}
-use Rattle.std.specs.Prelude.{◌==◌, ◌^◌}
+use Rattle.std.specs.Prelude.{◌==◌, ◌^◌, IfErr}
 use Rattle.std.specs.List.{onto_first}
 use Rattle.std.proofs.lemmas.List.Splits.{length-slice_split}
 use Rattle.std.proofs.lemmas.List.Sums.{count_by-le-length}
@@ -35,6 +35,16 @@ pub surplus : (c : Command) (last : ℕ) (text : List ℕ) → command_of (no_mo
 surplus c last [] = surplus_word c last [] []
 surplus c last (x ∷ xs) = surplus_at c last x (eqb x 9) (parts xs)
 
+-- what is left of a line has a word
+pub some_parts : (text : List ℕ) → parts text ≢ []
+some_parts [] = λ e. cc
+some_parts (x ∷ xs) = by (eqb x 9) (parts xs)
+  where
+    by : (b : Bool) (ps : List (List ℕ)) → cond b ([] ∷ ps) (onto_first x ps) ≢ []
+    by true ps = λ e. cc
+    by false [] = λ e. cc
+    by false (p ∷ ps) = λ e. cc
+
 -- the fault with which a `?` leaves a function is what the call gave
 pub at_exit : (meant : Result Command ℕ) (r : Result Command CommandFault) (fault : CommandFault) → IsErrAnd r (λ given. given ≡ fault) → IsCommandFault meant fault → IsRead meant r
 at_exit meant (Ok c) fault h f = absurd h
@@ -43,6 +53,17 @@ at_exit meant (Err given) fault h f = subst (IsCommandFault meant) (sym h) f
 -- the same where the words before the fault were read
 pub at_later_exit : (meant left : Result Command ℕ) (r : Result Command CommandFault) (fault : CommandFault) → meant ≡ left → IsErrAnd r (λ given. given ≡ fault) → IsCommandFault left fault → IsRead meant r
 at_later_exit meant left r fault e h f = at_exit meant r fault h (subst (λ m. IsCommandFault m fault) (sym e) f)
+
+-- the same of a call that gives something else
+pub at_err : {A : Type 0} (P : CommandFault → Type 0) (r : Result A CommandFault) (fault : CommandFault) → IsErrAnd r (λ given. given ≡ fault) → P fault → IfErr r P
+at_err P (Ok a) fault h f = tt
+at_err P (Err given) fault h f = subst P (sym h) f
+
+-- the same fault of what is the same
+pub err_by : {A : Type 0} (meant other : List ℕ → Result Command ℕ) (r : Result A CommandFault) → ((id : List ℕ) → meant id ≡ other id)
+    → IfErr r (λ fault. (id : List ℕ) → IsCommandFault (meant id) fault) → IfErr r (λ fault. (id : List ℕ) → IsCommandFault (other id) fault)
+err_by meant other (Ok a) same h = tt
+err_by meant other (Err fault) same h = λ id. subst (λ m. IsCommandFault m fault) (same id) (h id)
 
 -- a line has at most one word more than bytes
 pub few_words : (line name : List ℕ) (ws : List (List ℕ)) → parts line ≡ name ∷ ws → length line ≤ 1_048_576 → length ws < 2 ^ 31

@@ -22,7 +22,7 @@ added count = Done ((codes "added " ++ decimal count) ∷ [])
 
 -- a sync that ended with equal tries, after so many requests, and so many messages that were new
 abbrev pub synced : ℕ → ℕ → Reply
-synced requests received = Done ((codes "requests " ++ decimal requests ++ codes " received " ++ decimal received) ∷ [])
+synced requests received = Done ((codes "requests " ++ (decimal requests ++ (codes " received " ++ decimal received))) ∷ [])
 
 -- a sync that failed, and where: the link to the server did, the reply was bad at this byte, its status was this one, or the tries
 -- differed still after the last request, with these roots

@@ -10,7 +10,7 @@ use crate::words::{Words, cut_word};
 use device_core::{BookEdit, Edit};
 use field_merge::Message;
 use field_values::{Field, NameFault, NoMemory, Txt, Value};
-use std::alloc::Global;
+use std::alloc::{AllocFailed, Global};
 
 /// What a line commands.
 #[derive(Debug, Drop)]
@@ -107,6 +107,14 @@ impl From<NoMemory> for CommandFault {
     ghost from_gives = { λ _ fault. fault ≡ OutOfMemory };
 
     fn from(_error: NoMemory) -> CommandFault {
+        CommandFault::NoMemory
+    }
+}
+
+impl<T: Drop> From<AllocFailed<T>> for CommandFault {
+    ghost from_gives = { λ _ fault. fault ≡ OutOfMemory };
+
+    fn from(_error: AllocFailed<T>) -> CommandFault {
         CommandFault::NoMemory
     }
 }

@@ -1,8 +1,9 @@
 //! The lines that edit a transaction and those that hang together with it.
 ghost use Rattle.std.specs.Prelude.{◌≡◌, ◌≢◌, ◌<◌, [], List, ℕ, ℤ, length, map, IfOk, IfErr, OnOk, Ok, Option as Choice};
 ghost use Rattle.command_lines.specs.declared.command.Command.{Command};
+ghost use Rattle.split_transfer.specs.declared.edit.TxChange.TheVariants.{Date, Amount, Account, Payee, Category, Notes, Cleared, Schedule};
 ghost use Rattle.command_lines.specs.Commands.{tx_set_words, change_words, change, tx_delete_words, split_words, transfer_words, share_of, words_of_pair_lines, IsRead, IsCommand, IsCommandFault};
-ghost use Rattle.command_lines.specs.Forms.{Wanted, Share, some_shares, amount_word, id_word};
+ghost use Rattle.command_lines.specs.Forms.{Wanted, Share, some_shares, word, date_word, amount_word, flag_word, id_word};
 ghost use Rattle.command_lines.specs.Unread.{command_of_unread, HasText, IsFaultOf};
 
 use crate::command::{Command, CommandFault};
@@ -12,6 +13,94 @@ use device_core::{Edit, PairEdit, SplitPart, TxChange};
 use field_values::Items;
 use std::alloc::Global;
 
+/// The word behind `date`: a date.
+fn date_change(alloc: Global, words: &mut Words<'_>) -> Result<TxChange, CommandFault>
+    ensures ok { IfOk result (λ c. (id : List ℕ) → command_of_unread (date_word (λ v. change (Date v) id)) words.old ≡ command_of_unread (change c id) words.new) }
+    ensures err { IfErr result (λ fault. (id : List ℕ) → IsCommandFault (command_of_unread (date_word (λ v. change (Date v) id)) words.old) fault) }
+{
+    match words.date(alloc) {
+        Ok(read) => Ok(TxChange::Date(read)),
+        Err(fault) => Err(fault),
+    }
+}
+
+/// The word behind `amount`: an amount.
+fn amount_change(alloc: Global, words: &mut Words<'_>) -> Result<TxChange, CommandFault>
+    ensures ok { IfOk result (λ c. (id : List ℕ) → command_of_unread (amount_word (λ v. change (Amount v) id)) words.old ≡ command_of_unread (change c id) words.new) }
+    ensures err { IfErr result (λ fault. (id : List ℕ) → IsCommandFault (command_of_unread (amount_word (λ v. change (Amount v) id)) words.old) fault) }
+{
+    match words.amount(alloc) {
+        Ok(read) => Ok(TxChange::Amount(read)),
+        Err(fault) => Err(fault),
+    }
+}
+
+/// The word behind `account`: an account.
+fn account_change(alloc: Global, words: &mut Words<'_>) -> Result<TxChange, CommandFault>
+    ensures ok { IfOk result (λ c. (id : List ℕ) → command_of_unread (word (λ v. change (Account v) id)) words.old ≡ command_of_unread (change c id) words.new) }
+    ensures err { IfErr result (λ fault. (id : List ℕ) → IsCommandFault (command_of_unread (word (λ v. change (Account v) id)) words.old) fault) }
+{
+    match words.text(alloc) {
+        Ok(read) => Ok(TxChange::Account(read)),
+        Err(fault) => Err(fault),
+    }
+}
+
+/// The word behind `payee`: a payee, or a hyphen for none.
+fn payee_change(alloc: Global, words: &mut Words<'_>) -> Result<TxChange, CommandFault>
+    ensures ok { IfOk result (λ c. (id : List ℕ) → command_of_unread (id_word (λ v. change (Payee v) id)) words.old ≡ command_of_unread (change c id) words.new) }
+    ensures err { IfErr result (λ fault. (id : List ℕ) → IsCommandFault (command_of_unread (id_word (λ v. change (Payee v) id)) words.old) fault) }
+{
+    match words.id_or_none(alloc) {
+        Ok(read) => Ok(TxChange::Payee(read)),
+        Err(fault) => Err(fault),
+    }
+}
+
+/// The word behind `category`: a category, or a hyphen for none.
+fn category_change(alloc: Global, words: &mut Words<'_>) -> Result<TxChange, CommandFault>
+    ensures ok { IfOk result (λ c. (id : List ℕ) → command_of_unread (id_word (λ v. change (Category v) id)) words.old ≡ command_of_unread (change c id) words.new) }
+    ensures err { IfErr result (λ fault. (id : List ℕ) → IsCommandFault (command_of_unread (id_word (λ v. change (Category v) id)) words.old) fault) }
+{
+    match words.id_or_none(alloc) {
+        Ok(read) => Ok(TxChange::Category(read)),
+        Err(fault) => Err(fault),
+    }
+}
+
+/// The word behind `notes`: any text.
+fn notes_change(alloc: Global, words: &mut Words<'_>) -> Result<TxChange, CommandFault>
+    ensures ok { IfOk result (λ c. (id : List ℕ) → command_of_unread (word (λ v. change (Notes v) id)) words.old ≡ command_of_unread (change c id) words.new) }
+    ensures err { IfErr result (λ fault. (id : List ℕ) → IsCommandFault (command_of_unread (word (λ v. change (Notes v) id)) words.old) fault) }
+{
+    match words.text(alloc) {
+        Ok(read) => Ok(TxChange::Notes(read)),
+        Err(fault) => Err(fault),
+    }
+}
+
+/// The word behind `cleared`: a flag.
+fn cleared_change(alloc: Global, words: &mut Words<'_>) -> Result<TxChange, CommandFault>
+    ensures ok { IfOk result (λ c. (id : List ℕ) → command_of_unread (flag_word (λ v. change (Cleared v) id)) words.old ≡ command_of_unread (change c id) words.new) }
+    ensures err { IfErr result (λ fault. (id : List ℕ) → IsCommandFault (command_of_unread (flag_word (λ v. change (Cleared v) id)) words.old) fault) }
+{
+    match words.flag(alloc) {
+        Ok(read) => Ok(TxChange::Cleared(read)),
+        Err(fault) => Err(fault),
+    }
+}
+
+/// The word behind `schedule`: a schedule, or a hyphen for none.
+fn schedule_change(alloc: Global, words: &mut Words<'_>) -> Result<TxChange, CommandFault>
+    ensures ok { IfOk result (λ c. (id : List ℕ) → command_of_unread (id_word (λ v. change (Schedule v) id)) words.old ≡ command_of_unread (change c id) words.new) }
+    ensures err { IfErr result (λ fault. (id : List ℕ) → IsCommandFault (command_of_unread (id_word (λ v. change (Schedule v) id)) words.old) fault) }
+{
+    match words.id_or_none(alloc) {
+        Ok(read) => Ok(TxChange::Schedule(read)),
+        Err(fault) => Err(fault),
+    }
+}
+
 /// What a column of a transaction gets: the word behind the column's name, which is the word that was read last.
 #[tactic(auto, unfolding(crate::specs::Commands::change_words))]
 fn change_of(alloc: Global, column: &str, words: &mut Words<'_>) -> Result<TxChange, CommandFault>
@@ -19,14 +108,14 @@ fn change_of(alloc: Global, column: &str, words: &mut Words<'_>) -> Result<TxCha
     ensures err { IfErr result (λ fault. (id : List ℕ) → IsCommandFault (command_of_unread (change_words id column.now) words.old) fault) }
 {
     match column {
-        "date" => Ok(TxChange::Date(words.date(alloc)?)),
-        "amount" => Ok(TxChange::Amount(words.amount(alloc)?)),
-        "account" => Ok(TxChange::Account(words.text(alloc)?)),
-        "payee" => Ok(TxChange::Payee(words.id_or_none(alloc)?)),
-        "category" => Ok(TxChange::Category(words.id_or_none(alloc)?)),
-        "notes" => Ok(TxChange::Notes(words.text(alloc)?)),
-        "cleared" => Ok(TxChange::Cleared(words.flag(alloc)?)),
-        "schedule" => Ok(TxChange::Schedule(words.id_or_none(alloc)?)),
+        "date" => date_change(alloc, words),
+        "amount" => amount_change(alloc, words),
+        "account" => account_change(alloc, words),
+        "payee" => payee_change(alloc, words),
+        "category" => category_change(alloc, words),
+        "notes" => notes_change(alloc, words),
+        "cleared" => cleared_change(alloc, words),
+        "schedule" => schedule_change(alloc, words),
         _ => Err(words.at_last()),
     }
 }
@@ -83,10 +172,8 @@ fn push_part(
     ensures memory { IfErr result (λ fault. fault ≡ CommandFault.NoMemory → HasText words.old.words) }
 {
     let part = part(alloc, words)?;
-    match parts.push(part) {
-        Ok(()) => Ok(()),
-        Err(_) => Err(CommandFault::NoMemory),
-    }
+    parts.push(part)?;
+    Ok(())
 }
 
 /// The parts of a split, one or more, to the end of the line.

@@ -78,7 +78,10 @@ impl<'a> Words<'a> {
         ensures done { IsTrue result → self.now.words ≡ [] }
         ensures more { result ≡ false → self.now.words ≢ [] }
     {
-        self.rest.is_none()
+        match self.rest {
+            Some(_) => false,
+            None => true,
+        }
     }
 
     /// The fault of a word behind the one that was read last: it is missing, or one too many.

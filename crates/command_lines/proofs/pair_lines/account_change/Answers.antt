@@ -1,0 +1,6 @@
+use Rattle.split_transfer.specs.declared.edit.TxChange.TheVariants.{Account}
+use Rattle.command_lines.specs.Commands.{change}
+use Rattle.command_lines.proofs.pair_lines.account_change.Goals as goal
+
+pub returns-in-Err-clause-err : goal.returns-in-Err-clause-err
+returns-in-Err-clause-err c = λ id. c.in-Err.ensures.err (λ v. change (Account v) id)
