@@ -107,7 +107,7 @@ impl<'a, N: Net<Listener = TcpListener, Stream = TcpStream>, C: Clock> TcpLink<'
 
     /// Counts a failure. All else stays as it is.
     fn fail(&mut self) -> PortFault
-        ensures { self.new ≡ record self.old { faults = risen self.old.faults } }
+        ensures counted { self.new ≡ record self.old { faults = risen self.old.faults } }
         ensures failed { result ≡ PortFault.Failed }
     {
         self.faults = self.faults.saturating_add(1);
