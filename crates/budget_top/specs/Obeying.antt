@@ -61,7 +61,7 @@ pub record Syncs (r : Running) (given : Given) (end : State) (outcome : Outcome)
   -- at an agreement the text of the clock's timestamp tells of the last sync, and the reply how many requests there were, and by how many
   -- messages the set has grown
   pub agrees : outcome ≡ agreed → (after.synced ≡ Some (stamp_text end.clock)) ×
-      (reply ≡ Done ((codes "requests " ++ decimal (length given.turns) ++ codes " received " ++ decimal (length end.messages - length r.state.messages)) ∷ []))
+      (reply ≡ Done ((codes "requests " ++ (decimal (length given.turns) ++ (codes " received " ++ decimal (length end.messages - length r.state.messages)))) ∷ []))
   -- else that text stays, and the reply tells why: the link failed, the reply was bad, the server refused, the tries still differ, or the clock
   -- refused what came
   pub stays : outcome ≢ agreed → after.synced ≡ r.synced
