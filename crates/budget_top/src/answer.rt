@@ -125,17 +125,17 @@ fn receive<G: Ledger>(
     device: &mut Device,
     steps: &mut Steps<G>,
     reading: u64,
-    message: Message,
+    message: &Message,
 ) -> Result<Reply, NoMemory>
     requires live { device.old.spent ≡ false }
     requires idle { device.old.batch ≡ [] }
-    requires valid { IsMessage message }
-    ensures ok { IfOk result (λ reply. settled device.old.state added_all (received device.old.state (message ∷ []) reading) ≡ (device.new.state, reply)) }
+    requires valid { IsMessage message.now }
+    ensures ok { IfOk result (λ reply. settled device.old.state added_all (received device.old.state (message.now ∷ []) reading) ≡ (device.new.state, reply)) }
     ensures live { OnOk result (device.new.spent ≡ false) }
     ensures brings { OnOk result (Brings device.old.state.messages device.new) }
 {
     accepted_are_joined();
-    match device.incoming(&[message], reading, steps) {
+    match device.incoming(&[message.copy()?], reading, steps) {
         Ok(count) => added_reply(alloc, count),
         Err(refusal) => refusal_reply(alloc, &refusal),
     }
@@ -158,23 +158,23 @@ fn obey<G: Ledger>(
     device: &mut Device,
     steps: &mut Steps<G>,
     reading: u64,
-    command: Command,
+    command: &Command,
 ) -> Result<Reply, NoMemory>
     requires live { device.old.spent ≡ false }
     requires idle { device.old.batch ≡ [] }
-    requires valid { IsCommand command }
-    requires plain { IsPlain (Ok command) }
-    ensures ok { IfOk result (λ reply. obeyed device.old.state reading (Ok command) ≡ (device.new.state, reply)) }
+    requires valid { IsCommand command.now }
+    requires plain { IsPlain (Ok command.now) }
+    ensures ok { IfOk result (λ reply. obeyed device.old.state reading (Ok command.now) ≡ (device.new.state, reply)) }
     ensures live { OnOk result (device.new.spent ≡ false) }
     ensures brings { OnOk result (Brings device.old.state.messages device.new) }
 {
     match command {
-        Command::Edit(edit) => make(alloc, device, steps, reading, &edit),
+        Command::Edit(edit) => make(alloc, device, steps, reading, edit),
         Command::Undo => undo(alloc, device, steps, reading),
         Command::Redo => redo(alloc, device, steps, reading),
         Command::Receive { message } => receive(alloc, device, steps, reading, message),
         Command::Sync => unreachable!(),
-        other => read(alloc, device, &other),
+        other => read(alloc, device, other),
     }
 }
 
@@ -194,9 +194,9 @@ fn reply_to<G: Ledger>(
     ensures live { OnOk result (device.new.spent ≡ false) }
     ensures brings { OnOk result (Brings device.old.state.messages device.new) }
 {
-    match asked {
+    match &asked {
         Ok(command) => obey(alloc, device, steps, reading, command),
-        Err(word) => faulty_reply(alloc, word),
+        Err(word) => faulty_reply(alloc, *word),
     }
 }
 
