@@ -8,12 +8,13 @@ ghost use Rattle.budget_top.specs.Outside.{outside};
 ghost use Rattle.budget_top.specs.Ran.{Ran};
 ghost use Rattle.budget_top.specs.declared.words.Mode.TheVariants.{Merge, Device, Serve};
 
-mod closed_link;
+mod connection;
 mod ports;
 mod stdin_source;
 mod stdout_sink;
 mod system_clock;
 mod tcp_door;
+mod tcp_link;
 mod telling;
 #[cfg(test)]
 mod tests;
@@ -21,7 +22,7 @@ mod tests;
 use budget_ports::{Door, Keeper, Link, Sink, Source, WallClock};
 use budget_top::{Mode, WordFault, plan, refusal_status, run};
 use field_values::{Items, Steps, Txt};
-use ports::{Ports, memory_keeper};
+use ports::memory_keeper;
 use sqlite_keeper::{ShutKeeper, StoreFault, open};
 use std::alloc::Global;
 use std::env;
@@ -31,7 +32,9 @@ use std::process::ExitCode;
 use std::sync::ledger::{Blank, Ledger};
 use stdin_source::StdinSource;
 use stdout_sink::StdoutSink;
+use system_clock::SystemClock;
 use tcp_door::TcpDoor;
+use tcp_link::TcpLink;
 use telling::{USAGE, failure};
 
 /// The status of a run whose store failed.
@@ -92,11 +95,10 @@ fn status_over<G: Ledger, S: Source, W: Sink, K: Keeper, L: Link, D: Door, C: Wa
     requires parts { blank.parts ≡ G.parts }
     requires some { 1 ≤ G.parts }
     ensures ran { Ran words.now result (outside (S.left source.old) (S.faults source.old) (W.taken sink.old) (W.faults sink.old) (K.tells keeper.old) (K.contents keeper.old) (K.left keeper.old) (K.faults keeper.old) (L.exchanges link.old) (L.faults link.old) (D.waiting door.old) (D.outs door.old) (D.faults door.old) (C.readings clock.old)) (outside (S.left source.new) (S.faults source.new) (W.taken sink.new) (W.faults sink.new) (K.tells keeper.new) (K.contents keeper.new) (K.left keeper.new) (K.faults keeper.new) (L.exchanges link.new) (L.faults link.new) (D.waiting door.new) (D.outs door.new) (D.faults door.new) (C.readings clock.new)) }
-    ensures untouched { IsErr (planned words.now) → (source.new ≡ source.old) × (sink.new ≡ sink.old) × (keeper.new ≡ keeper.old) × (door.new ≡ door.old) × (clock.new ≡ clock.old) }
-    ensures merge_alone { planned_mode words.now ≡ Some Merge → (keeper.new ≡ keeper.old) × (door.new ≡ door.old) × (clock.new ≡ clock.old) }
+    ensures untouched { IsErr (planned words.now) → (source.new ≡ source.old) × (sink.new ≡ sink.old) × (keeper.new ≡ keeper.old) × (link.new ≡ link.old) × (door.new ≡ door.old) × (clock.new ≡ clock.old) }
+    ensures merge_alone { planned_mode words.now ≡ Some Merge → (keeper.new ≡ keeper.old) × (link.new ≡ link.old) × (door.new ≡ door.old) × (clock.new ≡ clock.old) }
     ensures device_alone { planned_mode words.now ≡ Some Device → door.new ≡ door.old }
-    ensures serve_alone { planned_mode words.now ≡ Some Serve → (source.new ≡ source.old) × (clock.new ≡ clock.old) }
-    ensures apart { link.new ≡ link.old }
+    ensures serve_alone { planned_mode words.now ≡ Some Serve → (source.new ≡ source.old) × (link.new ≡ link.old) × (clock.new ≡ clock.old) }
 {
     let mut steps = Steps::<G>::new(blank);
     run(
@@ -104,11 +106,13 @@ fn status_over<G: Ledger, S: Source, W: Sink, K: Keeper, L: Link, D: Door, C: Wa
     )
 }
 
-/// Does what the words ask for over the standard streams, this keeper and this door, with the clock of the
-/// system, and answers the status. What a run that broke off has written is handed on when the writer is dropped.
+/// Does what the words ask for over the standard streams, this keeper, this door and a link to the server at an
+/// address, if there is one, with the clock of the system, and answers the status. What a run that broke off has
+/// written is handed on when the writer is dropped.
 fn run_with<K: Keeper, D: Door>(
     rt: &HostRuntime,
     words: &Items<Txt>,
+    peer: Option<&str>,
     keeper: &mut K,
     door: &mut D,
 ) -> u8 {
@@ -118,9 +122,8 @@ fn run_with<K: Keeper, D: Door>(
     };
     let mut source = StdinSource::new(rt.stdin());
     let mut sink = StdoutSink::new(writer);
-    let ports = Ports::new(rt);
-    let mut link = ports.link;
-    let mut clock = ports.clock;
+    let mut link = TcpLink::new(alloc, rt, rt, peer);
+    let mut clock = SystemClock::new(rt);
     status_over::<Brand, _, _, _, _, _, _>(
         alloc,
         words,
@@ -160,12 +163,13 @@ fn tell_store(rt: &HostRuntime, fault: &StoreFault) {
 fn run_over_store<D: Door>(
     rt: &HostRuntime,
     words: &Items<Txt>,
+    peer: Option<&str>,
     path: &str,
     door: &mut D,
 ) -> ExitCode {
     match open(rt, path) {
         Ok(mut keeper) => {
-            let status = run_with(rt, words, &mut keeper, door);
+            let status = run_with(rt, words, peer, &mut keeper, door);
             // what was answered is committed already
             let _ = keeper.into_connection().close();
             ended(rt, status)
@@ -173,7 +177,7 @@ fn run_over_store<D: Door>(
         Err(StoreFault::NoMemory) => without_run(rt, WordFault::NoMemory),
         Err(fault) => {
             tell_store(rt, &fault);
-            match run_with(rt, words, &mut ShutKeeper::new(), door) {
+            match run_with(rt, words, peer, &mut ShutKeeper::new(), door) {
                 STORE_FAILED => ExitCode::from(STORE_FAILED),
                 status => ended(rt, status),
             }
@@ -181,8 +185,8 @@ fn run_over_store<D: Door>(
     }
 }
 
-/// Does what the words ask for. A server listens at its address; of any other run the door is shut. A device
-/// or a server with a store runs over its file, any other run keeps what it keeps in memory.
+/// Does what the words ask for. A server listens at its address; of any other run the door is shut. A device talks to
+/// the server at the peer's address; any other run has no link. A device or a server with a store runs over its file, any other run keeps what it keeps in memory.
 fn main(rt: HostRuntime) -> ExitCode {
     let words = match words_of(&rt) {
         Ok(words) => words,
@@ -196,12 +200,16 @@ fn main(rt: HostRuntime) -> ExitCode {
         Mode::Serve => TcpDoor::listen(&rt, &rt, plan.listen.as_str()),
         Mode::Merge | Mode::Device => TcpDoor::shut(&rt),
     };
-    match (plan.mode, plan.store) {
+    let peer = match plan.mode {
+        Mode::Device => Some(plan.peer.as_str()),
+        Mode::Merge | Mode::Serve => None,
+    };
+    match (plan.mode, &plan.store) {
         (Mode::Device | Mode::Serve, Some(path)) => {
-            run_over_store(&rt, &words, path.as_str(), &mut door)
+            run_over_store(&rt, &words, peer, path.as_str(), &mut door)
         }
         _ => {
-            let status = run_with(&rt, &words, &mut memory_keeper(rt.alloc()), &mut door);
+            let status = run_with(&rt, &words, peer, &mut memory_keeper(rt.alloc()), &mut door);
             ended(&rt, status)
         }
     }

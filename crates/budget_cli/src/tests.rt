@@ -2,7 +2,8 @@ use crate::stdin_source::StdinSource;
 use crate::stdout_sink::StdoutSink;
 use crate::system_clock::SystemClock;
 use crate::tcp_door::TcpDoor;
-use budget_ports::{Door, Failed, Sink, Source, WallClock};
+use crate::tcp_link::TcpLink;
+use budget_ports::{Door, Failed, Link, PortFault, Sink, Source, WallClock};
 use std::cell::Cell;
 use std::io;
 use std::io::{ErrorKind, Read, Write};
@@ -159,5 +160,31 @@ fn connections_are_let_in(rt: HostRuntime) -> Result<(), Fail> {
     let mut came = Vec::new(rt.alloc());
     peer.read_to_end(&mut came)?;
     assert_eq!(rt; came.as_slice(), b"answer".as_slice());
+    Ok(())
+}
+
+/// A request and its reply over a connection of their own. Without a server each call fails, and so does a reply that nothing was sent for.
+#[test]
+fn replies_come_over_the_network(rt: HostRuntime) -> Result<(), Fail> {
+    let address = TcpListener::bind(&rt, "127.0.0.1:0")?.local_addr()?;
+    let text = format!(in rt.alloc(); "{address}")?;
+    let mut alone = TcpLink::new(rt.alloc(), &rt, &rt, None);
+    assert_eq!(rt; alone.send(b"ask"), Err(PortFault::Failed));
+    let mut link = TcpLink::new(rt.alloc(), &rt, &rt, Some(text.as_str()));
+    assert_eq!(rt; link.send(b"ask"), Err(PortFault::Failed));
+    assert!(rt; link.receive().is_err());
+    let mut door = TcpDoor::listen(&rt, &rt, text.as_str());
+    assert_eq!(rt; link.send(b"ask"), Ok(()));
+    let mut buffer = *b"....";
+    assert_eq!(rt; door.accept(), Ok(()));
+    assert_eq!(rt; door.read(&mut buffer), Ok(3));
+    assert_eq!(rt; buffer, *b"ask.");
+    assert_eq!(rt; door.write(b"answer"), Ok(6));
+    drop(door);
+    let Ok(came) = link.receive() else {
+        return Err(Fail::new("no reply"));
+    };
+    assert_eq!(rt; came.as_slice(), b"answer".as_slice());
+    assert!(rt; link.receive().is_err());
     Ok(())
 }

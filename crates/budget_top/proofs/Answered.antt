@@ -2,7 +2,7 @@
 use Rattle.std.proofs.Common.{◌≡◌, ℕ, sym, ap, Result, Ok, Err, IfOk, OnOk}
 use Rattle.device_core.specs.Device.{State}
 use Rattle.command_lines.specs.declared.command.Command.{Command}
-use Rattle.command_lines.specs.declared.command.Command.TheVariants.{Edit, Receive, Fields, Messages, Value, Trie, Balance, Register, Cell, Sheet}
+use Rattle.command_lines.specs.declared.command.Command.TheVariants.{Edit, Undo, Redo, Receive, Fields, Messages, Value, Trie, Balance, Register, Cell, Sheet, Broken, Sync}
 use Rattle.command_lines.specs.declared.reply.Reply.{Reply}
 use Rattle.command_lines.specs.Readings.{answer, IsReading}
 use Rattle.budget_top.specs.Session.{obeyed}
@@ -14,6 +14,9 @@ IsObeyed s command reply reading = obeyed s reading (Ok command) ≡ (s, reply)
 replied : (s : State) (command : Command) (reply : Reply) → IsReading command → reply ≡ answer s.messages command → (reading : ℕ) → IsObeyed s command reply reading
 replied s (Edit edit) reply h e reading = absurd h
 replied s (Receive message) reply h e reading = absurd h
+replied s Undo reply h e reading = absurd h
+replied s Redo reply h e reading = absurd h
+replied s Sync reply h e reading = absurd h
 replied s Fields reply h e reading = ap (λ (r : Reply). (s, r)) (sym e)
 replied s (Messages since) reply h e reading = ap (λ (r : Reply). (s, r)) (sym e)
 replied s (Value dataset row column) reply h e reading = ap (λ (r : Reply). (s, r)) (sym e)
@@ -22,6 +25,7 @@ replied s (Balance account) reply h e reading = ap (λ (r : Reply). (s, r)) (sym
 replied s (Register account) reply h e reading = ap (λ (r : Reply). (s, r)) (sym e)
 replied s (Cell month name) reply h e reading = ap (λ (r : Reply). (s, r)) (sym e)
 replied s (Sheet month) reply h e reading = ap (λ (r : Reply). (s, r)) (sym e)
+replied s Broken reply h e reading = ap (λ (r : Reply). (s, r)) (sym e)
 
 pub reads : {E : Type 0} (s : State) (command : Command) (result : Result Reply E) → IsReading command → IfOk result (λ reply. reply ≡ answer s.messages command)
     → IfOk result (λ reply. (reading : ℕ) → obeyed s reading (Ok command) ≡ (s, reply))

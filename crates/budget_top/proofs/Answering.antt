@@ -15,7 +15,7 @@ use Rattle.budget_top.specs.declared.stop.DeviceStop.TheVariants.{Run, Keeper}
 use Rattle.budget_top.specs.declared.stop.Stop.TheVariants.{Memory, Sink}
 use Rattle.budget_top.specs.Lines.{whole_lines}
 use Rattle.budget_top.specs.Limits.{most_input, HasRead, AreDue}
-use Rattle.budget_top.specs.Doing.{Target}
+use Rattle.device_sync.specs.declared.target.Target.{Target}
 use Rattle.budget_top.specs.Seen.{Seen, Holds}
 use Rattle.budget_top.specs.Handling.{IsOpened}
 use Rattle.budget_top.specs.Stops.{device_stop_status}
@@ -187,10 +187,10 @@ answered_from status left new_left e alone before now f h =
 
 -- the opening
 
-pub stands_open : (node : List ℕ) (target : Target) (session : Session) (old now : Seen) → IsOpened node old.contents now.tells session.device → session.line ≡ Some [] → session.bad ≡ false → now.taken ≡ old.taken → now.readings ≡ old.readings
+pub stands_open : (node : List ℕ) (target : Target) (session : Session) (old now : Seen) → IsOpened node old.contents now.tells session.device → session.line ≡ Some [] → session.target ≡ target → session.bad ≡ false → now.taken ≡ old.taken → now.readings ≡ old.readings
     → now.exchanges ≡ old.exchanges → now.link_faults ≡ old.link_faults → (now.tells → now.contents ≡ old.contents)
     → Stands (entry old target (beginning node target session.device.state.messages old.contents)) [] session now
-stands_open node target session old now h line bad taken readings exchanges faults same = record {
+stands_open node target session old now h line to bad taken readings exchanges faults same = record {
   handled = record {
     inputs = [];
     lines = refl;
@@ -211,6 +211,7 @@ stands_open node target session old now h line bad taken readings exchanges faul
         });
   };
   line = line;
+  target = to;
   state = ap (λ (d : DeviceState). d.state) h.state;
   bad = bad;
 }

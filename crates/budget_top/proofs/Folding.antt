@@ -5,7 +5,8 @@ use Rattle.budget_ports.specs.Faults.{count_after}
 use Rattle.budget_ports.specs.Readings.{Readings, Takes, TakesAll, rest_of}
 use Rattle.command_lines.specs.Replies.{reply_text_of}
 use Rattle.budget_top.specs.Session.{asked, is_refused}
-use Rattle.budget_top.specs.Doing.{Target, Running, IsWhole, Finds, fails_link}
+use Rattle.device_sync.specs.declared.target.Target.{Target}
+use Rattle.budget_top.specs.Doing.{Running, said, IsWhole, Finds, fails_link}
 use Rattle.budget_top.specs.Course.{Input, step, after, replies, some_refused, talks, AreWhole, AreFound, link_faults_after}
 use Rattle.budget_top.specs.Standing.{lines_of, readings_of}
 
@@ -41,9 +42,9 @@ pub readings-last : (is : List Input) (i : Input) → readings_of (is ++ i ∷ [
 readings-last [] i = refl
 readings-last (j ∷ is) i = ap (λ rs. j.given.reading ∷ rs) (readings-last is i)
 
-pub talks-last : (is : List Input) (i : Input) → talks (is ++ i ∷ []) ≡ talks is ++ i.given.talk
-talks-last [] i = append-nil i.given.talk
-talks-last (j ∷ is) i = ap (λ xs. j.given.talk ++ xs) (talks-last is i) ∙ sym (append_assoc j.given.talk (talks is) i.given.talk)
+pub talks-last : (is : List Input) (i : Input) → talks (is ++ i ∷ []) ≡ talks is ++ said i.given
+talks-last [] i = append-nil (said i.given)
+talks-last (j ∷ is) i = ap (λ xs. said j.given ++ xs) (talks-last is i) ∙ sym (append_assoc (said j.given) (talks is) (said i.given))
 
 pub whole-last : (t : Target) (r : Running) (is : List Input) (i : Input) → AreWhole t r is → IsWhole t (after t r is).state i.given (asked i.line) → AreWhole t r (is ++ i ∷ [])
 whole-last t r [] i all one = (one, tt)
@@ -54,9 +55,9 @@ found-last t r [] i all one = (one, tt)
 found-last t r (j ∷ is) i all one = (all.0, found-last t (step t r j).0 is i all.1 one)
 
 pub faults-last : (t : Target) (r : Running) (n : ℕ) (is : List Input) (i : Input)
-    → link_faults_after t r n (is ++ i ∷ []) ≡ count_after (fails_link (asked i.line) (step t (after t r is) i).1) (link_faults_after t r n is)
+    → link_faults_after t r n (is ++ i ∷ []) ≡ count_after (fails_link (after t r is).state i.given (asked i.line)) (link_faults_after t r n is)
 faults-last t r n [] i = refl
-faults-last t r n (j ∷ is) i = faults-last t (step t r j).0 (count_after (fails_link (asked j.line) (step t r j).1) n) is i
+faults-last t r n (j ∷ is) i = faults-last t (step t r j).0 (count_after (fails_link r.state j.given (asked j.line)) n) is i
 
 all_then : (a b c : Readings) (xs ys : List ℕ) → TakesAll a b xs → TakesAll b c ys → TakesAll a c (xs ++ ys)
 all_then a b c [] ys h k = subst (λ (r : Readings). TakesAll r c ys) h k

@@ -11,6 +11,7 @@ pub mod Judging
 pub mod Finding
 pub mod Folding
 pub mod Plain
+pub mod Syncing
 pub mod Serving
 pub mod Answering
 pub mod Obeying

@@ -1,6 +1,6 @@
 -- A line that doesn't talk.
-use Rattle.std.proofs.Common.{false, ◌≡◌, ◌≢◌, ◌⊎◌, inl, inr, ℕ, List, [], refl, sym, ap, ◌∙◌, subst, Bool, Option, None, Result, Ok, Err, OnOk, OnErr}
-use Rattle.std.specs.Prelude.{IfOk, IfErr, IsErrOf}
+use Rattle.std.proofs.Common.{false, ◌≡◌, ◌≢◌, ◌⊎◌, inl, inr, ℕ, List, [], refl, sym, ap, ◌∙◌, subst, Bool, true, cond, Option, None, Result, Ok, Err, OnOk, OnErr}
+use Rattle.std.specs.Prelude.{◌&&◌, IfOk, IfErr, IsErrOf}
 use Rattle.budget_top.specs.declared.answer.Answer.{Answer}
 use Rattle.std.specs.FinMap.{FinMap, get}
 use Rattle.budget_ports.specs.Contents.{Contents, Text, text_cmp}
@@ -13,48 +13,50 @@ use Rattle.command_lines.specs.declared.command.Command.{Command}
 use Rattle.command_lines.specs.declared.reply.Reply.{Reply}
 use Rattle.budget_ports.specs.Faults.{count_after}
 use Rattle.budget_top.specs.Session.{obeyed}
-use Rattle.budget_top.specs.Doing.{Target, Given, Running, IsPlain, IsSilent, KeepsNothing, synced_name, made, synced_after, done, IsWhole, Finds, fails_link, HasStayed, MayLeave, HasMadeNew}
+use Rattle.device_sync.specs.declared.target.Target.{Target}
+use Rattle.device_sync.specs.Sync.{synced_name}
+use Rattle.budget_top.specs.Doing.{Given, Running, IsPlain, IsSilent, KeepsNothing, conversed, last_synced, goes_on, synced_by, made, synced_after, done, IsWhole, IsWholeIf, Finds, FindsIf, fails_link, HasStayed, HasStayedIf, MayLeave, MayLeaveIf, HasMadeNew, HasMadeNewIf}
 use Rattle.budget_top.specs.Seen.{HoldsSet, Holds}
 use Rattle.budget_top.specs.Handling.{IsHandled, IsAnswered, IsUnanswered, Carries, CarriesEither, HoldsEither, HoldsSome}
 use Rattle.budget_top.proofs.Folding.{adds_none}
 
 -- what a line takes that doesn't talk
 abbrev pub alone_at : ℕ → Given
-alone_at reading = record { reading = reading; since = None; talk = [] }
+alone_at reading = record { reading = reading; since = None; turns = []; late = [] }
 
-silent : (reading : ℕ) → IsSilent (alone_at reading)
-silent reading = record { unsought = refl; unsaid = refl }
+pub silent : (reading : ℕ) → IsSilent (alone_at reading)
+silent reading = record { unsought = refl; unturned = refl; unsaid = refl }
 
--- ---- what Doing says of a plain command. A command that talks adds an absurd case to each of these, and to nothing else here
+-- ---- what Doing says of a plain command
 
 made_plain : (target : Target) (s : State) (given : Given) (command : Result Command ℕ) → IsPlain command → made target s given command ≡ obeyed s given.reading command
-made_plain target s given command plain = refl
+made_plain target s given command plain = ap (λ (b : Bool). cond b (synced_by s given) (obeyed s given.reading command)) plain
 
 synced_plain : (target : Target) (s : State) (given : Given) (command : Result Command ℕ) (synced : Option Text) → IsPlain command → synced_after target s given command synced ≡ synced
-synced_plain target s given command synced plain = refl
+synced_plain target s given command synced plain = ap (λ (b : Bool). cond b (last_synced (conversed s given).0 (conversed s given).1 synced) synced) plain
 
 whole_plain : (target : Target) (s : State) (given : Given) (command : Result Command ℕ) → IsPlain command → IsSilent given → IsWhole target s given command
-whole_plain target s given command plain silent = silent
+whole_plain target s given command plain h = let P : Bool → Type 0 = λ b. IsWholeIf b target s given in subst P (sym plain) h
 
 found_plain : (given : Given) (command : Result Command ℕ) (synced : Option Text) → IsPlain command → Finds given command synced
-found_plain given command synced plain = tt
+found_plain given command synced plain = let P : Bool → Type 0 = λ b. FindsIf b given synced in subst P (sym plain) tt
 
-fails_plain : (command : Result Command ℕ) (reply : Reply) → IsPlain command → fails_link command reply ≡ false
-fails_plain command reply plain = refl
+fails_plain : (s : State) (given : Given) (command : Result Command ℕ) → IsPlain command → fails_link s given command ≡ false
+fails_plain s given command plain = ap (λ (b : Bool). b && goes_on (conversed s given).1) plain
 
 stayed_plain : (target : Target) (r : Running) (given : Given) (command : Result Command ℕ) (kept : Running) (n m : ℕ) → IsPlain command → KeepsNothing r given kept n m → HasStayed target r given command kept n m
-stayed_plain target r given command kept n m plain h = h
+stayed_plain target r given command kept n m plain h = let P : Bool → Type 0 = λ b. HasStayedIf b target r given kept n m in subst P (sym plain) h
 
 left_plain : (target : Target) (r : Running) (given : Given) (command : Result Command ℕ) (left : Running) → IsPlain command → (left ≡ r) ⊎ (left ≡ (done target r given command).0) → MayLeave target r given command left
-left_plain target r given command left plain h = h
+left_plain target r given command left plain h = let P : Bool → Type 0 = λ b. MayLeaveIf b target r given command left in subst P (sym plain) h
 
 new_plain : (target : Target) (r : Running) (given : Given) (command : Result Command ℕ) → IsPlain command → (made target r.state given command).0.messages ≢ r.state.messages → HasMadeNew target r given command
-new_plain target r given command plain h = h
+new_plain target r given command plain h = let P : Bool → Type 0 = λ b. HasMadeNewIf b target r given command in subst P (sym plain) h
 
 -- ---- what the keeper holds
 
 -- the group keeps another set, and the texts are those that were
-moved : (target : Target) (entry before now : Contents) (r new : Running) → Holds target entry before r → HoldsSet (record entry { texts = before.texts }) now new.state.messages
+pub moved : (target : Target) (entry before now : Contents) (r new : Running) → Holds target entry before r → HoldsSet (record entry { texts = before.texts }) now new.state.messages
     → new.synced ≡ r.synced → Holds target entry now new
 moved target entry before now r new h k same =
     let texts : now.texts ≡ before.texts = k.others.texts in
@@ -65,7 +67,7 @@ moved target entry before now r new h k same =
       synced = ap (λ (m : FinMap text_cmp Text). get m (synced_name target)) texts ∙ h.synced ∙ sym same;
     }
 
-set_as : (entry now : Contents) (ms ns : List Message) → ms ≡ ns → HoldsSet entry now ms → HoldsSet entry now ns
+pub set_as : (entry now : Contents) (ms ns : List Message) → ms ≡ ns → HoldsSet entry now ms → HoldsSet entry now ns
 set_as entry now ms ns same h = let P : List Message → Type 0 = λ xs. HoldsSet entry now xs in subst P same h
 
 module _ (target : Target) (reading : ℕ) (command : Result Command ℕ) (plain : IsPlain command) (old : State) (before : Contents) where
@@ -122,7 +124,7 @@ module _ (target : Target) (reading : ℕ) (command : Result Command ℕ) (plain
     handled = let P : State × Reply → Type 0 = λ d. IsHandled d new text refused in subst P (sym (made_plain target old (alone_at reading) command plain)) handled;
     talked = adds_none exchanges;
     whole = whole_plain target old (alone_at reading) command plain (silent reading);
-    failed = ap (λ b. count_after b faults) (sym (fails_plain command (made target old (alone_at reading) command).1 plain));
+    failed = ap (λ (b : Bool). count_after b faults) (sym (fails_plain old (alone_at reading) command plain));
     keeper = λ t entry r is h. (holds_new entry now r is (carries t) h, found_plain (alone_at reading) command r.synced plain);
   }
 
@@ -133,23 +135,26 @@ module _ (target : Target) (reading : ℕ) (command : Result Command ℕ) (plain
     given = alone_at reading;
     took = refl;
     talked = adds_none exchanges;
-    stayed = λ r is. (r, stayed_plain target r (alone_at reading) command r faults faults plain (record { silent = silent reading; same = refl; unfailed = refl }), λ t entry h. let P : Contents → Type 0 = λ k. Holds target entry k r in subst P (sym (same t)) h);
+    stayed = λ r is. (r, stayed_plain target r (alone_at reading) command r faults faults plain (record { silent = silent reading; same = refl; unfailed = refl }), λ t entry h. (let P : Contents → Type 0 = λ k. Holds target entry k r in subst P (sym (same t)) h, found_plain (alone_at reading) command r.synced plain));
     stops = λ a c h. let it = stops a c h in (it.0, λ entry r is held. some_left entry c r is it.1 held);
     new = λ failed r is. new_plain target r (alone_at reading) command plain (λ all. new failed (sym (of_new r is) ∙ all ∙ of_old r is));
   }
 
 -- of any outcome
 
-pub plain_oks : (reading : ℕ) (command : Result Command ℕ) (plain : IsPlain command) (old : State) (before : Contents) (result : Result Answer PortFault) (new : State) (exchanges : Option (List Exchange)) (faults : ℕ) (tells : Type 0) (now : Contents)
+pub plain_oks : (target : Target) (reading : ℕ) (asks command : Result Command ℕ) → asks ≡ command → (plain : IsPlain command) (old : State) (before : Contents) (result : Result Answer PortFault) (new : State) (exchanges : Option (List Exchange)) (faults : ℕ) (tells : Type 0) (now : Contents)
     → IfOk result (λ a. IsHandled (obeyed old reading command) new a.text a.refused) → (tells → OnOk result (Carries old.messages (obeyed old reading command).0.messages before now))
-    → IfOk result (λ a. (target : Target) → IsAnswered target reading command old new a.text a.refused exchanges exchanges faults faults tells before now)
-plain_oks reading command plain old before (Ok a) new exchanges faults tells now handled carries = λ target. plain_answered target reading command plain old before new a.text a.refused exchanges faults tells now handled carries
-plain_oks reading command plain old before (Err fault) new exchanges faults tells now handled carries = tt
+    → IfOk result (λ a. IsAnswered target reading asks old new a.text a.refused exchanges exchanges faults faults tells before now)
+plain_oks target reading asks command is plain old before (Ok a) new exchanges faults tells now handled carries =
+    let P : Result Command ℕ → Type 0 = λ c. IsAnswered target reading c old new a.text a.refused exchanges exchanges faults faults tells before now in
+    subst P (sym is) (plain_answered target reading command plain old before new a.text a.refused exchanges faults tells now handled carries)
+plain_oks target reading asks command is plain old before (Err fault) new exchanges faults tells now handled carries = tt
 
-pub plain_errs : (reading : ℕ) (command : Result Command ℕ) (plain : IsPlain command) (old : State) (before : Contents) (result : Result Answer PortFault) (exchanges : Option (List Exchange)) (faults : ℕ) (alone told tells : Type 0) (now : Contents) (left : Contents → Type 0)
+pub plain_errs : (target : Target) (reading : ℕ) (asks command : Result Command ℕ) → asks ≡ command → (plain : IsPlain command) (old : State) (before : Contents) (result : Result Answer PortFault) (exchanges : Option (List Exchange)) (faults : ℕ) (alone told tells : Type 0) (now : Contents) (left : Contents → Type 0)
     → (tells → OnErr result (now ≡ before)) → OnErr result (alone → (c : Contents) → left c → told × CarriesEither old.messages (obeyed old reading command).0.messages before c)
     → (IsErrOf result Failed → (obeyed old reading command).0.messages ≢ old.messages)
-    → IfErr result (λ fault. (target : Target) → IsUnanswered target fault reading command old exchanges exchanges faults faults alone told tells before now left)
-plain_errs reading command plain old before (Ok a) exchanges faults alone told tells now left same stops new = tt
-plain_errs reading command plain old before (Err fault) exchanges faults alone told tells now left same stops new = λ target.
-    plain_unanswered target reading command plain old before fault exchanges faults alone told tells now left same stops (λ failed. new (ap Err failed))
+    → IfErr result (λ fault. IsUnanswered target fault reading asks old exchanges exchanges faults faults alone told tells before now left)
+plain_errs target reading asks command is plain old before (Ok a) exchanges faults alone told tells now left same stops new = tt
+plain_errs target reading asks command is plain old before (Err fault) exchanges faults alone told tells now left same stops new =
+    let P : Result Command ℕ → Type 0 = λ c. IsUnanswered target fault reading c old exchanges exchanges faults faults alone told tells before now left in
+    subst P (sym is) (plain_unanswered target reading command plain old before fault exchanges faults alone told tells now left same stops (λ failed. new (ap Err failed)))

@@ -11,7 +11,7 @@ use Rattle.budget_top.specs.declared.words.WordFault.{WordFault}
 use Rattle.budget_top.specs.declared.words.WordFault.TheVariants.{Words, Mode as BadMode, NodeMissing, Node as BadNode, Count, Token, Name, NoMemory}
 use Rattle.budget_top.specs.Words.{planned, planned_mode, IsWordFault, refusal_status}
 use Rattle.budget_top.specs.MergeRun.{MergeRun}
-use Rattle.budget_top.specs.Doing.{Target}
+use Rattle.device_sync.specs.declared.target.Target.{Target}
 use Rattle.budget_top.specs.Seen.{Seen}
 use Rattle.budget_top.specs.ServeRun.{AtDoor, ServeRun}
 use Rattle.budget_top.specs.DeviceRun.{device_statuses, Unopened, Opened, DeviceRun, target_of}
@@ -43,6 +43,13 @@ refused_merge words fault left taken h e =
     ]
 
 -- ---- the mode `device`
+
+-- the target of a run is this one
+pub with_target : {node : List ℕ} {target other : Target} {status : ℕ} {left new_left : Option (List ℕ)} {faults new_faults : ℕ} {old now : Seen}
+    → target ≡ other → DeviceRun node target status left new_left faults new_faults old now → DeviceRun node other status left new_left faults new_faults old now
+with_target {node} {target} {other} {status} {left} {new_left} {faults} {new_faults} {old} {now} same h =
+    let P : Target → Type 0 = λ t. DeviceRun node t status left new_left faults new_faults old now in
+    subst P same h
 
 -- no run of a device says that its words are refused
 pub device_not_refused : (node : List ℕ) (target : Target) (status : ℕ) (left new_left : Option (List ℕ)) (faults new_faults : ℕ) (old now : Seen) → DeviceRun node target status left new_left faults new_faults old now → status ≡ 2 → ⊥

@@ -23,8 +23,9 @@ use Rattle.budget_top.specs.KeptLine.{kept_line, kept_line_with}
 use Rattle.command_lines.specs.Commands.{longest_line}
 use Rattle.budget_top.specs.Fronts.{AppendsFront}
 use Rattle.budget_top.specs.Session.{asked, asked_kept_line}
-use Rattle.budget_top.specs.Doing.{Given, Running, done, Finds, fails_link, HasStayed}
-use Rattle.budget_top.specs.Course.{Input, step, replies, some_refused, talks}
+use Rattle.device_sync.specs.declared.target.Target.{Target}
+use Rattle.budget_top.specs.Doing.{Given, Running, said, done, Finds, fails_link, HasStayed}
+use Rattle.budget_top.specs.Course.{Input, step, replies, some_refused, talks, AreFound}
 use Rattle.budget_top.specs.Seen.{Seen, Holds}
 use Rattle.budget_top.specs.Handling.{IsAnswered, IsUnanswered}
 use Rattle.budget_top.specs.Stops.{stop_of}
@@ -86,10 +87,10 @@ module _ (e : Entry) (read : List ℕ) (old : Session) (before now : Seen) (s : 
       subst P (ap (λ n. readings_of had ++ n ∷ []) (sym same) ∙ sym (readings-last had (in_hand read given)))
       (takes_then e.readings before.readings now.readings (readings_of had) (reading ∷ []) s.handled.took took)
 
-  talked_now : (given : Given) → Adds before.exchanges now.exchanges given.talk → Adds e.exchanges now.exchanges (talks (have given))
-  talked_now given said =
+  talked_now : (given : Given) → Adds before.exchanges now.exchanges (said given) → Adds e.exchanges now.exchanges (talks (have given))
+  talked_now given adds =
       let P : List Exchange → Type 0 = λ xs. Adds e.exchanges now.exchanges xs in
-      subst P (sym (talks-last had (in_hand read given))) (adds_then e.exchanges before.exchanges now.exchanges (talks had) given.talk s.handled.talk.talked said)
+      subst P (sym (talks-last had (in_hand read given))) (adds_then e.exchanges before.exchanges now.exchanges (talks had) (said given) s.handled.talk.talked adds)
 
   -- what the answer says, of the run
   abbrev Answered : State → List ℕ → Bool → Type 0
@@ -97,14 +98,16 @@ module _ (e : Entry) (read : List ℕ) (old : Session) (before now : Seen) (s : 
       IsAnswered e.target reading asks here.state new text refused before.exchanges now.exchanges before.link_faults now.link_faults now.tells before.contents now.contents
 
   answered_here : (new : State) (text : List ℕ) (refused : Bool)
-      → IsAnswered e.target reading (asked_kept_line old.line) old.device.state new text refused before.exchanges now.exchanges before.link_faults now.link_faults now.tells before.contents now.contents
+      → IsAnswered old.target reading (asked_kept_line old.line) old.device.state new text refused before.exchanges now.exchanges before.link_faults now.link_faults now.tells before.contents now.contents
       → Answered new text refused
   answered_here new text refused a =
+      let R : Target → Type 0 = λ t.
+      IsAnswered t reading (asked_kept_line old.line) old.device.state new text refused before.exchanges now.exchanges before.link_faults now.link_faults now.tells before.contents now.contents in
       let P : State → Type 0 = λ x.
       IsAnswered e.target reading (asked_kept_line old.line) x new text refused before.exchanges now.exchanges before.link_faults now.link_faults now.tells before.contents now.contents in
       let Q : Result Command ℕ → Type 0 = λ c.
       IsAnswered e.target reading c here.state new text refused before.exchanges now.exchanges before.link_faults now.link_faults now.tells before.contents now.contents in
-      subst Q asks_so (subst P s.state a)
+      subst Q asks_so (subst P s.state (subst R s.target a))
 
   keeps_now : (new : State) (text : List ℕ) (refused : Bool) (a : Answered new text refused) → now.tells
       → Holds e.target e.contents now.contents (done e.target here a.given asks).0 × Finds a.given asks here.synced
@@ -120,15 +123,15 @@ module _ (e : Entry) (read : List ℕ) (old : Session) (before now : Seen) (s : 
     talked = talked_now a.given a.talked;
     whole = whole-last e.target e.start had (in_hand read a.given) s.handled.talk.whole a.whole;
     failed =
-        a.failed ∙ ap (λ n. count_after (fails_link asks (step e.target here (in_hand read a.given)).1) n) s.handled.talk.failed
+        a.failed ∙ ap (λ n. count_after (fails_link here.state a.given asks) n) s.handled.talk.failed
         ∙ sym (faults-last e.target e.start e.link_faults had (in_hand read a.given));
     found = λ t. found-last e.target e.start had (in_hand read a.given) (s.handled.talk.found (told t)) (keeps_now new text refused a t).1;
   }
 
   -- the line was answered
-  stands_here : (new : Session) (text : List ℕ) (refused : Bool) (a : Answered new.device.state text refused) → new.line ≡ Some [] → new.bad ≡ (old.bad || refused)
+  stands_here : (new : Session) (text : List ℕ) (refused : Bool) (a : Answered new.device.state text refused) → new.line ≡ Some [] → new.target ≡ old.target → new.bad ≡ (old.bad || refused)
       → Appends before.taken now.taken text → Stands e (read ++ 10 ∷ []) new now
-  stands_here new text refused a line bad written = record {
+  stands_here new text refused a line target bad written = record {
     handled = record {
       inputs = have a.given;
       lines = lines_now a.given;
@@ -141,6 +144,7 @@ module _ (e : Entry) (read : List ℕ) (old : Session) (before now : Seen) (s : 
       keeper = holds_now new.device.state text refused a;
     };
     line = line ∙ ap kept_line (sym (last_piece-end read));
+    target = target ∙ s.target;
     state = a.handled.state ∙ ap (λ (r : Running). r.state) (sym (after-last e.target e.start had (in_hand read a.given)));
     bad =
         bad ∙ ap (λ b. b || refused) s.bad ∙ ap (λ b. some_refused e.target e.start had || b) a.handled.is_bad
@@ -148,9 +152,9 @@ module _ (e : Entry) (read : List ℕ) (old : Session) (before now : Seen) (s : 
   }
 
   pub stands_end : (new : Session) (text : List ℕ) (refused : Bool)
-      → IsAnswered e.target reading (asked_kept_line old.line) old.device.state new.device.state text refused before.exchanges now.exchanges before.link_faults now.link_faults now.tells before.contents now.contents
-      → new.line ≡ Some [] → new.bad ≡ (old.bad || refused) → Appends before.taken now.taken text → Stands e (read ++ 10 ∷ []) new now
-  stands_end new text refused a line bad written = stands_here new text refused (answered_here new.device.state text refused a) line bad written
+      → IsAnswered old.target reading (asked_kept_line old.line) old.device.state new.device.state text refused before.exchanges now.exchanges before.link_faults now.link_faults now.tells before.contents now.contents
+      → new.line ≡ Some [] → new.target ≡ old.target → new.bad ≡ (old.bad || refused) → Appends before.taken now.taken text → Stands e (read ++ 10 ∷ []) new now
+  stands_end new text refused a line target bad written = stands_here new text refused (answered_here new.device.state text refused a) line target bad written
 
   -- the line got no reply
   abbrev Unanswered : PortFault → Type 0
@@ -170,10 +174,10 @@ module _ (e : Entry) (read : List ℕ) (old : Session) (before now : Seen) (s : 
         written = let P : Option (List ℕ) → Type 0 = λ t. Appends e.taken t (replies e.target e.start had) in subst P (sym taken) s.handled.written;
         talked = talked_now u.given u.talked;
         whole = s.handled.talk.whole;
-        found = λ t. s.handled.talk.found (told t);
+        found = λ t. found-last e.target e.start had (in_hand read u.given) (s.handled.talk.found (told t)) (stayed.2 t e.contents (s.handled.keeper (told t))).1;
         kept = stayed.0;
         stays = let P : ℕ → Type 0 = λ n. HasStayed e.target here u.given asks stayed.0 n now.link_faults in subst P s.handled.talk.failed stayed.1;
-        keeper = λ t. stayed.2 t e.contents (s.handled.keeper (told t));
+        keeper = λ t. (stayed.2 t e.contents (s.handled.keeper (told t))).0;
         stops = λ alone c left. let it = u.stops alone c left in it.1 e.contents here refl (s.handled.keeper it.0);
       }
 
@@ -189,17 +193,20 @@ module _ (e : Entry) (read : List ℕ) (old : Session) (before now : Seen) (s : 
       by NoMemory u = halts_end NoMemory u taken
 
   pub breaks_end : (fault : PortFault) (stop : DeviceStop) → stop ≡ stop_of fault → now.taken ≡ before.taken
-      → IsUnanswered e.target fault reading (asked_kept_line old.line) old.device.state before.exchanges now.exchanges before.link_faults now.link_faults (IsAlone before.tells before.contents before.left)
+      → IsUnanswered old.target fault reading (asked_kept_line old.line) old.device.state before.exchanges now.exchanges before.link_faults now.link_faults (IsAlone before.tells before.contents before.left)
       before.tells now.tells before.contents now.contents now.left
       → BreaksAs stop e (IsAlone before.tells before.contents before.left) (whole_lines (read ++ 10 ∷ [])) now
   breaks_end fault stop is taken u =
+      let R : Target → Type 0 = λ t.
+      IsUnanswered t fault reading (asked_kept_line old.line) old.device.state before.exchanges now.exchanges before.link_faults now.link_faults (IsAlone before.tells before.contents before.left) before.tells now.tells
+      before.contents now.contents now.left in
       let P : State → Type 0 = λ x.
       IsUnanswered e.target fault reading (asked_kept_line old.line) x before.exchanges now.exchanges before.link_faults now.link_faults (IsAlone before.tells before.contents before.left) before.tells now.tells
       before.contents now.contents now.left in
       let Q : Result Command ℕ → Type 0 = λ c.
       IsUnanswered e.target fault reading c here.state before.exchanges now.exchanges before.link_faults now.link_faults (IsAlone before.tells before.contents before.left) before.tells now.tells
       before.contents now.contents now.left in
-      breaks_here fault stop is taken (subst Q asks_so (subst P s.state u))
+      breaks_here fault stop is taken (subst Q asks_so (subst P s.state (subst R s.target u)))
 
   -- the reply was cut
   cuts_here : (new : State) (text : List ℕ) (refused : Bool) → Answered new text refused → AppendsFront before.taken now.taken text
@@ -218,14 +225,14 @@ module _ (e : Entry) (read : List ℕ) (old : Session) (before now : Seen) (s : 
   }
 
   pub cuts_end : (new : State) (text : List ℕ) (refused : Bool)
-      → IsAnswered e.target reading (asked_kept_line old.line) old.device.state new text refused before.exchanges now.exchanges before.link_faults now.link_faults now.tells before.contents now.contents
+      → IsAnswered old.target reading (asked_kept_line old.line) old.device.state new text refused before.exchanges now.exchanges before.link_faults now.link_faults now.tells before.contents now.contents
       → AppendsFront before.taken now.taken text
       → (IsAlone before.tells before.contents before.left → IsAlone now.tells now.contents now.left) → Cuts e (IsAlone before.tells before.contents before.left) (whole_lines (read ++ 10 ∷ [])) now
   cuts_end new text refused a written alone = cuts_here new text refused (answered_here new text refused a) written alone
 
 -- bytes within a line
-pub stands_within : (e : Entry) (read bytes : List ℕ) (old new : Session) (now : Seen) → IsWithinLine bytes → new.device ≡ old.device → new.bad ≡ old.bad → new.line ≡ kept_line_with old.line bytes → Stands e read old now → Stands e (read ++ bytes) new now
-stands_within e read bytes old new now within device bad line s = record {
+pub stands_within : (e : Entry) (read bytes : List ℕ) (old new : Session) (now : Seen) → IsWithinLine bytes → new.device ≡ old.device → new.target ≡ old.target → new.bad ≡ old.bad → new.line ≡ kept_line_with old.line bytes → Stands e read old now → Stands e (read ++ bytes) new now
+stands_within e read bytes old new now within device target bad line s = record {
   handled = record {
     inputs = s.handled.inputs;
     lines = s.handled.lines ∙ sym (whole_lines-within read bytes within);
@@ -235,6 +242,7 @@ stands_within e read bytes old new now within device bad line s = record {
     keeper = s.handled.keeper;
   };
   line = line ∙ ap (λ k. kept_line_with k bytes) s.line ∙ kept_line-append (last_piece read) bytes ∙ ap kept_line (sym (last_piece-within read bytes within));
+  target = target ∙ s.target;
   state = ap (λ d. d.state) device ∙ s.state;
   bad = bad ∙ s.bad;
 }
@@ -252,7 +260,7 @@ halts_between e read old now s =
       written = s.handled.written;
       talked = let P : List Input → Type 0 = λ is. Adds e.exchanges now.exchanges (talks is) in subst P all s.handled.talk.talked;
       whole = s.handled.talk.whole;
-      found = s.handled.talk.found;
+      found = λ t. let P : List Input → Type 0 = λ is. AreFound e.target e.start is in subst P all (s.handled.talk.found t);
       kept = reached e s.handled.inputs;
       stays = (refl, s.handled.talk.failed);
       keeper = s.handled.keeper;

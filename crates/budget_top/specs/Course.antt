@@ -6,7 +6,8 @@ use Rattle.budget_ports.specs.Faults.{count_after}
 use Rattle.command_lines.specs.declared.reply.Reply.{Reply}
 use Rattle.command_lines.specs.Replies.{reply_text_of}
 use Rattle.budget_top.specs.Session.{asked, is_refused}
-use Rattle.budget_top.specs.Doing.{Target, Given, Running, done, IsWhole, Finds, fails_link}
+use Rattle.device_sync.specs.declared.target.Target.{Target}
+use Rattle.budget_top.specs.Doing.{Given, Running, said, done, IsWhole, Finds, fails_link}
 
 -- a line, and what it takes from outside
 pub record Input : Type 0 where
@@ -34,7 +35,7 @@ some_refused target r (i ∷ is) = is_refused (step target r i).1 || some_refuse
 
 -- the exchanges of lines
 abbrev pub talks : List Input → List Exchange
-talks inputs = flat_map (λ i. i.given.talk) inputs
+talks inputs = flat_map (λ i. said i.given) inputs
 
 -- each line has its whole talk
 abbrev pub AreWhole : Target → Running → List Input → Type 0
@@ -49,4 +50,4 @@ AreFound target r (i ∷ is) = Finds i.given (asked i.line) r.synced × AreFound
 -- how often the link has failed after lines, where it had failed so often before
 abbrev pub link_faults_after : Target → Running → ℕ → List Input → ℕ
 link_faults_after target r faults [] = faults
-link_faults_after target r faults (i ∷ is) = link_faults_after target (step target r i).0 (count_after (fails_link (asked i.line) (step target r i).1) faults) is
+link_faults_after target r faults (i ∷ is) = link_faults_after target (step target r i).0 (count_after (fails_link r.state i.given (asked i.line)) faults) is

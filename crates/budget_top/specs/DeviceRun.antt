@@ -14,7 +14,9 @@ use Rattle.budget_top.specs.declared.words.Plan.{Plan}
 use Rattle.budget_top.specs.Lines.{whole_lines, all_lines}
 use Rattle.budget_top.specs.Limits.{most_input, HasRead, AreDue}
 use Rattle.budget_top.specs.Fronts.{AppendsFront}
-use Rattle.budget_top.specs.Doing.{Target, Running, synced_name}
+use Rattle.device_sync.specs.declared.target.Target.{Target}
+use Rattle.device_sync.specs.Sync.{synced_name}
+use Rattle.budget_top.specs.Doing.{Running}
 use Rattle.budget_top.specs.Course.{some_refused}
 use Rattle.budget_top.specs.Seen.{device_records, Seen}
 use Rattle.budget_top.specs.Standing.{Entry, Handles, Halts, FailsToKeep, Cuts}

@@ -23,6 +23,7 @@ pub record IsReady (session : Session) : Type 0 where
 pub record Stands (e : Entry) (read : List ℕ) (session : Session) (now : Seen) : Type 0 where
   pub handled : Handles e (whole_lines read) now
   pub line : session.line ≡ kept_line (last_piece read)
+  pub target : session.target ≡ e.target
   pub state : session.device.state ≡ (reached e handled.inputs).state
   pub bad : session.bad ≡ some_refused e.target e.start handled.inputs
 

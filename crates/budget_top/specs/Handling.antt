@@ -12,7 +12,8 @@ use Rattle.command_lines.specs.declared.command.Command.{Command}
 use Rattle.command_lines.specs.declared.reply.Reply.{Reply}
 use Rattle.command_lines.specs.Replies.{reply_text_of}
 use Rattle.budget_top.specs.Session.{is_refused}
-use Rattle.budget_top.specs.Doing.{Target, Given, Running, made, done, IsWhole, Finds, fails_link, HasStayed, MayLeave, HasMadeNew}
+use Rattle.device_sync.specs.declared.target.Target.{Target}
+use Rattle.budget_top.specs.Doing.{Given, Running, said, made, done, IsWhole, Finds, fails_link, HasStayed, MayLeave, HasMadeNew}
 use Rattle.budget_top.specs.Seen.{HoldsSet, Holds, device_records}
 
 -- a line was done as it should be: the device's new state, the text of the reply, and whether the line was refused
@@ -47,9 +48,9 @@ pub record IsAnswered (target : Target) (reading : ℕ) (command : Result Comman
   pub given : Given
   pub took : given.reading ≡ reading
   pub handled : IsHandled (made target old given command) new text refused
-  pub talked : Adds exchanges new_exchanges given.talk
+  pub talked : Adds exchanges new_exchanges (said given)
   pub whole : IsWhole target old given command
-  pub failed : new_faults ≡ count_after (fails_link command (made target old given command).1) faults
+  pub failed : new_faults ≡ count_after (fails_link old given command) faults
   pub keeper : tells → (entry : Contents) (r : Running) → r.state ≡ old → Holds target entry before r →
       Holds target entry now (done target r given command).0 × Finds given command r.synced
 
@@ -58,9 +59,9 @@ pub record IsUnanswered (target : Target) (fault : PortFault) (reading : ℕ) (c
     (faults new_faults : ℕ) (alone told tells : Type 0) (before now : Contents) (left : Contents → Type 0) : Type 0 where
   pub given : Given
   pub took : given.reading ≡ reading
-  pub talked : Adds exchanges new_exchanges given.talk
+  pub talked : Adds exchanges new_exchanges (said given)
   pub stayed : (r : Running) → r.state ≡ old → (kept : Running) × HasStayed target r given command kept faults new_faults ×
-      (tells → (entry : Contents) → Holds target entry before r → Holds target entry now kept)
+      (tells → (entry : Contents) → Holds target entry before r → Holds target entry now kept × Finds given command r.synced)
   pub stops : alone → (c : Contents) → left c → told × ((entry : Contents) (r : Running) → r.state ≡ old → Holds target entry before r →
       HoldsSome target entry c (MayLeave target r given command))
   pub new : fault ≡ Failed → (r : Running) → r.state ≡ old → HasMadeNew target r given command

@@ -16,6 +16,7 @@ pub mod Course
 pub mod Replies
 pub mod Seen
 pub mod Handling
+pub mod SyncSteps
 pub mod Standing
 pub mod DeviceRun
 pub mod DeviceSteps

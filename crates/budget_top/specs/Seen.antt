@@ -10,7 +10,9 @@ use Rattle.budget_ports.specs.Exchanges.{Exchange}
 use Rattle.budget_ports.specs.Script.{LinkState, exchanges}
 use Rattle.field_merge.specs.declared.message.Message.{Message}
 use Rattle.kept_messages.specs.Holding.{Holds as HoldsIn}
-use Rattle.budget_top.specs.Doing.{Target, Running, synced_name}
+use Rattle.device_sync.specs.declared.target.Target.{Target}
+use Rattle.device_sync.specs.Sync.{synced_name}
+use Rattle.budget_top.specs.Doing.{Running}
 
 -- the group in which a device's messages are kept
 abbrev pub device_group : Text

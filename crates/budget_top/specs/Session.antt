@@ -2,9 +2,9 @@
 use Rattle.std.specs.Prelude.{ℕ, List, [], ◌∷◌, Bool, true, false, if◌then◌else◌, Option, None, Some, Result, Ok, Err}
 use Rattle.std.specs.Str.{is_utf8}
 use Rattle.device_core.specs.declared.edit.LineRefusal.{LineRefusal}
-use Rattle.device_core.specs.Device.{State, Accepted, edited, received}
+use Rattle.device_core.specs.Device.{State, Accepted, edited, undone, redone, received}
 use Rattle.command_lines.specs.declared.command.Command.{Command}
-use Rattle.command_lines.specs.declared.command.Command.TheVariants.{Edit, Receive}
+use Rattle.command_lines.specs.declared.command.Command.TheVariants.{Edit, Undo, Redo, Receive}
 use Rattle.command_lines.specs.declared.reply.Reply.{Reply}
 use Rattle.command_lines.specs.declared.reply.Reply.TheVariants.{Done, Refused}
 use Rattle.command_lines.specs.Commands.{command}
@@ -30,7 +30,7 @@ abbrev pub settled : State → (Accepted → Reply) → Result Accepted LineRefu
 settled s reply (Ok accepted) = (accepted.state, reply accepted)
 settled s reply (Err refusal) = (s, reply_to_refusal (refused refusal))
 
--- the reply to an edit that was accepted
+-- the reply to an edit, an undo or a redo that was accepted
 abbrev pub wrote_all : Accepted → Reply
 wrote_all accepted = wrote accepted.count accepted.made
 
@@ -38,11 +38,13 @@ wrote_all accepted = wrote accepted.count accepted.made
 abbrev pub added_all : Accepted → Reply
 added_all accepted = added accepted.count
 
--- what is made of what a line asks at a reading of the clock, and the reply: an edit is made, a message is received,
--- a line that only reads is answered, and one that is no command is refused
+-- what is made of what a line asks at a reading of the clock, and the reply: an edit is made, the latest one is undone or redone, a message
+-- is received, a line that only reads is answered, and one that is no command is refused; of one that syncs `Doing` says it
 abbrev pub obeyed : State → ℕ → Result Command ℕ → State × Reply
 obeyed s reading (Err part) = (s, faulty part)
 obeyed s reading (Ok (Edit edit)) = settled s wrote_all (edited s edit reading)
+obeyed s reading (Ok Undo) = settled s wrote_all (undone s reading)
+obeyed s reading (Ok Redo) = settled s wrote_all (redone s reading)
 obeyed s reading (Ok (Receive message)) = settled s added_all (received s (message ∷ []) reading)
 obeyed s reading (Ok command) = (s, answer s.messages command)
 

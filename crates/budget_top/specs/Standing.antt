@@ -8,7 +8,8 @@ use Rattle.budget_ports.specs.Readings.{Readings, Takes}
 use Rattle.command_lines.specs.Replies.{reply_text_of}
 use Rattle.budget_top.specs.Session.{asked}
 use Rattle.budget_top.specs.Fronts.{IsFront}
-use Rattle.budget_top.specs.Doing.{Target, Running, HasStayed, MayLeave, HasMadeNew}
+use Rattle.device_sync.specs.declared.target.Target.{Target}
+use Rattle.budget_top.specs.Doing.{Running, HasStayed, MayLeave, HasMadeNew}
 use Rattle.budget_top.specs.Course.{Input, step, after, replies, talks, AreWhole, AreFound, link_faults_after}
 use Rattle.budget_top.specs.Seen.{Seen, Holds}
 use Rattle.budget_top.specs.Handling.{HoldsSome}
@@ -85,7 +86,7 @@ pub record Halts (e : Entry) (alone : Type 0) (due : List (List ℕ)) (now : See
   pub written : Appends e.taken now.taken (replies e.target e.start inputs)
   pub talked : Adds e.exchanges now.exchanges (talks (inputs ++ in_hand))
   pub whole : AreWhole e.target e.start inputs
-  pub found : now.tells → AreFound e.target e.start inputs
+  pub found : now.tells → AreFound e.target e.start (inputs ++ in_hand)
   pub kept : Running
   pub stays : Stays e.target (reached e inputs) in_hand kept (failed_by e inputs) now.link_faults
   pub keeper : now.tells → Holds e.target e.contents now.contents kept

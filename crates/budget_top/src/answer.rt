@@ -4,7 +4,7 @@ ghost use Rattle.field_merge.specs.declared.message.Message.{Message};
 ghost use Rattle.field_merge.specs.Messages.{IsMessage};
 ghost use Rattle.device_core.specs.Edits.{IsEdit};
 ghost use Rattle.device_core.specs.Accepting.{Brings};
-ghost use Rattle.device_core.specs.Device.{edited, received};
+ghost use Rattle.device_core.specs.Device.{edited, undone, redone, received};
 ghost use Rattle.command_lines.specs.Commands.{IsRead, IsCommand};
 ghost use Rattle.command_lines.specs.Readings.{IsReading};
 ghost use Rattle.command_lines.specs.declared.command.CommandFault.TheVariants.{NoMemory as OutOfMemory};
@@ -13,17 +13,19 @@ ghost use Rattle.budget_ports.specs.Contents.{Contents};
 ghost use Rattle.budget_ports.specs.Keeper.{has_failed, IsAlone};
 ghost use Rattle.budget_ports.specs.declared.keeper.PortFault.TheVariants.{Failed as HasFailed};
 ghost use Rattle.budget_top.specs.Session.{asked_kept_line, settled, wrote_all, added_all, obeyed, is_refused};
-ghost use Rattle.budget_top.specs.Doing.{Target};
+ghost use Rattle.budget_top.specs.Doing.{IsPlain};
 ghost use Rattle.budget_top.specs.Seen.{device_group};
 ghost use Rattle.budget_top.specs.Handling.{IsHandled, IsAnswered, IsUnanswered, Carries, CarriesEither};
 
 use crate::begun::Begun;
+use crate::sync_line::sync_line;
 use budget_ports::{Keeper, Link, PortFault};
 use command_lines::{
     Command, CommandFault, Reply, added_reply, faulty_reply, read_command, read_reply,
     refusal_reply, reply_text, wrote_reply,
 };
 use device_core::{Device, Edit, accepted_are_joined};
+use device_sync::Target;
 use field_merge::Message;
 use field_values::{NoMemory, Steps, Txt, TxtFault};
 use kept_messages::{batches_are_kept, new_ones_are_added};
@@ -77,23 +79,63 @@ fn make<G: Ledger>(
     }
 }
 
+/// Undoes the latest edit or redo that was not undone, and gives the reply.
+fn undo<G: Ledger>(
+    alloc: Global,
+    device: &mut Device,
+    steps: &mut Steps<G>,
+    reading: u64,
+) -> Result<Reply, NoMemory>
+    requires live { device.old.spent ≡ false }
+    requires idle { device.old.batch ≡ [] }
+    ensures ok { IfOk result (λ reply. settled device.old.state wrote_all (undone device.old.state reading) ≡ (device.new.state, reply)) }
+    ensures live { OnOk result (device.new.spent ≡ false) }
+    ensures brings { OnOk result (Brings device.old.state.messages device.new) }
+{
+    accepted_are_joined();
+    match device.undo(reading, steps) {
+        Ok(count) => wrote_reply(alloc, count, device.made()),
+        Err(refusal) => refusal_reply(alloc, &refusal),
+    }
+}
+
+/// Redoes what was undone last, and gives the reply.
+fn redo<G: Ledger>(
+    alloc: Global,
+    device: &mut Device,
+    steps: &mut Steps<G>,
+    reading: u64,
+) -> Result<Reply, NoMemory>
+    requires live { device.old.spent ≡ false }
+    requires idle { device.old.batch ≡ [] }
+    ensures ok { IfOk result (λ reply. settled device.old.state wrote_all (redone device.old.state reading) ≡ (device.new.state, reply)) }
+    ensures live { OnOk result (device.new.spent ≡ false) }
+    ensures brings { OnOk result (Brings device.old.state.messages device.new) }
+{
+    accepted_are_joined();
+    match device.redo(reading, steps) {
+        Ok(count) => wrote_reply(alloc, count, device.made()),
+        Err(refusal) => refusal_reply(alloc, &refusal),
+    }
+}
+
 /// Receives a message, and gives the reply.
 fn receive<G: Ledger>(
     alloc: Global,
     device: &mut Device,
     steps: &mut Steps<G>,
     reading: u64,
-    message: Message,
+    message: &Message,
 ) -> Result<Reply, NoMemory>
     requires live { device.old.spent ≡ false }
     requires idle { device.old.batch ≡ [] }
-    requires valid { IsMessage message }
-    ensures ok { IfOk result (λ reply. settled device.old.state added_all (received device.old.state (message ∷ []) reading) ≡ (device.new.state, reply)) }
+    requires valid { IsMessage message.now }
+    ensures ok { IfOk result (λ reply. settled device.old.state added_all (received device.old.state (message.now ∷ []) reading) ≡ (device.new.state, reply)) }
     ensures live { OnOk result (device.new.spent ≡ false) }
     ensures brings { OnOk result (Brings device.old.state.messages device.new) }
 {
     accepted_are_joined();
-    match device.incoming(&[message], reading, steps) {
+    match device.incoming(&[message.copy()?], reading, steps) {
         Ok(count) => added_reply(alloc, count),
         Err(refusal) => refusal_reply(alloc, &refusal),
     }
@@ -110,46 +152,51 @@ fn read(alloc: Global, device: &Device, command: &Command) -> Result<Reply, NoMe
     read_reply(alloc, device, command)
 }
 
-/// Does what a command asks, and gives the reply.
+/// Does what a command asks that talks to no server, and gives the reply.
 fn obey<G: Ledger>(
     alloc: Global,
     device: &mut Device,
     steps: &mut Steps<G>,
     reading: u64,
-    command: Command,
+    command: &Command,
 ) -> Result<Reply, NoMemory>
     requires live { device.old.spent ≡ false }
     requires idle { device.old.batch ≡ [] }
-    requires valid { IsCommand command }
-    ensures ok { IfOk result (λ reply. obeyed device.old.state reading (Ok command) ≡ (device.new.state, reply)) }
+    requires valid { IsCommand command.now }
+    requires plain { IsPlain (Ok command.now) }
+    ensures ok { IfOk result (λ reply. obeyed device.old.state reading (Ok command.now) ≡ (device.new.state, reply)) }
     ensures live { OnOk result (device.new.spent ≡ false) }
     ensures brings { OnOk result (Brings device.old.state.messages device.new) }
 {
     match command {
-        Command::Edit(edit) => make(alloc, device, steps, reading, &edit),
+        Command::Edit(edit) => make(alloc, device, steps, reading, edit),
+        Command::Undo => undo(alloc, device, steps, reading),
+        Command::Redo => redo(alloc, device, steps, reading),
         Command::Receive { message } => receive(alloc, device, steps, reading, message),
-        other => read(alloc, device, &other),
+        Command::Sync => unreachable!(),
+        other => read(alloc, device, other),
     }
 }
 
-/// Does what a line asks, and gives the reply.
+/// Does what a line asks, by its command or by the index of its first word that is not of its form, and gives the reply.
 fn reply_to<G: Ledger>(
     alloc: Global,
     device: &mut Device,
     steps: &mut Steps<G>,
     reading: u64,
-    line: &Begun,
+    asked: Result<Command, u32>,
 ) -> Result<Reply, NoMemory>
     requires live { device.old.spent ≡ false }
     requires idle { device.old.batch ≡ [] }
-    ensures ok { IfOk result (λ reply. obeyed device.old.state reading (asked_kept_line line.now) ≡ (device.new.state, reply)) }
+    requires valid { IfOk asked IsCommand }
+    requires plain { IsPlain asked }
+    ensures ok { IfOk result (λ reply. obeyed device.old.state reading asked ≡ (device.new.state, reply)) }
     ensures live { OnOk result (device.new.spent ≡ false) }
     ensures brings { OnOk result (Brings device.old.state.messages device.new) }
 {
-    match ask(alloc, line) {
+    match &asked {
         Ok(command) => obey(alloc, device, steps, reading, command),
-        Err(CommandFault::BadCommand { word }) => faulty_reply(alloc, word),
-        Err(CommandFault::NoMemory) => Err(NoMemory),
+        Err(word) => faulty_reply(alloc, *word),
     }
 }
 
@@ -178,13 +225,13 @@ fn keep<K: Keeper>(device: &mut Device, keeper: &mut K, group: &Txt) -> Result<(
 }
 
 /// Whether a reply refuses its line.
-fn is_refusal(reply: &Reply) -> bool
+pub(crate) fn is_refusal(reply: &Reply) -> bool
     ensures { result ≡ is_refused reply.now }
 {
     matches!(reply, Reply::Refused { .. })
 }
 
-/// Does what a line asks that has no talk, keeps what it made, and gives its reply.
+/// Does what a line asks that talks to no server, keeps what it made, and gives its reply.
 ///
 /// The reply's text is made before anything is kept. Where the keeper fails or memory runs out
 /// there is no reply, the device is not to be used any more, and the keeper holds what it held; a
@@ -196,26 +243,29 @@ fn answer_line<K: Keeper, G: Ledger>(
     group: &Txt,
     steps: &mut Steps<G>,
     reading: u64,
-    line: &Begun,
+    asked: Result<Command, u32>,
 ) -> Result<Answer, PortFault>
     requires live { device.old.spent ≡ false }
     requires idle { device.old.batch ≡ [] }
     requires group { group.now ≡ device_group }
-    ensures ok { IfOk result (λ a. IsHandled (obeyed device.old.state reading (asked_kept_line line.now)) device.new.state a.text a.refused) }
+    requires valid { IfOk asked IsCommand }
+    requires plain { IsPlain asked }
+    ensures plain { IsPlain asked }
+    ensures ok { IfOk result (λ a. IsHandled (obeyed device.old.state reading asked) device.new.state a.text a.refused) }
     ensures live { OnOk result (device.new.spent ≡ false) }
     ensures idle { OnOk result (device.new.batch ≡ []) }
-    ensures carries { K.tells keeper.new → OnOk result (Carries device.old.state.messages (obeyed device.old.state reading (asked_kept_line line.now)).0.messages (K.contents keeper.old) (K.contents keeper.new)) }
+    ensures carries { K.tells keeper.new → OnOk result (Carries device.old.state.messages (obeyed device.old.state reading asked).0.messages (K.contents keeper.old) (K.contents keeper.new)) }
     ensures alone { OnOk result (IsAlone (K.tells keeper.old) (K.contents keeper.old) (K.left keeper.old) → IsAlone (K.tells keeper.new) (K.contents keeper.new) (K.left keeper.new)) }
     ensures same { K.tells keeper.new → OnErr result (K.contents keeper.new ≡ K.contents keeper.old) }
-    ensures new { IsErrOf result HasFailed → (obeyed device.old.state reading (asked_kept_line line.now)).0.messages ≢ device.old.state.messages }
-    ensures stops { OnErr result (IsAlone (K.tells keeper.old) (K.contents keeper.old) (K.left keeper.old) → (c : Contents) → K.left keeper.new c → K.tells keeper.old × CarriesEither device.old.state.messages (obeyed device.old.state reading (asked_kept_line line.now)).0.messages (K.contents keeper.old) c) }
+    ensures new { IsErrOf result HasFailed → (obeyed device.old.state reading asked).0.messages ≢ device.old.state.messages }
+    ensures stops { OnErr result (IsAlone (K.tells keeper.old) (K.contents keeper.old) (K.left keeper.old) → (c : Contents) → K.left keeper.new c → K.tells keeper.old × CarriesEither device.old.state.messages (obeyed device.old.state reading asked).0.messages (K.contents keeper.old) c) }
     ensures told { K.tells keeper.new → K.tells keeper.old }
     ensures before { (k : Contents) → K.left keeper.new k → K.left keeper.old k ⊎ K.tells keeper.old }
     ensures count { K.faults keeper.new ≡ count_after (has_failed result) (K.faults keeper.old) }
 {
     // A device that has new messages has more of them than before.
     new_ones_are_added();
-    let reply = reply_to(alloc, device, steps, reading, line)?;
+    let reply = reply_to(alloc, device, steps, reading, asked)?;
     let text = reply_text(alloc, &reply)?;
     keep(device, keeper, group)?;
     Ok(Answer {
@@ -232,8 +282,9 @@ pub fn handle_line<K: Keeper, L: Link, G: Ledger>(
     alloc: Global,
     device: &mut Device,
     keeper: &mut K,
-    _link: &mut L,
+    link: &mut L,
     group: &Txt,
+    target: &Target,
     steps: &mut Steps<G>,
     reading: u64,
     line: &Begun,
@@ -241,15 +292,23 @@ pub fn handle_line<K: Keeper, L: Link, G: Ledger>(
     requires live { device.old.spent ≡ false }
     requires idle { device.old.batch ≡ [] }
     requires group { group.now ≡ device_group }
-    ensures answered { IfOk result (λ a. (target : Target) → IsAnswered target reading (asked_kept_line line.now) device.old.state device.new.state a.text a.refused (L.exchanges _link.old) (L.exchanges _link.new) (L.faults _link.old) (L.faults _link.new) (K.tells keeper.new) (K.contents keeper.old) (K.contents keeper.new)) }
-    ensures unanswered { IfErr result (λ fault. (target : Target) → IsUnanswered target fault reading (asked_kept_line line.now) device.old.state (L.exchanges _link.old) (L.exchanges _link.new) (L.faults _link.old) (L.faults _link.new) (IsAlone (K.tells keeper.old) (K.contents keeper.old) (K.left keeper.old)) (K.tells keeper.old) (K.tells keeper.new) (K.contents keeper.old) (K.contents keeper.new) (K.left keeper.new)) }
+    ensures answered { IfOk result (λ a. IsAnswered target.now reading (asked_kept_line line.now) device.old.state device.new.state a.text a.refused (L.exchanges link.old) (L.exchanges link.new) (L.faults link.old) (L.faults link.new) (K.tells keeper.new) (K.contents keeper.old) (K.contents keeper.new)) }
+    ensures unanswered { IfErr result (λ fault. IsUnanswered target.now fault reading (asked_kept_line line.now) device.old.state (L.exchanges link.old) (L.exchanges link.new) (L.faults link.old) (L.faults link.new) (IsAlone (K.tells keeper.old) (K.contents keeper.old) (K.left keeper.old)) (K.tells keeper.old) (K.tells keeper.new) (K.contents keeper.old) (K.contents keeper.new) (K.left keeper.new)) }
     ensures live { OnOk result (device.new.spent ≡ false) }
     ensures idle { OnOk result (device.new.batch ≡ []) }
     ensures alone { OnOk result (IsAlone (K.tells keeper.old) (K.contents keeper.old) (K.left keeper.old) → IsAlone (K.tells keeper.new) (K.contents keeper.new) (K.left keeper.new)) }
     ensures told { K.tells keeper.new → K.tells keeper.old }
     ensures before { (k : Contents) → K.left keeper.new k → K.left keeper.old k ⊎ K.tells keeper.old }
     ensures count { K.faults keeper.new ≡ count_after (has_failed result) (K.faults keeper.old) }
-    ensures unlinked { _link.new ≡ _link.old }
 {
-    answer_line(alloc, device, keeper, group, steps, reading, line)
+    match ask(alloc, line) {
+        Ok(Command::Sync) => sync_line(
+            alloc, device, keeper, link, group, target, steps, reading,
+        ),
+        Ok(command) => answer_line(alloc, device, keeper, group, steps, reading, Ok(command)),
+        Err(CommandFault::BadCommand { word }) => {
+            answer_line(alloc, device, keeper, group, steps, reading, Err(word))
+        }
+        Err(CommandFault::NoMemory) => Err(PortFault::NoMemory),
+    }
 }

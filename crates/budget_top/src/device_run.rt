@@ -7,7 +7,6 @@ ghost use Rattle.budget_ports.specs.Contents.{Contents};
 ghost use Rattle.budget_ports.specs.Keeper.{IsAlone};
 ghost use Rattle.budget_top.specs.Limits.{HasRead};
 ghost use Rattle.budget_top.specs.Stops.{end_status, device_stop_status};
-ghost use Rattle.budget_top.specs.Doing.{Target};
 ghost use Rattle.budget_top.specs.Seen.{seen};
 ghost use Rattle.budget_top.specs.Standing.{Entry};
 ghost use Rattle.budget_top.specs.DeviceSteps.{IsReady, Stands};
@@ -24,6 +23,7 @@ use crate::session::Session;
 use crate::stop::DeviceStop;
 use crate::write::write_and_flush;
 use budget_ports::{Keeper, Link, Sink, Source, WallClock};
+use device_sync::Target;
 use field_values::{Steps, Txt};
 use hybrid_clock::Node;
 use std::alloc::Global;
@@ -54,7 +54,6 @@ fn read_all<S: Source, W: Sink, K: Keeper, L: Link, C: WallClock, G: Ledger>(
     ensures source { S.faults source.new ≡ count_after (end_status device_stop_status result == 4) (S.faults source.old) }
     ensures sink { W.faults sink.new ≡ count_after (end_status device_stop_status result == 5) (W.faults sink.old) }
     ensures keeper { K.faults keeper.new ≡ count_after (end_status device_stop_status result == 6) (K.faults keeper.old) }
-    ensures unlinked { link.new ≡ link.old }
 {
     let mut buffer = [0u8; PIECE];
     let mut taken = 0;
@@ -92,7 +91,6 @@ fn answer_lines<S: Source, W: Sink, K: Keeper, L: Link, C: WallClock, G: Ledger>
     ensures source { S.faults source.new ≡ count_after (result == 4) (S.faults source.old) }
     ensures sink { W.faults sink.new ≡ count_after (result == 5) (W.faults sink.old) }
     ensures keeper { K.faults keeper.new ≡ count_after (result == 6) (K.faults keeper.old) }
-    ensures unlinked { link.new ≡ link.old }
 {
     match read_all(alloc, session, source, sink, keeper, link, clock, steps) {
         End::AtEnd => match session.end_last(alloc, sink, keeper, link, clock, steps) {
@@ -120,12 +118,14 @@ fn bad_record<W: Sink>(alloc: Global, sink: &mut W, index: usize) -> u8
     BAD_RECORD
 }
 
-/// Opens the group of the device of this node, answers the lines of the source, and gives the status.
+/// Opens the group of the device of this node, answers the lines of the source, and gives the status. It syncs with
+/// this target.
 ///
 /// The program ends after a run, so the device isn't taken apart.
 pub fn run_device<S: Source, W: Sink, K: Keeper, L: Link, C: WallClock, G: Ledger>(
     alloc: Global,
     node: Node,
+    target: Target,
     source: &mut S,
     sink: &mut W,
     keeper: &mut K,
@@ -134,11 +134,10 @@ pub fn run_device<S: Source, W: Sink, K: Keeper, L: Link, C: WallClock, G: Ledge
     steps: &mut Steps<G>,
 ) -> u8
     requires { IsNode node }
-    ensures run { (target : Target) → DeviceRun node target result (S.left source.old) (S.left source.new) (W.faults sink.old) (W.faults sink.new) (seen (W.taken sink.old) (C.readings clock.old) (L.exchanges link.old) (L.faults link.old) (K.tells keeper.old) (K.contents keeper.old) (K.left keeper.old)) (seen (W.taken sink.new) (C.readings clock.new) (L.exchanges link.new) (L.faults link.new) (K.tells keeper.new) (K.contents keeper.new) (K.left keeper.new)) }
+    ensures run { DeviceRun node target result (S.left source.old) (S.left source.new) (W.faults sink.old) (W.faults sink.new) (seen (W.taken sink.old) (C.readings clock.old) (L.exchanges link.old) (L.faults link.old) (K.tells keeper.old) (K.contents keeper.old) (K.left keeper.old)) (seen (W.taken sink.new) (C.readings clock.new) (L.exchanges link.new) (L.faults link.new) (K.tells keeper.new) (K.contents keeper.new) (K.left keeper.new)) }
     ensures source { S.faults source.new ≡ count_after (result == 4) (S.faults source.old) }
     ensures sink { result ≢ 3 → W.faults sink.new ≡ count_after (result == 5) (W.faults sink.old) }
     ensures keeper { K.faults keeper.new ≡ count_after (result == 6) (K.faults keeper.old) }
-    ensures unlinked { link.new ≡ link.old }
 {
     let group = match Txt::from_text(alloc, GROUP) {
         Ok(group) => group,
@@ -153,6 +152,7 @@ pub fn run_device<S: Source, W: Sink, K: Keeper, L: Link, C: WallClock, G: Ledge
     let mut session = Session {
         device,
         group,
+        target,
         line: Begun::new(alloc),
         bad: false,
     };

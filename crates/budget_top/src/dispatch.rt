@@ -3,13 +3,15 @@ ghost use Rattle.std.specs.Prelude.{◌≡◌, Some, IsErr};
 ghost use Rattle.budget_top.specs.Words.{planned, planned_mode, refusal_status};
 ghost use Rattle.budget_top.specs.Outside.{outside};
 ghost use Rattle.budget_top.specs.Ran.{Ran};
+ghost use Rattle.budget_top.specs.DeviceRun.{target_of};
 
 use crate::device_run::run_device;
 use crate::merge::run_merge;
 use crate::planning::plan;
 use crate::serve_run::run_serve;
-use crate::words::{Mode, WordFault};
+use crate::words::{Mode, Plan, WordFault};
 use budget_ports::{Door, Keeper, Link, Sink, Source, WallClock};
+use device_sync::Target;
 use field_values::{Items, Steps, Txt};
 use std::alloc::Global;
 use std::sync::ledger::Ledger;
@@ -54,6 +56,17 @@ pub fn refusal_status(fault: WordFault) -> u8
     }
 }
 
+/// Whom a device with this plan syncs with.
+fn target_of(plan: Plan) -> Target
+    ensures { result ≡ target_of plan }
+{
+    Target {
+        token: plan.token,
+        file: plan.file,
+        group: plan.group,
+    }
+}
+
 /// Does what the words ask for, and answers the status: 0, all was done; 1, all was done, and a line was
 /// refused; 2, the words are refused, and nothing was touched; 3, a record that is kept is no message, and
 /// no line was taken; 4, 5, 6, the source, the sink or the keeper failed; 7, memory ran out; 8, the door failed
@@ -74,17 +87,17 @@ pub fn run<S: Source, W: Sink, K: Keeper, L: Link, D: Door, C: WallClock, G: Led
     ensures ran { Ran words.now result (outside (S.left source.old) (S.faults source.old) (W.taken sink.old) (W.faults sink.old) (K.tells keeper.old) (K.contents keeper.old) (K.left keeper.old) (K.faults keeper.old) (L.exchanges link.old) (L.faults link.old) (D.waiting door.old) (D.outs door.old) (D.faults door.old) (C.readings clock.old)) (outside (S.left source.new) (S.faults source.new) (W.taken sink.new) (W.faults sink.new) (K.tells keeper.new) (K.contents keeper.new) (K.left keeper.new) (K.faults keeper.new) (L.exchanges link.new) (L.faults link.new) (D.waiting door.new) (D.outs door.new) (D.faults door.new) (C.readings clock.new)) }
 
     // what a run leaves alone
-    ensures untouched { IsErr (planned words.now) → (source.new ≡ source.old) × (sink.new ≡ sink.old) × (keeper.new ≡ keeper.old) × (door.new ≡ door.old) × (clock.new ≡ clock.old) }
-    ensures merge_alone { planned_mode words.now ≡ Some Mode.Merge → (keeper.new ≡ keeper.old) × (door.new ≡ door.old) × (clock.new ≡ clock.old) }
+    ensures untouched { IsErr (planned words.now) → (source.new ≡ source.old) × (sink.new ≡ sink.old) × (keeper.new ≡ keeper.old) × (link.new ≡ link.old) × (door.new ≡ door.old) × (clock.new ≡ clock.old) }
+    ensures merge_alone { planned_mode words.now ≡ Some Mode.Merge → (keeper.new ≡ keeper.old) × (link.new ≡ link.old) × (door.new ≡ door.old) × (clock.new ≡ clock.old) }
     ensures device_alone { planned_mode words.now ≡ Some Mode.Device → door.new ≡ door.old }
-    ensures serve_alone { planned_mode words.now ≡ Some Mode.Serve → (source.new ≡ source.old) × (clock.new ≡ clock.old) }
-    ensures apart { link.new ≡ link.old }
+    ensures serve_alone { planned_mode words.now ≡ Some Mode.Serve → (source.new ≡ source.old) × (link.new ≡ link.old) × (clock.new ≡ clock.old) }
 {
     match plan(alloc, words) {
         Ok(plan) => match (plan.mode, plan.node) {
             (Mode::Merge, _) => run_merge(alloc, source, sink),
             (Mode::Device, Some(node)) => {
-                run_device(alloc, node, source, sink, keeper, link, clock, steps)
+                let target = target_of(plan);
+                run_device(alloc, node, target, source, sink, keeper, link, clock, steps)
             }
             (Mode::Serve, _) => run_serve(alloc, &plan, sink, keeper, door),
             // no plan of a device lacks its node

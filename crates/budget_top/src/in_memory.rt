@@ -26,11 +26,10 @@ pub fn run_in_memory<G: Ledger>(
     steps: &mut Steps<G>,
 ) -> u8
     ensures ran { Ran words.now result (outside_in_memory source.old sink.old keeper.old link.old door.old clock.old) (outside_in_memory source.new sink.new keeper.new link.new door.new clock.new) }
-    ensures untouched { IsErr (planned words.now) → (source.new ≡ source.old) × (sink.new ≡ sink.old) × (keeper.new ≡ keeper.old) × (door.new ≡ door.old) × (clock.new ≡ clock.old) }
-    ensures merge_alone { planned_mode words.now ≡ Some Mode.Merge → (keeper.new ≡ keeper.old) × (door.new ≡ door.old) × (clock.new ≡ clock.old) }
+    ensures untouched { IsErr (planned words.now) → (source.new ≡ source.old) × (sink.new ≡ sink.old) × (keeper.new ≡ keeper.old) × (link.new ≡ link.old) × (door.new ≡ door.old) × (clock.new ≡ clock.old) }
+    ensures merge_alone { planned_mode words.now ≡ Some Mode.Merge → (keeper.new ≡ keeper.old) × (link.new ≡ link.old) × (door.new ≡ door.old) × (clock.new ≡ clock.old) }
     ensures device_alone { planned_mode words.now ≡ Some Mode.Device → door.new ≡ door.old }
-    ensures serve_alone { planned_mode words.now ≡ Some Mode.Serve → (source.new ≡ source.old) × (clock.new ≡ clock.old) }
-    ensures apart { link.new ≡ link.old }
+    ensures serve_alone { planned_mode words.now ≡ Some Mode.Serve → (source.new ≡ source.old) × (link.new ≡ link.old) × (clock.new ≡ clock.old) }
 {
     run(alloc, words, source, sink, keeper, link, door, clock, steps)
 }

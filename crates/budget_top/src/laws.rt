@@ -11,6 +11,7 @@ ghost use Rattle.budget_top.specs.Answers.{AnswersStay};
 
 use command_lines::{lines_write_back, replies_are_lines};
 use device_core::{accepted_are_joined, edits_read_back, received_are_joined};
+use device_sync::talks_are_told;
 use field_merge::latest_message;
 use sync_server::answers_tell;
 
@@ -22,7 +23,8 @@ pub fn lines_are_written()
 
 /// Whoever cuts what a device has written at its line feeds finds one reply behind the other, each as
 /// `ok N` and N lines, or as the one line of a refusal. So a text in a reply never looks like the end
-/// of it. The device's state has to be valid, as it always is (`states_stay_valid`).
+/// of it. The device's state has to be valid, and so the messages of a server's answers, as they always are
+/// (`states_stay_valid`).
 pub fn replies_are_cut()
     ensures { RepliesAreCut }
 {
@@ -34,17 +36,20 @@ pub fn replies_are_cut()
 /// What a device does at a line. A write that is accepted leaves one message more, with the value that was
 /// written, which is the latest of its field, and answers `writes 1`. A message that is accepted has joined
 /// the others, and the answer tells by how many the set has grown. A line that only reads leaves all as it
-/// is, and gets its answer. A write or a message that is refused, and a line that is no command, leave all
-/// as it is; the reply tells the refusal, or the part of the line that is at fault.
+/// is, and gets its answer. A sync leaves what its talk with the server has left, and the reply tells how that ended. A
+/// write, an undo, a redo or a message that is refused, and a line that is no command, leave all as it is; the reply tells
+/// the refusal, or the part of the line that is at fault.
 pub fn lines_are_obeyed()
     ensures { LinesAreObeyed }
 {
     edits_read_back();
     received_are_joined();
+    talks_are_told();
 }
 
 /// A device that begins with a node and valid messages has a valid state: its messages are valid, and so is the
-/// timestamp at which its clock stands. No line leaves it another one.
+/// timestamp at which its clock stands, and what can be undone and redone. No line leaves it another one, where the
+/// messages that a server has answered are valid, as those of each reply that was judged are (`judge`).
 pub fn states_stay_valid()
     ensures { StatesStayValid }
 {

@@ -16,6 +16,7 @@ mod planning;
 mod serve_run;
 mod session;
 mod stop;
+mod sync_line;
 mod tally;
 mod values;
 mod verdict;

@@ -6,16 +6,18 @@ use crate::stop::DeviceStop;
 use crate::write::write_and_flush;
 use budget_ports::{Keeper, Link, Sink, WallClock};
 use device_core::Device;
+use device_sync::Target;
 use field_values::{Steps, Txt};
 use std::alloc::Global;
 use std::sync::ledger::Ledger;
 
-/// A device, the name of the group that keeps its messages, the line that has begun, and whether a
-/// line was refused.
+/// A device, the name of the group that keeps its messages, whom it syncs with, the line that has begun,
+/// and whether a line was refused.
 #[derive(Drop)]
 pub struct Session {
     pub device: Device,
     pub group: Txt,
+    pub target: Target,
     pub line: Begun,
     pub bad: bool,
 }
@@ -50,7 +52,6 @@ impl Session {
         ensures before { (k : Contents) → K.left keeper.new k → K.left keeper.old k ⊎ K.tells keeper.old }
         ensures sink { W.faults sink.new ≡ count_after (step_status device_stop_status result == 5) (W.faults sink.old) }
         ensures keeper { K.faults keeper.new ≡ count_after (step_status device_stop_status result == 6) (K.faults keeper.old) }
-        ensures unlinked { link.new ≡ link.old }
     {
         let reading = clock.now();
         let answer = handle_line(
@@ -59,6 +60,7 @@ impl Session {
             keeper,
             link,
             &self.group,
+            &self.target,
             steps,
             reading,
             &self.line,
@@ -94,7 +96,6 @@ impl Session {
         ensures before { (k : Contents) → K.left keeper.new k → K.left keeper.old k ⊎ K.tells keeper.old }
         ensures sink { W.faults sink.new ≡ count_after (step_status device_stop_status result == 5) (W.faults sink.old) }
         ensures keeper { K.faults keeper.new ≡ count_after (step_status device_stop_status result == 6) (K.faults keeper.old) }
-        ensures unlinked { link.new ≡ link.old }
     {
         let mut at = 0;
         'lines: while let Some(length) = line_length(&bytes[at..]) {
@@ -128,7 +129,6 @@ impl Session {
         ensures before { (k : Contents) → K.left keeper.new k → K.left keeper.old k ⊎ K.tells keeper.old }
         ensures sink { W.faults sink.new ≡ count_after (step_status device_stop_status result == 5) (W.faults sink.old) }
         ensures keeper { K.faults keeper.new ≡ count_after (step_status device_stop_status result == 6) (K.faults keeper.old) }
-        ensures unlinked { link.new ≡ link.old }
     {
         if self.line.is_empty() {
             return Ok(());

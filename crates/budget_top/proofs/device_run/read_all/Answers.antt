@@ -15,7 +15,6 @@ reads-init g c = record {
   source = refl;
   sink = refl;
   keeper = refl;
-  unlinked = refl;
 }
 
 pub returns-in-Err-clause-before : goal.returns-in-Err-clause-before
@@ -73,5 +72,4 @@ reads-preserved g c =
       source = c.in-Bytes.ensures.count ∙ c.reads.invariant.source;
       sink = c.in_default.ensures.sink ∙ c.reads.invariant.sink;
       keeper = c.in_default.ensures.keeper ∙ c.reads.invariant.keeper;
-      unlinked = c.feed.ensures.unlinked ∙ c.reads.invariant.unlinked;
     }

@@ -19,7 +19,6 @@ invariant-reads g l = record {
   source : g.S.Source.faults l.source ≡ g.S.Source.faults l.initial.source;
   sink : g.W.Sink.faults l.sink ≡ g.W.Sink.faults l.initial.sink;
   keeper : g.K.Keeper.faults l.keeper ≡ g.K.Keeper.faults l.initial.keeper;
-  unlinked : l.link ≡ l.initial.link;
 }
 
 abbrev pub decreases-reads : goal.decreases-reads

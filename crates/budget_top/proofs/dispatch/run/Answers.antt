@@ -1,8 +1,7 @@
 use Rattle.std.proofs.Common.{rules, ap, sym}
 use Rattle.budget_ports.specs.Faults.{count_after}
 use Rattle.budget_top.specs.Words.{planned}
-use Rattle.budget_top.specs.DeviceRun.{target_of}
-use Rattle.budget_top.proofs.Refusing.{refused_merge, device_not_refused, device_along, never_so, refused_serve, serve_along}
+use Rattle.budget_top.proofs.Refusing.{with_target, refused_merge, device_not_refused, device_along, never_so, refused_serve, serve_along}
 use Rattle.budget_top.proofs.dispatch.run.Goals as goal
 
 pub returns-clause-ran : goal.returns-clause-ran
@@ -19,11 +18,11 @@ returns-clause-ran g c = record {
 
 pub returns-in-Device-Some-clause-ran : goal.returns-in-Device-Some-clause-ran
 returns-in-Device-Some-clause-ran g c = record {
-  words = λ two. absurd (device_not_refused _ _ _ _ _ _ _ _ _ (c.run_device.ensures.run (target_of c.in-Ok.plan)) two);
+  words = λ two. absurd (device_not_refused _ _ _ _ _ _ _ _ _ (with_target c.target_of-target.ensures c.run_device.ensures.run) two);
   refused = search rules;
   merge = search rules;
   device = λ plan node is mode has.
-      device_along _ c.in-Ok.plan plan c.in-Device-Some.node node _ _ _ _ _ _ _ c.in-Ok.ensures.ok c.in-Device-Some.is-1 is has (c.run_device.ensures.run (target_of c.in-Ok.plan));
+      device_along _ c.in-Ok.plan plan c.in-Device-Some.node node _ _ _ _ _ _ _ c.in-Ok.ensures.ok c.in-Device-Some.is-1 is has (with_target c.target_of-target.ensures c.run_device.ensures.run);
   serve = search rules;
   source = search rules;
   sink = search rules;

@@ -18,7 +18,6 @@ lines-init g c = record {
   alone = λ a. a;
   sink = refl;
   keeper = refl;
-  unlinked = refl;
 }
 
 pub returns-in_err-push-clause-err : goal.returns-in_err-push-clause-err
@@ -35,7 +34,7 @@ returns-in_err-end_line-clause-err g c =
     rw (p.1, p.2) (λ e read s.
     breaks_from _ e _ _ _ _ c.lines.invariant.alone
     (breaks_more _ e _ _ _ _ (first_line read c.args.bytes.now c.lines.at c.in-Some.length ends)
-    (c.in_err-end_line.ensures.err e _ (stands_within e _ _ c.lines.self _ _ (line_within c.args.bytes.now c.lines.at c.in-Some.length ends) refl refl c.in_ok-push.ensures.ok (c.lines.invariant.stands e read s)))))
+    (c.in_err-end_line.ensures.err e _ (stands_within e _ _ c.lines.self _ _ (line_within c.args.bytes.now c.lines.at c.in-Some.length ends) refl refl refl c.in_ok-push.ensures.ok (c.lines.invariant.stands e read s)))))
 
 pub lines-preserved : goal.lines-preserved
 lines-preserved g c =
@@ -44,14 +43,13 @@ lines-preserved g c =
       within = omega (arith, length-drop c.lines.at c.args.bytes.now, ends.inside);
       stands = λ e read s.
           stands_line e read c.args.bytes.now c.lines.at c.in-Some.length c.end_line.new.self _ ends
-          (c.in_ok-end_line.ensures.ok e _ (stands_within e _ _ c.lines.self _ _ (line_within c.args.bytes.now c.lines.at c.in-Some.length ends) refl refl c.in_ok-push.ensures.ok (c.lines.invariant.stands e read s)));
+          (c.in_ok-end_line.ensures.ok e _ (stands_within e _ _ c.lines.self _ _ (line_within c.args.bytes.now c.lines.at c.in-Some.length ends) refl refl refl c.in_ok-push.ensures.ok (c.lines.invariant.stands e read s)));
       ready = c.in_ok-end_line.ensures.ready;
       told = λ t. c.lines.invariant.told (c.end_line.ensures.told t);
       before = λ k h. elim (c.end_line.ensures.before k h) [ inl there ↦ c.lines.invariant.before k there | inr t ↦ inr (c.lines.invariant.told t) ];
       alone = λ a. c.in_ok-end_line.ensures.alone (c.lines.invariant.alone a);
       sink = ◌∙◌ {b = g.W.Sink.faults c.lines.sink} c.in_ok-end_line.ensures.sink c.lines.invariant.sink;
       keeper = ◌∙◌ {b = g.K.Keeper.faults c.lines.keeper} c.in_ok-end_line.ensures.keeper c.lines.invariant.keeper;
-      unlinked = c.end_line.ensures.unlinked ∙ c.lines.invariant.unlinked;
     }
 
 pub returns-in_err-push-2-clause-err : goal.returns-in_err-push-2-clause-err
@@ -64,4 +62,4 @@ returns-in_err-push-2-clause-err g c =
 pub returns-clause-ok : goal.returns-clause-ok
 returns-clause-ok g c = λ e read s.
     stands_rest e read c.args.bytes.now c.lines.at _ _
-    (stands_within e _ _ c.lines.self _ _ (within_none _ (sym c.in_default.ensures)) refl refl c.in_ok-push-2.ensures.ok (c.lines.invariant.stands e read s))
+    (stands_within e _ _ c.lines.self _ _ (within_none _ (sym c.in_default.ensures)) refl refl refl c.in_ok-push-2.ensures.ok (c.lines.invariant.stands e read s))

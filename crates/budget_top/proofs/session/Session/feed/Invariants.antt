@@ -18,7 +18,6 @@ invariant-lines g l = record {
   alone : IsAlone (g.K.Keeper.tells l.initial.keeper) (g.K.Keeper.contents l.initial.keeper) (g.K.Keeper.left l.initial.keeper) → IsAlone (g.K.Keeper.tells l.keeper) (g.K.Keeper.contents l.keeper) (g.K.Keeper.left l.keeper);
   sink : g.W.Sink.faults l.sink ≡ g.W.Sink.faults l.initial.sink;
   keeper : g.K.Keeper.faults l.keeper ≡ g.K.Keeper.faults l.initial.keeper;
-  unlinked : l.link ≡ l.initial.link;
 }
 
 abbrev pub decreases-lines : goal.decreases-lines
