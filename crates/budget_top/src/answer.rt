@@ -1,5 +1,5 @@
 //! One line of a device: what it asks is done, and what it made is kept before it is answered.
-ghost use Rattle.std.specs.Prelude.{◌≡◌, ◌≢◌, ◌⊎◌, ◌∷◌, [], ℕ, List, Ok, Err, IfOk, IfErr, IfSome, IsSome, IsUtf8, OnOk, OnErr, IsErrOf, false};
+ghost use Rattle.std.specs.Prelude.{◌≡◌, ◌≢◌, ◌⊎◌, ◌∷◌, [], ℕ, List, Ok, Err, IfOk, IfErr, IfSome, IsSome, IsUtf8, OnOk, OnErr, IsErrOf, true, false};
 ghost use Rattle.field_merge.specs.declared.message.Message.{Message};
 ghost use Rattle.field_merge.specs.Messages.{IsMessage};
 ghost use Rattle.device_core.specs.Edits.{IsEdit};
@@ -184,17 +184,17 @@ fn reply_to<G: Ledger>(
     device: &mut Device,
     steps: &mut Steps<G>,
     reading: u64,
-    asked: Result<Command, u32>,
+    asked: &Result<Command, u32>,
 ) -> Result<Reply, NoMemory>
     requires live { device.old.spent ≡ false }
     requires idle { device.old.batch ≡ [] }
-    requires valid { IfOk asked IsCommand }
-    requires plain { IsPlain asked }
-    ensures ok { IfOk result (λ reply. obeyed device.old.state reading asked ≡ (device.new.state, reply)) }
+    requires valid { IfOk asked.now IsCommand }
+    requires plain { IsPlain asked.now }
+    ensures ok { IfOk result (λ reply. obeyed device.old.state reading asked.now ≡ (device.new.state, reply)) }
     ensures live { OnOk result (device.new.spent ≡ false) }
     ensures brings { OnOk result (Brings device.old.state.messages device.new) }
 {
-    match &asked {
+    match asked {
         Ok(command) => obey(alloc, device, steps, reading, command),
         Err(word) => faulty_reply(alloc, *word),
     }
@@ -243,22 +243,22 @@ fn answer_line<K: Keeper, G: Ledger>(
     group: &Txt,
     steps: &mut Steps<G>,
     reading: u64,
-    asked: Result<Command, u32>,
+    asked: &Result<Command, u32>,
 ) -> Result<Answer, PortFault>
     requires live { device.old.spent ≡ false }
     requires idle { device.old.batch ≡ [] }
     requires group { group.now ≡ device_group }
-    requires valid { IfOk asked IsCommand }
-    requires plain { IsPlain asked }
-    ensures plain { IsPlain asked }
-    ensures ok { IfOk result (λ a. IsHandled (obeyed device.old.state reading asked) device.new.state a.text a.refused) }
+    requires valid { IfOk asked.now IsCommand }
+    requires plain { IsPlain asked.now }
+    ensures plain { IsPlain asked.now }
+    ensures ok { IfOk result (λ a. IsHandled (obeyed device.old.state reading asked.now) device.new.state a.text a.refused) }
     ensures live { OnOk result (device.new.spent ≡ false) }
     ensures idle { OnOk result (device.new.batch ≡ []) }
-    ensures carries { K.tells keeper.new → OnOk result (Carries device.old.state.messages (obeyed device.old.state reading asked).0.messages (K.contents keeper.old) (K.contents keeper.new)) }
+    ensures carries { K.tells keeper.new → OnOk result (Carries device.old.state.messages (obeyed device.old.state reading asked.now).0.messages (K.contents keeper.old) (K.contents keeper.new)) }
     ensures alone { OnOk result (IsAlone (K.tells keeper.old) (K.contents keeper.old) (K.left keeper.old) → IsAlone (K.tells keeper.new) (K.contents keeper.new) (K.left keeper.new)) }
     ensures same { K.tells keeper.new → OnErr result (K.contents keeper.new ≡ K.contents keeper.old) }
-    ensures new { IsErrOf result HasFailed → (obeyed device.old.state reading asked).0.messages ≢ device.old.state.messages }
-    ensures stops { OnErr result (IsAlone (K.tells keeper.old) (K.contents keeper.old) (K.left keeper.old) → (c : Contents) → K.left keeper.new c → K.tells keeper.old × CarriesEither device.old.state.messages (obeyed device.old.state reading asked).0.messages (K.contents keeper.old) c) }
+    ensures new { IsErrOf result HasFailed → (obeyed device.old.state reading asked.now).0.messages ≢ device.old.state.messages }
+    ensures stops { OnErr result (IsAlone (K.tells keeper.old) (K.contents keeper.old) (K.left keeper.old) → (c : Contents) → K.left keeper.new c → K.tells keeper.old × CarriesEither device.old.state.messages (obeyed device.old.state reading asked.now).0.messages (K.contents keeper.old) c) }
     ensures told { K.tells keeper.new → K.tells keeper.old }
     ensures before { (k : Contents) → K.left keeper.new k → K.left keeper.old k ⊎ K.tells keeper.old }
     ensures count { K.faults keeper.new ≡ count_after (has_failed result) (K.faults keeper.old) }
@@ -272,6 +272,62 @@ fn answer_line<K: Keeper, G: Ledger>(
         text,
         refused: is_refusal(&reply),
     })
+}
+
+/// What a line asks: a command, or the index of its first word that is not of its form.
+fn asked_by(alloc: Global, line: &Begun) -> Result<Result<Command, u32>, NoMemory>
+    ensures asks { IfOk result (λ asked. asked_kept_line line.now ≡ asked) }
+    ensures valid { IfOk result (λ asked. IfOk asked IsCommand) }
+{
+    match ask(alloc, line) {
+        Ok(command) => Ok(Ok(command)),
+        Err(CommandFault::BadCommand { word }) => Ok(Err(word)),
+        Err(CommandFault::NoMemory) => Err(NoMemory),
+    }
+}
+
+/// Whether it asks for a sync.
+fn is_sync(asked: &Result<Command, u32>) -> bool
+    ensures sync { result ≡ true → asked.now ≡ Ok Command.Sync }
+    ensures plain { result ≡ false → IsPlain asked.now }
+{
+    matches!(asked, Ok(Command::Sync))
+}
+
+/// Lets go of what was asked, which takes a case for each command, so nothing stands beside it here.
+fn let_go(_asked: Result<Command, u32>) {}
+
+/// Does what was asked at a reading of the wall clock, keeps what it made, and gives its reply.
+fn handle<K: Keeper, L: Link, G: Ledger>(
+    alloc: Global,
+    device: &mut Device,
+    keeper: &mut K,
+    link: &mut L,
+    group: &Txt,
+    target: &Target,
+    steps: &mut Steps<G>,
+    reading: u64,
+    asked: &Result<Command, u32>,
+) -> Result<Answer, PortFault>
+    requires live { device.old.spent ≡ false }
+    requires idle { device.old.batch ≡ [] }
+    requires group { group.now ≡ device_group }
+    requires valid { IfOk asked.now IsCommand }
+    ensures answered { IfOk result (λ a. IsAnswered target.now reading asked.now device.old.state device.new.state a.text a.refused (L.exchanges link.old) (L.exchanges link.new) (L.faults link.old) (L.faults link.new) (K.tells keeper.new) (K.contents keeper.old) (K.contents keeper.new)) }
+    ensures unanswered { IfErr result (λ fault. IsUnanswered target.now fault reading asked.now device.old.state (L.exchanges link.old) (L.exchanges link.new) (L.faults link.old) (L.faults link.new) (IsAlone (K.tells keeper.old) (K.contents keeper.old) (K.left keeper.old)) (K.tells keeper.old) (K.tells keeper.new) (K.contents keeper.old) (K.contents keeper.new) (K.left keeper.new)) }
+    ensures live { OnOk result (device.new.spent ≡ false) }
+    ensures idle { OnOk result (device.new.batch ≡ []) }
+    ensures alone { OnOk result (IsAlone (K.tells keeper.old) (K.contents keeper.old) (K.left keeper.old) → IsAlone (K.tells keeper.new) (K.contents keeper.new) (K.left keeper.new)) }
+    ensures told { K.tells keeper.new → K.tells keeper.old }
+    ensures before { (k : Contents) → K.left keeper.new k → K.left keeper.old k ⊎ K.tells keeper.old }
+    ensures count { K.faults keeper.new ≡ count_after (has_failed result) (K.faults keeper.old) }
+{
+    if is_sync(asked) {
+        return sync_line(
+            alloc, device, keeper, link, group, target, steps, reading,
+        );
+    }
+    answer_line(alloc, device, keeper, group, steps, reading, asked)
 }
 
 /// Does what a line asks at a reading of the wall clock, keeps what it made, and gives its reply.
@@ -301,14 +357,14 @@ pub fn handle_line<K: Keeper, L: Link, G: Ledger>(
     ensures before { (k : Contents) → K.left keeper.new k → K.left keeper.old k ⊎ K.tells keeper.old }
     ensures count { K.faults keeper.new ≡ count_after (has_failed result) (K.faults keeper.old) }
 {
-    match ask(alloc, line) {
-        Ok(Command::Sync) => sync_line(
-            alloc, device, keeper, link, group, target, steps, reading,
-        ),
-        Ok(command) => answer_line(alloc, device, keeper, group, steps, reading, Ok(command)),
-        Err(CommandFault::BadCommand { word }) => {
-            answer_line(alloc, device, keeper, group, steps, reading, Err(word))
+    match asked_by(alloc, line) {
+        Ok(asked) => {
+            let answer = handle(
+                alloc, device, keeper, link, group, target, steps, reading, &asked,
+            );
+            let_go(asked);
+            answer
         }
-        Err(CommandFault::NoMemory) => Err(PortFault::NoMemory),
+        Err(NoMemory) => Err(PortFault::NoMemory),
     }
 }

@@ -6,5 +6,5 @@ use Rattle.budget_top.proofs.answer.receive.Goals as goal
 
 pub returns-in-Ok-clause-brings : goal.returns-in-Ok-clause-brings
 returns-in-Ok-clause-brings g c =
-    let came = c.accepted_are_joined.ensures.of_messages c.args.device.now.state (c.args.message.now ∷ []) c.args.reading (accepted_as c.incoming.new.self c.in-Ok.count) c.in-Ok.ensures.ok in
+    let came = c.accepted_are_joined.ensures.of_messages c.args.device.now.state (c.in_ok-copy.field-0 ∷ []) c.args.reading (accepted_as c.incoming.new.self c.in-Ok.count) c.in-Ok.ensures.ok in
     whether_ok _ c.added_reply.result (brings_device c.args.device.now.state.messages c.incoming.new.self c.in-Ok.count came.brings)

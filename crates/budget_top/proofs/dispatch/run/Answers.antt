@@ -4,8 +4,8 @@ use Rattle.budget_top.specs.Words.{planned}
 use Rattle.budget_top.proofs.Refusing.{with_target, refused_merge, device_not_refused, device_along, never_so, refused_serve, serve_along}
 use Rattle.budget_top.proofs.dispatch.run.Goals as goal
 
-pub returns-clause-ran : goal.returns-clause-ran
-returns-clause-ran g c = record {
+pub returns-in-Err-clause-ran : goal.returns-in-Err-clause-ran
+returns-in-Err-clause-ran g c = record {
   words = search rules;
   refused = search rules;
   merge = λ named. rw c.refusal_status.ensures (refused_merge c.args.words.now c.in-Err.fault (g.S.Source.left c.args.source.now) (g.W.Sink.taken c.args.sink.now) c.in-Err.ensures.err named);
