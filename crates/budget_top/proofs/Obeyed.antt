@@ -97,8 +97,8 @@ syncing : TalksAreTold → (target : Target) (r : Running) (i : Input) (end : St
 syncing law target r i end outcome says within talk =
     let so : conversed r.state i.given ≡ (end, outcome) = talked_so law target r.state i.given end outcome within talk in
     let now : step target r i ≡ synced_to r i.given end outcome =
-        stepped target r i _ (asks i.line _ says)
-        ∙ ap (λ (d : State × Outcome). synced_to r i.given d.0 d.1) so in
+    stepped target r i _ (asks i.line _ says)
+    ∙ ap (λ (d : State × Outcome). synced_to r i.given d.0 d.1) so in
     let reply : (o : Outcome) → outcome ≡ o → (step target r i).1 ≡ (synced_to r i.given end o).1 = λ o e. ap (λ (p : Running × Reply). p.1) now ∙ ap (λ (x : Outcome). (synced_to r i.given end x).1) e in
     record {
       state = ap (λ (p : Running × Reply). p.0.state) now;
@@ -114,8 +114,8 @@ syncing law target r i end outcome says within talk =
 syncing_late : (target : Target) (r : Running) (i : Input) → Says i.line Sync → window ≤ i.given.reading / 60_000 → Refuses r (OfClock (Beyond i.given.reading)) (step target r i).0 (step target r i).1
 syncing_late target r i says over =
     let now : step target r i ≡ synced_to r i.given r.state (not_taken (OfClock (Beyond i.given.reading))) =
-        stepped target r i _ (asks i.line _ says)
-        ∙ ap (λ (d : State × Outcome). synced_to r i.given d.0 d.1) (late_so r.state i.given over) in
+    stepped target r i _ (asks i.line _ says)
+    ∙ ap (λ (d : State × Outcome). synced_to r i.given d.0 d.1) (late_so r.state i.given over) in
     record {
       same = ap (λ (p : Running × Reply). p.0) now;
       told = λ due has. ap (λ (p : Running × Reply). p.1) now ∙ ap reply_to_refusal has;

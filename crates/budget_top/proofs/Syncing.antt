@@ -219,7 +219,7 @@ module _ (law : TalksAreTold) (target : Target) (reading : ℕ) (s now : State) 
       → IsAnswered target reading (Ok Sync) s now text is_bad xs ys n m tells before after
   synced_answered text is_bad has texts bad =
       let replies : reply_of ended ≡ (made target s given (Ok Sync)).1 =
-          (closes_so has).reply ∙ ap (λ (d : State × Outcome). sync_reply (length h.conversed.turns) (length d.0.messages - length s.messages) d.1) (sym is) in
+      (closes_so has).reply ∙ ap (λ (d : State × Outcome). sync_reply (length h.conversed.turns) (length d.0.messages - length s.messages) d.1) (sym is) in
       record {
         given = given;
         took = refl;
@@ -339,21 +339,24 @@ module _ (target : Target) (reading : ℕ) (s : State) (xs : Option (List Exchan
           })),
           λ t entry held. (held, subst Q (sym talks) (λ w. found w ∙ held.synced)),
         );
-    stops = λ alone c lies. ((alone c lies).0, λ entry r rs held.
-        let P : Bool → Type 0 = λ b. MayLeaveIf b target r (none_said reading since) command r in
-        let Q : Contents → Type 0 = λ k. Holds target entry k r in record {
-          left = r;
-          holds = subst Q (sym (alone c lies).1) held;
-          which = subst P (sym talks) (record {
-            found = λ w. found w ∙ held.synced;
-            turns = [];
-            later = [];
-            are_first = refl;
-            outcome = going_on (first_since since reading);
-            talk = record { last = refl; stays = refl; outcome = refl };
-            texts = inl refl;
-          });
-        });
+    stops = λ alone c lies. (
+      (alone c lies).0,
+      λ entry r rs held.
+          let P : Bool → Type 0 = λ b. MayLeaveIf b target r (none_said reading since) command r in
+          let Q : Contents → Type 0 = λ k. Holds target entry k r in record {
+            left = r;
+            holds = subst Q (sym (alone c lies).1) held;
+            which = subst P (sym talks) (record {
+              found = λ w. found w ∙ held.synced;
+              turns = [];
+              later = [];
+              are_first = refl;
+              outcome = going_on (first_since since reading);
+              talk = record { last = refl; stays = refl; outcome = refl };
+              texts = inl refl;
+            });
+          },
+    );
     new = λ failed r rs. let P : Bool → Type 0 = λ b. HasMadeNewIf b target r (none_said reading since) command in subst P (sym talks) tt;
   }
 
@@ -378,7 +381,7 @@ module _ (target : Target) (reading : ℕ) (s : State) (xs : Option (List Exchan
         → IsAnswered target reading (Ok Sync) s s text is_bad xs xs n n tells before before
     beyond_answered text is_bad texts bad =
         let replies : reply_of (Err (Clock (Beyond reading))) ≡ (made target s (alone_at reading) (Ok Sync)).1 =
-            ap (λ (d : State × Outcome). sync_reply 0 (length d.0.messages - length s.messages) d.1) (sym (late_is s)) in
+        ap (λ (d : State × Outcome). sync_reply 0 (length d.0.messages - length s.messages) d.1) (sym (late_is s)) in
         record {
           given = alone_at reading;
           took = refl;

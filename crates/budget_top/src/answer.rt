@@ -323,9 +323,7 @@ fn handle<K: Keeper, L: Link, G: Ledger>(
     ensures count { K.faults keeper.new ≡ count_after (has_failed result) (K.faults keeper.old) }
 {
     if is_sync(asked) {
-        return sync_line(
-            alloc, device, keeper, link, group, target, steps, reading,
-        );
+        return sync_line(alloc, device, keeper, link, group, target, steps, reading);
     }
     answer_line(alloc, device, keeper, group, steps, reading, asked)
 }

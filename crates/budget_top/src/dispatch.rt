@@ -97,7 +97,9 @@ pub fn run<S: Source, W: Sink, K: Keeper, L: Link, D: Door, C: WallClock, G: Led
             (Mode::Merge, _) => run_merge(alloc, source, sink),
             (Mode::Device, Some(node)) => {
                 let target = target_of(plan);
-                run_device(alloc, node, target, source, sink, keeper, link, clock, steps)
+                run_device(
+                    alloc, node, target, source, sink, keeper, link, clock, steps,
+                )
             }
             (Mode::Serve, _) => run_serve(alloc, &plan, sink, keeper, door),
             // no plan of a device lacks its node

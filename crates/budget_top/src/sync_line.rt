@@ -90,8 +90,6 @@ pub fn sync_line<K: Keeper, L: Link, G: Ledger>(
     ensures count { K.faults keeper.new ≡ count_after (has_failed result) (K.faults keeper.old) }
 {
     talks_are_told();
-    let ended = sync(
-        alloc, device, keeper, link, group, target, reading, steps,
-    );
+    let ended = sync(alloc, device, keeper, link, group, target, reading, steps);
     tell_sync(alloc, ended)
 }

@@ -242,9 +242,12 @@ are_lines law = record {
   answers = λ messages command valid. answer_is law messages command valid;
   edits = λ writes made h. (counted (codes "writes ") writes refl, made_are made h);
   received = λ count. (counted (codes "added ") count refl, tt);
-  syncs = λ requests count. (is_line (codes "requests " ++ (decimal requests ++ (codes " received " ++ decimal count)))
-      (both (codes "requests ") (decimal requests ++ (codes " received " ++ decimal count)) (tested (codes "requests ") refl)
-      (both (decimal requests) (codes " received " ++ decimal count) (number_plain requests) (both (codes " received ") (decimal count) (tested (codes " received ") refl) (number_plain count)))), tt);
+  syncs = λ requests count. (
+    is_line (codes "requests " ++ (decimal requests ++ (codes " received " ++ decimal count)))
+        (both (codes "requests ") (decimal requests ++ (codes " received " ++ decimal count)) (tested (codes "requests ") refl)
+        (both (decimal requests) (codes " received " ++ decimal count) (number_plain requests) (both (codes " received ") (decimal count) (tested (codes " received ") refl) (number_plain count)))),
+    tt,
+  );
   lost_links = code (codes "sync-failed") refl;
   bad_answers = λ at. code (codes "sync-failed") refl;
   bad_statuses = λ status. code (codes "sync-failed") refl;
