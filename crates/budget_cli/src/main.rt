@@ -107,12 +107,12 @@ fn status_over<G: Ledger, S: Source, W: Sink, K: Keeper, L: Link, D: Door, C: Wa
 }
 
 /// Does what the words ask for over the standard streams, this keeper, this door and a link to the server at an
-/// address, if there is one, with the clock of the system, and answers the status. What a run that broke off has
+/// address, which a device alone makes use of, with the clock of the system, and answers the status. What a run that broke off has
 /// written is handed on when the writer is dropped.
 fn run_with<K: Keeper, D: Door>(
     rt: &HostRuntime,
     words: &Items<Txt>,
-    peer: Option<&str>,
+    peer: &str,
     keeper: &mut K,
     door: &mut D,
 ) -> u8 {
@@ -122,7 +122,7 @@ fn run_with<K: Keeper, D: Door>(
     };
     let mut source = StdinSource::new(rt.stdin());
     let mut sink = StdoutSink::new(writer);
-    let mut link = TcpLink::new(alloc, rt, rt, peer);
+    let mut link = TcpLink::new(alloc, rt, rt, Some(peer));
     let mut clock = SystemClock::new(rt);
     status_over::<Brand, _, _, _, _, _, _>(
         alloc,
@@ -163,7 +163,7 @@ fn tell_store(rt: &HostRuntime, fault: &StoreFault) {
 fn run_over_store<D: Door>(
     rt: &HostRuntime,
     words: &Items<Txt>,
-    peer: Option<&str>,
+    peer: &str,
     path: &str,
     door: &mut D,
 ) -> ExitCode {
@@ -186,7 +186,8 @@ fn run_over_store<D: Door>(
 }
 
 /// Does what the words ask for. A server listens at its address; of any other run the door is shut. A device talks to
-/// the server at the peer's address; any other run has no link. A device or a server with a store runs over its file, any other run keeps what it keeps in memory.
+/// the server at the peer's address; any other run leaves its link alone. A device or a server with a store runs over
+/// its file, any other run keeps what it keeps in memory.
 fn main(rt: HostRuntime) -> ExitCode {
     let words = match words_of(&rt) {
         Ok(words) => words,
@@ -200,10 +201,7 @@ fn main(rt: HostRuntime) -> ExitCode {
         Mode::Serve => TcpDoor::listen(&rt, &rt, plan.listen.as_str()),
         Mode::Merge | Mode::Device => TcpDoor::shut(&rt),
     };
-    let peer = match plan.mode {
-        Mode::Device => Some(plan.peer.as_str()),
-        Mode::Merge | Mode::Serve => None,
-    };
+    let peer = plan.peer.as_str();
     match (plan.mode, &plan.store) {
         (Mode::Device | Mode::Serve, Some(path)) => {
             run_over_store(&rt, &words, peer, path.as_str(), &mut door)
