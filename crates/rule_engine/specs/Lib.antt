@@ -1,0 +1,6 @@
+pub mod Scores
+pub mod Days
+pub mod Reading
+pub mod Conditions
+pub mod Running
+pub mod Edits
