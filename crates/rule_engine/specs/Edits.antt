@@ -16,6 +16,7 @@ use Rattle.book_rows.specs.Live.{is_live_rule, is_alive}
 use Rattle.book_edits.specs.Faults.{◌>>=◌, Check, must}
 use Rattle.book_edits.specs.Checks.{new_row, same_id}
 use Rattle.book_edits.specs.Writing.{write, flag, text_or_null}
+use Rattle.split_transfer.specs.Pairs.{live_row}
 use Rattle.split_transfer.specs.Checks.{each}
 use Rattle.split_transfer.specs.Writing.{tx_write}
 use Rattle.rule_engine.specs.declared.edit.RuleEdit.{RuleEdit}
@@ -94,9 +95,9 @@ changed id old new =
     ++ changed_text id (codes "schedule") old.schedule new.schedule
     ++ changed_flag id (codes "cleared") old.cleared new.cleared
 
--- what rules change of the transaction of an id
+-- what rules change of the live transaction of an id
 abbrev pub changes : Rows → List Rule → Text → List Write
-changes rows rules id = of_row (map.get rows.txs id)
+changes rows rules id = of_row (live_row rows id)
   where
     of_row : Option TxRow → List Write
     of_row None = []

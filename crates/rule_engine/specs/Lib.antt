@@ -4,3 +4,4 @@ pub mod Reading
 pub mod Conditions
 pub mod Running
 pub mod Edits
+pub mod Laws

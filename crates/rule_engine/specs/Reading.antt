@@ -1,5 +1,6 @@
 -- What the JSON of conditions and actions says, and the first entry that is bad.
 use Rattle.std.specs.Prelude.{◌≡◌, ℕ, min, List, [], ◌∷◌, map, Bool, true, false, not, ◌&&◌, ◌||◌, if◌then◌else◌, Option, Some, None, is_none, option_map, option_and_then, Result, Ok, Err, codes, ℤ, nat_le, unsigned_abs}
+use Rattle.std.specs.Option.{option_or}
 use Rattle.std.specs.Str.{bytes_eq}
 use Rattle.std.specs.List.{position, filter_map}
 use Rattle.serde_json.specs.Data.{Data, null, boolean, string, object, Items, no_items, item}
@@ -155,9 +156,9 @@ amount_value Lte d = option_map (λ z. Number z) (as_amount d)
 amount_value IsBetween d = between (option_and_then as_amount (get (codes "num1") d)) (option_and_then as_amount (get (codes "num2") d))
 amount_value other d = None
 
--- a day, or the object of a recurrence, whatever it says
+-- a day, or a recurrence, which is an object, whatever it says
 abbrev pub day_or_recurrence : Data → Option CondValue
-day_or_recurrence (object ms) = Some (Recurrence (object ms))
+day_or_recurrence (object ms) = Some Recurrence
 day_or_recurrence other = option_map (λ n. Day n) (as_day other)
 
 -- what a day is compared with

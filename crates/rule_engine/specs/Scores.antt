@@ -3,6 +3,7 @@ use Rattle.std.specs.Prelude.{◌≡◌, ℕ, ◌*◌, List, [], ◌∷◌, Bool
 use Rattle.std.specs.List.{sum_by, list_all}
 use Rattle.std.specs.Cmp.{IsTotalOrder}
 use Rattle.std.specs.Ordering.{nat_cmp, ordering_then, is_gt}
+use Rattle.std.specs.Str.{bytes_eq}
 use Rattle.std.specs.declared.cmp.Ordering.{Ordering}
 use Rattle.std.proofs.lemmas.Cmp.{nat_cmp_total, nat_list_cmp_total, on_total, then_total}
 use Rattle.finite_sums.specs.Maps.{text_cmp}
@@ -58,6 +59,10 @@ stage_place Post = 2
 abbrev pub rank_cmp : Rule → Rule → Ordering
 rank_cmp a b =
     ordering_then (ordering_then (nat_cmp (stage_place a.stage) (stage_place b.stage)) (nat_cmp (score a) (score b))) (text_cmp a.id b.id)
+
+-- two rules of one id
+abbrev pub same_id : Rule → Rule → Bool
+same_id a b = bytes_eq a.id b.id
 
 pub rank_total : IsTotalOrder rank_cmp
 rank_total =

@@ -6,10 +6,31 @@
 //! order ([`rule_writes`]).
 #![tactic(auto)]
 
+mod acting;
+mod compared;
+mod days;
 mod edit;
-mod recurrence;
+mod given;
+mod holding;
+mod laws;
+mod making;
+mod order;
+mod reading;
 mod rule;
+mod running;
+mod scoring;
+mod setting;
+mod values;
+mod words;
+mod writing;
 
+pub use days::{are_within, day_of_text};
 pub use edit::RuleEdit;
-pub use recurrence::Recurrence;
+pub use holding::holds;
+pub use laws::{ranks_are_one_order, rules_are_ranked, rules_follow_one_another, texts_are_compared};
+pub use making::rule_writes;
+pub use order::rank;
+pub use reading::read_rule;
 pub use rule::{Action, CondField, CondOp, CondValue, Condition, Rule, RuleOp, Stage};
+pub use running::{rules_of, run_rules};
+pub use scoring::score;

@@ -1,5 +1,4 @@
 //! What a rule says.
-use crate::recurrence::Recurrence;
 use field_values::{Items, Txt};
 
 /// The column of a transaction that a condition tests.
@@ -53,7 +52,7 @@ pub enum CondOp {
 }
 
 /// What a condition compares with. Amounts are in cents, a day is YYYYMMDD.
-#[derive(Drop)]
+#[derive(Debug, Drop)]
 pub enum CondValue {
     /// None.
     Null,
@@ -70,14 +69,15 @@ pub enum CondValue {
     },
     /// A day.
     Date(u32),
-    /// The days of a recurrence. No transaction meets it.
-    Recurrence(Recurrence),
+    /// The days of a recurrence, whose object stands in the text of the rule's conditions, at the place of this one. No transaction
+    /// meets it.
+    Recurrence,
     /// Whether it is set.
     Flag(bool),
 }
 
 /// A test of one column of a transaction.
-#[derive(Drop)]
+#[derive(Debug, Drop)]
 pub struct Condition {
     /// The column.
     pub field: CondField,
@@ -127,7 +127,7 @@ pub enum RuleOp {
 }
 
 /// A rule: where its conditions hold on a transaction, its actions change it. One without conditions changes nothing.
-#[derive(Drop)]
+#[derive(Debug, Drop)]
 pub struct Rule {
     /// The id of its row.
     pub id: Txt,

@@ -23,3 +23,4 @@ pub use breaks::broken;
 pub use edit::{PairEdit, SplitPart, TxChange};
 pub use laws::{broken_tells_all, links_are_told, pairs_and_splits_stay_right};
 pub use making::pair_writes;
+pub use pairs::{live_row, partner_of};

@@ -48,8 +48,8 @@ pub(crate) fn is_live(book: &Book, row: &TxRow) -> bool
     }
 }
 
-/// The row of a transaction, where it is live.
-pub(crate) fn live_row<'a>(book: &'a Book, id: &Txt) -> Option<&'a TxRow>
+/// The row of a transaction, where it is live: neither it was deleted, nor what it is a part of.
+pub fn live_row<'a>(book: &'a Book, id: &Txt) -> Option<&'a TxRow>
     ensures { option_copied result ≡ live_row book.now.rows id.now }
 {
     let row = tx(book, id)?;
@@ -66,8 +66,8 @@ fn names_back(book: &Book, id: &Txt, other: &Txt) -> bool
     }
 }
 
-/// The other part of the pair that a live transaction is in.
-pub(crate) fn partner_of<'a>(book: &Book, id: &Txt, row: &'a TxRow) -> Option<&'a Txt>
+/// The id of the other part of the pair that a live transaction, which has this id and this row, is in: two that name each other.
+pub fn partner_of<'a>(book: &Book, id: &Txt, row: &'a TxRow) -> Option<&'a Txt>
     ensures { option_copied result ≡ partner_of book.now.rows id.now row.now }
 {
     match &row.transferred_id {

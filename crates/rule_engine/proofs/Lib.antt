@@ -1,0 +1,5 @@
+pub mod Places
+pub mod Entries
+pub mod Parts
+pub mod Once
+pub mod Ranks
