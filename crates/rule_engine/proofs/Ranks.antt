@@ -57,7 +57,7 @@ strict (x ∷ xs) sorted distinct = (
   strict xs (sorted_rest x xs sorted) (IsDistinct-tail same_id x xs distinct),
 )
 
-first_or_rest : (x : Rule) (xs : List Rule) (q : Rule) → Contains (x ∷ xs) q → (x ≡ q) ⊎ Contains xs q
+pub first_or_rest : (x : Rule) (xs : List Rule) (q : Rule) → Contains (x ∷ xs) q → (x ≡ q) ⊎ Contains xs q
 first_or_rest x xs q c = by_place c.0 c.1 c.2
   where
     by_place : (k : ℕ) → k < length (x ∷ xs) → get_or (x ∷ xs) k q ≡ q → (x ≡ q) ⊎ Contains xs q
@@ -68,10 +68,10 @@ one_of : (P : Rule → Type 0) (xs : List Rule) → AllByRecursion P xs → (q :
 one_of P [] all q c = absurd (omega (arith, c.1))
 one_of P (x ∷ xs) all q c = elim (first_or_rest x xs q c) [ inl e ↦ subst P e all.0 | inr r ↦ one_of P xs all.1 q r ]
 
-here : (x : Rule) (xs : List Rule) → Contains (x ∷ xs) x
+pub here : (x : Rule) (xs : List Rule) → Contains (x ∷ xs) x
 here x xs = (0, omega arith, refl)
 
-there : (x : Rule) (xs : List Rule) (q : Rule) → Contains xs q → Contains (x ∷ xs) q
+pub there : (x : Rule) (xs : List Rule) (q : Rule) → Contains xs q → Contains (x ∷ xs) q
 there x xs q c = (suc c.0, omega (arith, c.1), c.2)
 
 not_both : (a b : Rule) → rank_cmp a b ≡ Less → rank_cmp b a ≡ Less → ⊥

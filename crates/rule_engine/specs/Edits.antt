@@ -106,7 +106,7 @@ changes rows rules id = of_row (live_row rows id)
 -- each id once, at its first place
 abbrev pub distinct : List Text → List Text
 distinct [] = []
-distinct (id ∷ ids) = id ∷ filter (λ other. not (same_id other id)) (distinct ids)
+distinct (id ∷ ids) = id ∷ filter (λ other. not (same_id id other)) (distinct ids)
 
 -- all rules run on each of these transactions, and each sees the book as it stands before
 abbrev pub rules_run : Rows → List Text → Result (List Write) EditFault
