@@ -1,5 +1,5 @@
 -- The rules that run are the live ones.
-use Rattle.std.proofs.Common.{◌≡◌, Bool, true, false, cond, List, [], ◌∷◌, Option, Some, None, Result, Ok, Err, refl, ap, sym, ◌∙◌, subst, inl, inr, ◌⊎◌}
+use Rattle.std.proofs.Common.{◌≡◌, Bool, true, false, cond, List, [], ◌∷◌, Option, Some, None, Result, Ok, Err, arith, refl, ap, sym, ◌∙◌, subst, inl, inr, ◌⊎◌}
 use Rattle.std.specs.Prelude.{◌↔◌}
 use Rattle.std.specs.declared.cmp.Ordering.{Ordering}
 use Rattle.std.specs.declared.cmp.Ordering.TheVariants.{Less, Equal, Greater}
@@ -86,10 +86,11 @@ at_front id row es r h =
     let same : r.id ≡ id = read_id id row r parts.1 in
     let F : Text → Type 0 = λ q. (find text_cmp q ((id, row) ∷ es) ≡ Some row) × (row.tombstone ≡ false) × (read_rule q row ≡ Ok r) in
     let tied : eq_by_cmp text_cmp id id ≡ true = (eq_by_cmp_equiv text_total).refl id in
-    (row, subst F (sym same) (ap (λ b. cond b (Some row) (find text_cmp id es)) tied, parts.0, parts.1))
+    let at = subst F (sym same) (ap (λ b. cond b (Some row) (find text_cmp id es)) tied, parts.0, parts.1) in
+    (row, at.0, at.1, at.2)
 
 forth : (es : List (Text × RuleRow)) (r : Rule) → is_sorted text_cmp es ≡ true → Contains (filter_map read_live es) r → IsAt es r
-forth [] r s c = absurd (let below = c.1 in cc)
+forth [] r s c = absurd (omega (arith, c.1))
 forth (e ∷ es) r s c =
     let rest : Contains (filter_map read_live es) r → IsAt (e ∷ es) r = λ d.
         let at = forth es r (both_true _ _ s).1 d in
