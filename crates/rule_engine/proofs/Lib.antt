@@ -3,3 +3,6 @@ pub mod Entries
 pub mod Parts
 pub mod Once
 pub mod Ranks
+pub mod Live
+pub mod Following
+pub mod ValidWrites

@@ -8,7 +8,7 @@ use Rattle.std.proofs.lemmas.Grind.{common_steps}
 
 module _ {X : Type 0} (p : X → Bool) where
   pub at_front : (x : X) (xs : List X) → p x ≡ true → position p (x ∷ xs) ≡ Some 0
-  at_front x xs t = rw t refl
+  at_front x xs t = let a : nat_lt 0 (length (x ∷ xs)) ≡ true = grind (arith, common_steps) in rw (t, a) refl
 
   pub behind : (x : X) (xs : List X) → p x ≡ false → position p (x ∷ xs) ≡ option_map (λ n. 1 + n) (position p xs)
   behind x xs f = elim (cases_lt (position_or_len p xs) (length xs)) [

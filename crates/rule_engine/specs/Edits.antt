@@ -95,13 +95,13 @@ changed id old new =
     ++ changed_text id (codes "schedule") old.schedule new.schedule
     ++ changed_flag id (codes "cleared") old.cleared new.cleared
 
+abbrev pub changes_of : Rows → List Rule → Text → Option TxRow → List Write
+changes_of rows rules id None = []
+changes_of rows rules id (Some x) = changed id x (run rows rules x)
+
 -- what rules change of the live transaction of an id
 abbrev pub changes : Rows → List Rule → Text → List Write
-changes rows rules id = of_row (live_row rows id)
-  where
-    of_row : Option TxRow → List Write
-    of_row None = []
-    of_row (Some x) = changed id x (run rows rules x)
+changes rows rules id = changes_of rows rules id (live_row rows id)
 
 -- each id once, at its first place
 abbrev pub distinct : List Text → List Text

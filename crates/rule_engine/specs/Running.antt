@@ -49,21 +49,21 @@ takes_none rows x = x.is_parent || not (is_none (partner_of rows x.id x))
 
 -- what an action makes of a transaction. A payee or a category that isn't live changes nothing; nor is a category set, or taken away, where
 -- the transaction is split or in a pair
-unfoldable pub acted : Rows → Action → TxRow → TxRow
-acted rows (SetDescription payee) x = if if_given (is_live_payee rows) payee then record x { description = payee } else x
-acted rows (SetCategory category) x =
+unfoldable pub acted : Rows → TxRow → Action → TxRow
+acted rows x (SetDescription payee) = if if_given (is_live_payee rows) payee then record x { description = payee } else x
+acted rows x (SetCategory category) =
     if not (takes_none rows x) && if_given (is_live_category rows) category then record x { category = category } else x
-acted rows (SetNotes text) x = record x { notes = noted text }
-acted rows (SetCleared set) x = record x { cleared = set }
-acted rows (PrependNotes text) x = record x { notes = noted (text ++ or_empty x.notes) }
-acted rows (AppendNotes text) x = record x { notes = noted (or_empty x.notes ++ text) }
-acted rows (LinkSchedule id) x = record x { schedule = Some id }
+acted rows x (SetNotes text) = record x { notes = noted text }
+acted rows x (SetCleared set) = record x { cleared = set }
+acted rows x (PrependNotes text) = record x { notes = noted (text ++ or_empty x.notes) }
+acted rows x (AppendNotes text) = record x { notes = noted (or_empty x.notes ++ text) }
+acted rows x (LinkSchedule id) = record x { schedule = Some id }
 
 -- ---- rules
 
 -- what a rule makes of a transaction: its actions follow one another
 unfoldable pub applied : Rows → TxRow → Rule → TxRow
-applied rows x r = if fires r x then fold (λ (now : TxRow) (a : Action). acted rows a now) x r.actions else x
+applied rows x r = if fires r x then fold (acted rows) x r.actions else x
 
 -- what rules make of a transaction: each has what the rules before it made
 unfoldable pub run : Rows → List Rule → TxRow → TxRow
@@ -71,13 +71,13 @@ run rows rules x = fold (applied rows) x rules
 
 -- ---- the rules of a book
 
+abbrev pub ok_rule : Result Rule EditFault → Option Rule
+ok_rule (Ok r) = Some r
+ok_rule (Err fault) = None
+
 -- the rule of a row, where it was not deleted and can be read
 abbrev pub read_live : Text × RuleRow → Option Rule
 read_live e = if e.1.tombstone then None else ok_rule (read_rule e.0 e.1)
-  where
-    ok_rule : Result Rule EditFault → Option Rule
-    ok_rule (Ok r) = Some r
-    ok_rule (Err fault) = None
 
 -- the rules of a book, in the order in which they run
 unfoldable pub rules_of : Rows → List Rule

@@ -119,7 +119,7 @@ pub(crate) fn act(
     action: &Action,
     row: TxRow,
 ) -> Result<TxRow, NoMemory>
-    ensures { IfOk result (λ x. x ≡ acted book.now.rows action.now row) }
+    ensures { IfOk result (λ x. x ≡ acted book.now.rows row action.now) }
 {
     let mut now = row;
     match action {

@@ -128,6 +128,7 @@ pub(crate) fn actions_in(alloc: Global, text: &str) -> Result<Vec<Action>, EditF
 }
 
 /// The conditions of a text that may be absent.
+#[tactic(auto, unfolding(crate::specs::Reading::all_read))]
 fn maybe_conditions(alloc: Global, text: &Option<Txt>) -> Result<Vec<Condition>, EditFault>
     ensures ok { IfOk result (λ v. read_part Conditions condition_of text.now ≡ Ok v.items) }
     ensures err { IfErr result (IsEditFault (read_part Conditions condition_of text.now)) }
@@ -139,6 +140,7 @@ fn maybe_conditions(alloc: Global, text: &Option<Txt>) -> Result<Vec<Condition>,
 }
 
 /// The actions of a text that may be absent.
+#[tactic(auto, unfolding(crate::specs::Reading::all_read))]
 fn maybe_actions(alloc: Global, text: &Option<Txt>) -> Result<Vec<Action>, EditFault>
     ensures ok { IfOk result (λ v. read_part Actions action_of text.now ≡ Ok v.items) }
     ensures err { IfErr result (IsEditFault (read_part Actions action_of text.now)) }

@@ -61,7 +61,7 @@ fn act_all(
     actions: &[Action],
     row: TxRow,
 ) -> Result<TxRow, NoMemory>
-    ensures { IfOk result (λ x. x ≡ fold (λ (now : TxRow) (a : Action). acted book.now.rows a now) row actions.now) }
+    ensures { IfOk result (λ x. x ≡ fold (acted book.now.rows) row actions.now) }
 {
     let mut now = row;
     for action in actions {

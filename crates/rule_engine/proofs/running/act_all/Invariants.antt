@@ -7,5 +7,4 @@ use Rattle.rule_engine.proofs.running.act_all.Given as goal
 
 abbrev pub invariant-loop-action : goal.invariant-loop-action
 invariant-loop-action l =
-    fold (λ (now : TxRow) (a : Action). acted l.book.rows a now) l.now (drop l.action-index l.actions)
-    ≡ fold (λ (now : TxRow) (a : Action). acted l.book.rows a now) l.fn.row l.actions
+    fold (acted l.book.rows) l.now (drop l.action-index l.actions) ≡ fold (acted l.book.rows) l.fn.row l.actions

@@ -3,4 +3,4 @@ use Rattle.rule_engine.proofs.Entries.{Reads}
 use Rattle.rule_engine.proofs.values.all_texts.Given as goal
 
 abbrev pub invariant-loop-entry : goal.invariant-loop-entry
-invariant-loop-entry l = Reads as_str l.entries l.entry-index l.texts.items
+invariant-loop-entry l = Reads as_str l.entries.items l.entry-index l.texts.items
