@@ -94,9 +94,14 @@ entries_over {A} f vs ws i done same h =
 abbrev pub Reads : {A : Type 0} → (Data → Option A) → List Value → ℕ → List A → Type 0
 Reads f vs i done = ahead done (all_from f i (map view (drop i vs))) ≡ all_read f (entries_of (items_view vs))
 
-pub reads_none : {A : Type 0} (f : Data → Option A) (vs : List Value) → Reads f vs 0 []
-reads_none {A} f vs = nothing (all_from f 0 (map view vs)) ∙ from_read f (map view vs) ∙ ap (all_read f) (sym (entries_are vs))
+pub reads_none : {A : Type 0} (f : Data → Option A) (vs : List Value) (done : List A) → done ≡ [] → Reads f vs 0 done
+reads_none {A} f vs done none = ap (λ (xs : List A). ahead xs (all_from f 0 (map view vs))) none ∙ nothing (all_from f 0 (map view vs)) ∙ from_read f (map view vs) ∙ ap (all_read f) (sym (entries_are vs))
   where
     nothing : (r : Result (List A) ℕ) → ahead [] r ≡ r
     nothing (Ok xs) = refl
     nothing (Err n) = refl
+
+-- a good entry more
+pub reads_more : {A : Type 0} (f : Data → Option A) (vs ws : List Value) (i : ℕ) (v : Value) (done more : List A) (a : A) → ws ≡ vs → v ≡ get_or ws i v → i < length ws → Some a ≡ f (view v) → more ≡ done ++ a ∷ [] → Reads f vs i done → Reads f vs (i + 1) more
+reads_more {A} f vs ws i v done more a same e h is pushed reads =
+    ap (λ (xs : List A). ahead xs (all_from f (i + 1) (map view (drop (i + 1) vs)))) pushed ∙ entry_read f vs ws i v done a same e h is ∙ reads

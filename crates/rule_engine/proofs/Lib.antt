@@ -1,4 +1,5 @@
 pub mod Places
+pub mod Dates
 pub mod Entries
 pub mod Parts
 pub mod Once

@@ -1,9 +1,11 @@
 -- Ids of which each is taken once.
-use Rattle.std.proofs.Common.{◌≡◌, Bool, true, false, cond, List, [], ◌∷◌, ◌++◌, filter, refl, ap, sym, ◌∙◌, append_assoc}
+use Rattle.std.proofs.Common.{◌≡◌, ℕ, ◌+◌, ◌<◌, Bool, true, false, cond, List, [], ◌∷◌, ◌++◌, length, get_or, drop, filter, refl, ap, sym, subst, ◌∙◌, append_assoc, add-one, drop-cons}
 use Rattle.std.specs.Prelude.{not, flat_map}
 use Rattle.std.specs.declared.cmp.Ordering.{Ordering}
 use Rattle.std.specs.declared.cmp.Ordering.TheVariants.{Less, Equal, Greater}
 use Rattle.std.specs.Ordering.{is_eq}
+use Rattle.std.specs.List.{list_any}
+use Rattle.std.specs.BTreeMap.{is_at}
 use Rattle.std.specs.BTreeSet as set
 use Rattle.std.specs.BTreeSet.{BTreeSet}
 use Rattle.finite_sums.specs.Maps.{Text, text_cmp}
@@ -50,3 +52,23 @@ taken {W} f s n id ids before after whole t is inv =
       | true ↦ λ e v. ap (λ xs. xs ++ rest) e ∙ append_assoc before (f id) rest ∙ v
       | false ↦ λ e v. ap (λ xs. xs ++ rest) e ∙ v
     ]) is inv2
+
+-- as the loop has it: the id at a place, of which a copy is taken
+pub taken_at : {W : Type 0} (f : Text → List W) (s n : BTreeSet Text) (ids : List Text) (i : ℕ) (id key : Text) (before after whole : List W) → id ≡ get_or ids i id → i < length ids → key ≡ id → Takes s n key
+    → after ≡ cond (is_new s key) (before ++ f id) before
+    → before ++ flat_map f (filter (is_new s) (distinct (drop i ids))) ≡ whole
+    → after ++ flat_map f (filter (is_new n) (distinct (drop (i + 1) ids))) ≡ whole
+taken_at {W} f s n ids i id key before after whole item h copied t is inv =
+    let next : drop i ids ≡ get_or ids i id ∷ drop (i + 1) ids = rw add-one (drop-cons ids i id h) in
+    let split : drop i ids ≡ id ∷ drop (i + 1) ids = next ∙ ap (λ (x : Text). x ∷ drop (i + 1) ids) (sym item) in
+    taken f s n id (drop (i + 1) ids) before after whole (subst (Takes s n) copied t)
+    (subst (λ (k : Text). after ≡ cond (is_new s k) (before ++ f id) before) copied is)
+    (subst (λ (xs : List Text). before ++ flat_map f (filter (is_new s) (distinct xs)) ≡ whole) split inv)
+
+none_taken : (s : BTreeSet Text) → s.keys ≡ [] → (ids : List Text) → filter (is_new s) ids ≡ ids
+none_taken s empty [] = refl
+none_taken s empty (id ∷ ids) =
+    ap (λ (ks : List Text). cond (not (list_any (is_at (text_cmp id)) ks)) (id ∷ filter (is_new s) ids) (filter (is_new s) ids)) empty ∙ ap (λ (xs : List Text). id ∷ xs) (none_taken s empty ids)
+
+pub at_first : {W : Type 0} (f : Text → List W) (s : BTreeSet Text) (before : List W) (ids : List Text) → before ≡ [] → s.keys ≡ [] → before ++ flat_map f (filter (is_new s) (distinct ids)) ≡ flat_map f (distinct ids)
+at_first {W} f s before ids none empty = ap (λ (xs : List W). xs ++ flat_map f (filter (is_new s) (distinct ids))) none ∙ ap (flat_map f) (none_taken s empty (distinct ids))

@@ -64,11 +64,12 @@ flag_valid n id column old new name c =
 
 changed_valid : (n : ℕ) (id : Text) (old new : TxRow) → IsName id → AllByRecursion (IsWrite n) (changed id old new)
 changed_valid n id old new name =
-    all_append (IsWrite n) _ _ (text_valid n id (codes "description") old.description new.description name refl)
-    (all_append (IsWrite n) _ _ (text_valid n id (codes "category") old.category new.category name refl)
-    (all_append (IsWrite n) _ _ (text_valid n id (codes "notes") old.notes new.notes name refl)
-    (all_append (IsWrite n) _ _ (text_valid n id (codes "schedule") old.schedule new.schedule name refl)
-    (flag_valid n id (codes "cleared") old.cleared new.cleared name refl))))
+    let description = text_valid n id (codes "description") old.description new.description name refl in
+    let category = text_valid n id (codes "category") old.category new.category name refl in
+    let notes = text_valid n id (codes "notes") old.notes new.notes name refl in
+    let schedule = text_valid n id (codes "schedule") old.schedule new.schedule name refl in
+    let cleared = flag_valid n id (codes "cleared") old.cleared new.cleared name refl in
+    all_append (IsWrite n) _ _ (all_append (IsWrite n) _ _ (all_append (IsWrite n) _ _ (all_append (IsWrite n) _ _ description category) notes) schedule) cleared
 
 module _ (rows : Rows) (names : HasNames rows) where
   changes_valid : (n : ℕ) (rules : List Rule) (id : Text) → AllByRecursion (IsWrite n) (changes rows rules id)

@@ -124,7 +124,7 @@ day_holds op value day = false
 
 -- ---- flags
 
-abbrev pub same_flag : Bool → Bool → Bool
+unfoldable pub same_flag : Bool → Bool → Bool
 same_flag true b = b
 same_flag false b = not b
 

@@ -74,7 +74,7 @@ rule_delete rows id = do
 
 -- ---- transactions
 
-abbrev pub same_text : Option Text → Option Text → Bool
+unfoldable pub same_text : Option Text → Option Text → Bool
 same_text None None = true
 same_text (Some a) (Some b) = same_id a b
 same_text a b = false

@@ -67,15 +67,22 @@ pub fn day_of_text(text: &str) -> Option<u32>
     if is_day(day) { Some(day) } else { None }
 }
 
+/// The date of a day YYYYMMDD.
+fn date_at(day: u32) -> Date
+    requires { is_day day ≡ true }
+    ensures { epoch_day result ≡ day_number day }
+{
+    let year = (day / 10_000) as i16;
+    let month = (day / 100 % 100) as u8;
+    let place = (day % 100) as u8;
+    Date::constrain(year, month, place)
+}
+
 /// The date of a day YYYYMMDD, where it is one from 1970 to 2199.
 fn date_of(day: u32) -> Option<Date>
     ensures { MatchOption result (is_day day ≡ false) (λ date. (is_day day ≡ true) × (epoch_day date ≡ day_number day)) }
 {
-    if !is_day(day) {
-        return None;
-    }
-    let year = i16::try_from(day / 10_000).ok()?;
-    Date::new(year, (day / 100 % 100) as i8, (day % 100) as i8).ok()
+    if is_day(day) { Some(date_at(day)) } else { None }
 }
 
 /// Whether both are days YYYYMMDD from 1970 to 2199, of which at most so many lie between.

@@ -1,6 +1,6 @@
 //! Whether a condition holds on a transaction.
 ghost use Rattle.std.specs.Prelude.{◌≡◌, IfOk};
-ghost use Rattle.rule_engine.specs.Conditions.{is_id, is_one_id, id_holds, is_same_text, has_part, or_empty, text_is, text_is_one, text_has, text_holds, is_near, is_between, number_holds, is_between_op, amount_holds, day_holds_by, day_holds, flag_holds, holds};
+ghost use Rattle.rule_engine.specs.Conditions.{is_id, is_one_id, id_holds, is_same_text, has_part, or_empty, text_is, text_is_one, text_has, text_holds, is_near, is_between, number_holds, is_between_op, amount_holds, day_holds_by, day_holds, same_flag, flag_holds, holds};
 
 use crate::days::are_within;
 use crate::rule::{CondField, CondOp, CondValue, Condition};
@@ -202,11 +202,19 @@ fn day_holds(op: CondOp, value: &CondValue, day: Option<u32>) -> bool
     }
 }
 
+/// Whether two flags are the same.
+#[tactic(auto, unfolding(crate::specs::Conditions::same_flag))]
+pub(crate) fn same_flag(a: bool, b: bool) -> bool
+    ensures { result ≡ same_flag a b }
+{
+    a == b
+}
+
 fn flag_holds(op: CondOp, value: &CondValue, set: bool) -> bool
     ensures { result ≡ flag_holds op value.now set }
 {
     match (op, value) {
-        (CondOp::Is, CondValue::Flag(wanted)) => *wanted == set,
+        (CondOp::Is, CondValue::Flag(wanted)) => same_flag(*wanted, set),
         _ => false,
     }
 }

@@ -3,9 +3,9 @@ ghost use Rattle.std.specs.Prelude.{◌≡◌, ◌++◌, ◌∷◌, [], OnOk, If
 ghost use Rattle.field_values.specs.declared.value.Value.TheVariants.{Text as IsText};
 ghost use Rattle.book_rows.specs.declared.write.RowName.TheVariants.{Given};
 ghost use Rattle.book_edits.specs.Writing.{write, flag, text_or_null};
-ghost use Rattle.rule_engine.specs.Conditions.{same_flag};
 ghost use Rattle.rule_engine.specs.Edits.{stage_value, op_text, same_text, changed_text, changed_flag, changed};
 
+use crate::holding::same_flag;
 use crate::rule::{RuleOp, Stage};
 use book_rows::{RowName, TxRow, Write, WriteValue};
 use field_values::{NoMemory, Txt, Value};
@@ -79,6 +79,7 @@ pub(crate) fn push(
 }
 
 /// Whether two texts that may be absent are the same.
+#[tactic(auto, unfolding(crate::specs::Edits::same_text))]
 fn same_text(a: &Option<Txt>, b: &Option<Txt>) -> bool
     ensures { result ≡ same_text a.now b.now }
 {
@@ -118,7 +119,7 @@ fn push_flag(
 ) -> Result<(), NoMemory>
     ensures { OnOk result (writes.new.items ≡ writes.old.items ++ changed_flag id.now column.now old new) }
 {
-    if old == new {
+    if same_flag(old, new) {
         return Ok(());
     }
     let row = RowName::Given(id.copy()?);
