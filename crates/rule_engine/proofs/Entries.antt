@@ -1,9 +1,9 @@
 -- Entries that are read one after the other.
-use Rattle.std.proofs.Common.{◌≡◌, ℕ, suc, ◌+◌, ◌<◌, ◌≤◌, List, [], ◌∷◌, ◌++◌, length, get_or, drop, map, Bool, true, false, Option, Some, None, Result, Ok, Err, arith, refl, ap, sym, ◌∙◌, subst, add-one, drop-cons, append_assoc, append-nil}
+use Rattle.std.proofs.Common.{◌≡◌, ℕ, ◌+◌, ◌<◌, ◌≤◌, List, [], ◌∷◌, ◌++◌, length, get_or, drop, map, Option, Some, None, Result, Ok, Err, arith, refl, ap, sym, ◌∙◌, subst, add-one, drop-cons, append_assoc, append-nil}
 use Rattle.std.specs.Option.{option_map, is_none}
-use Rattle.std.specs.List.{position, filter_map, cons_option}
+use Rattle.std.specs.List.{filter_map, cons_option}
 use Rattle.std.proofs.lemmas.List.{drop_all}
-use Rattle.serde_json.specs.Data.{Data, Items}
+use Rattle.serde_json.specs.Data.{Data}
 use Rattle.serde_json.specs.View.{view, items_of, items_view}
 use Rattle.serde_json.specs.declared.value.Value.{Value}
 use Rattle.rule_engine.specs.Reading.{entries_of, first_bad, unless_bad, all_read}

@@ -1,7 +1,7 @@
 -- Which rules change a transaction, and that they follow one another.
-use Rattle.std.proofs.Common.{◌≡◌, ◌≢◌, ◌<◌, Bool, true, false, List, [], ◌∷◌, ◌++◌, length, Some, Ok, Err, Result, refl, ap, sym, ◌∙◌, subst, arith}
+use Rattle.std.proofs.Common.{◌≡◌, ◌≢◌, true, List, [], ◌∷◌, ◌++◌, Some, Ok, Err, refl, ap, sym, ◌∙◌, subst, arith}
 use Rattle.std.specs.Prelude.{◌↔◌}
-use Rattle.std.specs.List.{All, Any, Contains, list_all, list_any, fold}
+use Rattle.std.specs.List.{All, Any, Contains}
 use Rattle.std.specs.FinMap as map
 use Rattle.std.proofs.lemmas.Bool.{cond-false}
 use Rattle.std.proofs.lemmas.List.Sums.{fold-append, AllPass-from_list_all, list_all-from_AllPass}
@@ -11,13 +11,12 @@ use Rattle.book_rows.specs.declared.rows.Rows.{Rows}
 use Rattle.book_rows.specs.declared.rows.RuleRow.{RuleRow}
 use Rattle.book_rows.specs.declared.rows.TxRow.{TxRow}
 use Rattle.book_rows.specs.declared.fault.EditFault.{EditFault}
-use Rattle.rule_engine.specs.declared.rule.Action.{Action}
 use Rattle.rule_engine.specs.declared.rule.Condition.{Condition}
 use Rattle.rule_engine.specs.declared.rule.Rule.{Rule}
 use Rattle.rule_engine.specs.declared.rule.RuleOp.TheVariants.{And, Or}
 use Rattle.rule_engine.specs.Conditions.{holds}
 use Rattle.rule_engine.specs.Reading.{read_rule}
-use Rattle.rule_engine.specs.Running.{fires_by, fires, acted, applied, run, rules_of}
+use Rattle.rule_engine.specs.Running.{fires_by, fires, applied, run, rules_of}
 use Rattle.rule_engine.specs.Laws.{RulesFollowOneAnother}
 use Rattle.rule_engine.proofs.Live.{are_live}
 

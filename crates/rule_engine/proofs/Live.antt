@@ -1,5 +1,5 @@
 -- The rules that run are the live ones.
-use Rattle.std.proofs.Common.{◌≡◌, Bool, true, false, cond, List, [], ◌∷◌, Option, Some, None, Result, Ok, Err, arith, refl, ap, sym, ◌∙◌, subst, inl, inr, ◌⊎◌}
+use Rattle.std.proofs.Common.{◌≡◌, Bool, true, false, cond, List, [], ◌∷◌, Some, None, Result, Ok, Err, arith, refl, ap, sym, ◌∙◌, subst, inl, inr}
 use Rattle.std.specs.Prelude.{◌↔◌}
 use Rattle.std.specs.declared.cmp.Ordering.{Ordering}
 use Rattle.std.specs.declared.cmp.Ordering.TheVariants.{Less, Equal, Greater}
@@ -93,8 +93,8 @@ forth : (es : List (Text × RuleRow)) (r : Rule) → is_sorted text_cmp es ≡ t
 forth [] r s c = absurd (omega (arith, c.1))
 forth (e ∷ es) r s c =
     let rest : Contains (filter_map read_live es) r → IsAt (e ∷ es) r = λ d.
-        let at = forth es r (both_true _ _ s).1 d in
-        (at.0, later e es s r.id at.0 at.1 (eq_by_cmp text_cmp r.id e.0) refl, at.2, at.3) in
+    let at = forth es r (both_true _ _ s).1 d in
+    (at.0, later e es s r.id at.0 at.1 (eq_by_cmp text_cmp r.id e.0) refl, at.2, at.3) in
     (elim (read_live e) as (λ o. read_live e ≡ o → Contains (cons_option o (filter_map read_live es)) r → IsAt (e ∷ es) r) [
       | None ↦ λ is d. rest d
       | Some a ↦ λ is d. elim (first_or_rest a (filter_map read_live es) r d) [

@@ -170,6 +170,6 @@ one_order = record {
   same = ranked_shuffles;
   rises = ranked_rises;
   one = λ rules others distinct same.
-  sym (one_rising rules (ranked others) distinct (IsPermutation-trans rules others (ranked others) same (ranked_shuffles others))
-  (ranked_rises others (IsDistinct-IsPermutation same_id flips rules others same distinct)));
+      sym (one_rising rules (ranked others) distinct (IsPermutation-trans rules others (ranked others) same (ranked_shuffles others))
+      (ranked_rises others (IsDistinct-IsPermutation same_id flips rules others same distinct)));
 }

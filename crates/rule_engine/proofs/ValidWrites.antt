@@ -1,5 +1,5 @@
 -- The writes of each edit are valid.
-use Rattle.std.proofs.Common.{◌≡◌, ℕ, Bool, true, false, List, [], ◌∷◌, ◌++◌, length, Option, None, Some, Ok, refl, subst, arith}
+use Rattle.std.proofs.Common.{◌≡◌, ℕ, Bool, true, false, List, [], ◌∷◌, length, Option, None, Some, Ok, refl, subst, arith}
 use Rattle.std.specs.Prelude.{codes, flat_map, if◌then◌else◌}
 use Rattle.std.specs.List.{AllByRecursion}
 use Rattle.std.specs.FinMap as map
@@ -33,7 +33,7 @@ use Rattle.rule_engine.specs.declared.rule.Stage.TheVariants.{Pre, Plain, Post}
 use Rattle.rule_engine.specs.Conditions.{same_flag}
 use Rattle.rule_engine.specs.Reading.{read_part, condition_of, action_of}
 use Rattle.rule_engine.specs.Running.{run, rules_of}
-use Rattle.rule_engine.specs.Edits.{is_rule, readable, stage_value, op_text, rule_row_writes, rule_add, rule_delete, same_text, changed_text, changed_flag, changed, changes_of, changes, distinct, rules_run, rule_writes}
+use Rattle.rule_engine.specs.Edits.{is_rule, readable, stage_value, op_text, rule_add, rule_delete, same_text, changed_text, changed_flag, changed, changes_of, changes, distinct, rules_run, rule_writes}
 
 stage_is : (stage : Stage) → IsValue (stage_value stage)
 stage_is Pre = tt

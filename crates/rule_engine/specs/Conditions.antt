@@ -1,5 +1,5 @@
 -- Which conditions hold on a transaction.
-use Rattle.std.specs.Prelude.{◌≡◌, ◌↔◌, ℕ, ◌+◌, ◌*◌, ◌/◌, nat_le, nat_lt, ◌==◌, Bool, true, false, not, ◌&&◌, ◌||◌, List, [], ◌∷◌, Option, None, Some, ℤ, ◌-ℤ◌, unsigned_abs, int_le, int_lt, chars, encode_utf8_all}
+use Rattle.std.specs.Prelude.{◌≡◌, ◌↔◌, ℕ, ◌+◌, ◌*◌, ◌/◌, nat_le, nat_lt, ◌==◌, Bool, true, false, not, ◌&&◌, ◌||◌, [], ◌∷◌, Option, None, Some, ℤ, ◌-ℤ◌, unsigned_abs, int_le, int_lt, chars, encode_utf8_all}
 use Rattle.std.specs.List.{list_any}
 use Rattle.std.specs.Ordering.{int_eq}
 use Rattle.std.specs.Str.{bytes_eq}
@@ -12,7 +12,7 @@ use Rattle.rule_engine.specs.declared.rule.CondField.TheVariants.{Acct, Descript
 use Rattle.rule_engine.specs.declared.rule.CondOp.{CondOp}
 use Rattle.rule_engine.specs.declared.rule.CondOp.TheVariants.{Is, IsNot, OneOf, NotOneOf, Contains, DoesNotContain, IsApprox, IsBetween, Gt, Gte, Lt, Lte}
 use Rattle.rule_engine.specs.declared.rule.CondValue.{CondValue}
-use Rattle.rule_engine.specs.declared.rule.CondValue.TheVariants.{Null, Text as OneText, Texts, Number, Between, Date as Day, Recurrence, Flag}
+use Rattle.rule_engine.specs.declared.rule.CondValue.TheVariants.{Null, Text as OneText, Texts, Number, Between, Date as Day, Flag}
 use Rattle.rule_engine.specs.declared.rule.Condition.{Condition}
 use Rattle.rule_engine.specs.Days.{are_within}
 

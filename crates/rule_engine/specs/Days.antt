@@ -1,5 +1,5 @@
 -- Days as texts, and how far they are apart.
-use Rattle.std.specs.Prelude.{ℕ, ◌+◌, ◌*◌, ◌-◌, ◌/◌, ◌%◌, nat_le, ◌==◌, Bool, false, ◌&&◌, ℤ, pos, ◌-ℤ◌, unsigned_abs, length, slice_index, Option, Some, None, if◌then◌else◌}
+use Rattle.std.specs.Prelude.{ℕ, ◌+◌, ◌*◌, ◌-◌, ◌/◌, ◌%◌, nat_le, ◌==◌, Bool, ◌&&◌, ℤ, pos, ◌-ℤ◌, unsigned_abs, length, slice_index, Option, Some, None, if◌then◌else◌}
 use Rattle.jiff_core.specs.Calendar.{days_from_civil}
 use Rattle.finite_sums.specs.Maps.{Text}
 use Rattle.book_rows.specs.Kinds.{is_day}

@@ -1,9 +1,9 @@
 -- What the JSON of conditions and actions says, and the first entry that is bad.
-use Rattle.std.specs.Prelude.{◌≡◌, ℕ, min, List, [], ◌∷◌, map, Bool, true, false, not, ◌&&◌, ◌||◌, if◌then◌else◌, Option, Some, None, is_none, option_map, option_and_then, Result, Ok, Err, codes, ℤ, nat_le, unsigned_abs}
+use Rattle.std.specs.Prelude.{ℕ, min, List, [], ◌∷◌, Bool, ◌||◌, if◌then◌else◌, Option, Some, None, is_none, option_map, option_and_then, Result, Ok, Err, codes, ℤ, nat_le, unsigned_abs}
 use Rattle.std.specs.Option.{option_or}
 use Rattle.std.specs.Str.{bytes_eq}
 use Rattle.std.specs.List.{position, filter_map}
-use Rattle.serde_json.specs.Data.{Data, null, boolean, string, object, Items, no_items, item}
+use Rattle.serde_json.specs.Data.{Data, null, string, object, Items, no_items, item}
 use Rattle.serde_json.specs.Find.{get, as_bool, as_number, as_i64, as_str, as_array}
 use Rattle.serde_json.specs.Read.{read}
 use Rattle.field_values.specs.Value.{largest_number}

@@ -1,7 +1,6 @@
 -- What rules make of a transaction.
-use Rattle.std.specs.Prelude.{◌≡◌, ◌↔◌, ◌⊎◌, ℕ, Bool, true, false, not, ◌&&◌, ◌||◌, List, [], ◌∷◌, ◌++◌, Option, None, Some, is_none, Result, Ok, Err, if◌then◌else◌}
-use Rattle.std.specs.List.{list_all, list_any, fold, filter_map, Contains}
-use Rattle.std.specs.List.Sorted.{IsStrictlySortedBy}
+use Rattle.std.specs.Prelude.{Bool, true, false, not, ◌&&◌, ◌||◌, List, [], ◌∷◌, ◌++◌, Option, None, Some, is_none, Result, Ok, Err, if◌then◌else◌}
+use Rattle.std.specs.List.{list_all, list_any, fold, filter_map}
 use Rattle.std.specs.FinMap as map
 use Rattle.finite_sums.specs.Maps.{Text}
 use Rattle.book_rows.specs.declared.rows.Rows.{Rows}
@@ -18,7 +17,7 @@ use Rattle.rule_engine.specs.declared.rule.RuleOp.{RuleOp}
 use Rattle.rule_engine.specs.declared.rule.RuleOp.TheVariants.{And, Or}
 use Rattle.rule_engine.specs.Conditions.{holds, or_empty}
 use Rattle.rule_engine.specs.Reading.{read_rule}
-use Rattle.rule_engine.specs.Scores.{rank_cmp, ranked}
+use Rattle.rule_engine.specs.Scores.{ranked}
 
 -- ---- which rules change a transaction
 

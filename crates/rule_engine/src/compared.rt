@@ -94,12 +94,8 @@ fn amount_value(op: CondOp, value: &Value) -> Option<CondValue>
     ensures { result ≡ amount_value op (view value.now) }
 {
     match op {
-        CondOp::Is
-        | CondOp::IsApprox
-        | CondOp::Gt
-        | CondOp::Gte
-        | CondOp::Lt
-        | CondOp::Lte => one_amount(value),
+        CondOp::Is | CondOp::IsApprox | CondOp::Gt | CondOp::Gte | CondOp::Lt | CondOp::Lte =>
+            one_amount(value),
         CondOp::IsBetween => between(value),
         _ => None,
     }

@@ -82,7 +82,11 @@ fn date_at(day: u32) -> Date
 fn date_of(day: u32) -> Option<Date>
     ensures { MatchOption result (is_day day ≡ false) (λ date. (is_day day ≡ true) × (epoch_day date ≡ day_number day)) }
 {
-    if is_day(day) { Some(date_at(day)) } else { None }
+    if is_day(day) {
+        Some(date_at(day))
+    } else {
+        None
+    }
 }
 
 /// Whether both are days YYYYMMDD from 1970 to 2199, of which at most so many lie between.

@@ -99,7 +99,10 @@ fn text_is_one(value: &CondValue, text: &str) -> bool
 {
     match value {
         CondValue::Texts(texts) => {
-            texts.as_slice().iter().any(|other| is_same_text(text, other.as_str()))
+            texts
+                .as_slice()
+                .iter()
+                .any(|other| is_same_text(text, other.as_str()))
         }
         _ => false,
     }

@@ -27,7 +27,9 @@ mod writing;
 pub use days::{are_within, day_of_text};
 pub use edit::RuleEdit;
 pub use holding::holds;
-pub use laws::{ranks_are_one_order, rules_are_ranked, rules_follow_one_another, texts_are_compared};
+pub use laws::{
+    ranks_are_one_order, rules_are_ranked, rules_follow_one_another, texts_are_compared,
+};
 pub use making::rule_writes;
 pub use order::rank;
 pub use reading::read_rule;

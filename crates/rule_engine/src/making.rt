@@ -52,9 +52,30 @@ fn rule_row_writes(
     ensures { IfOk result (λ ws. ws.items ≡ rule_row_writes row.now stage op conditions.now actions.now) }
 {
     let mut writes = Vec::new(alloc);
-    push(alloc, &mut writes, "rules", row, "stage", stage_value(alloc, stage)?)?;
-    push(alloc, &mut writes, "rules", row, "conditions_op", op_value(alloc, op)?)?;
-    push(alloc, &mut writes, "rules", row, "conditions", text(conditions)?)?;
+    push(
+        alloc,
+        &mut writes,
+        "rules",
+        row,
+        "stage",
+        stage_value(alloc, stage)?,
+    )?;
+    push(
+        alloc,
+        &mut writes,
+        "rules",
+        row,
+        "conditions_op",
+        op_value(alloc, op)?,
+    )?;
+    push(
+        alloc,
+        &mut writes,
+        "rules",
+        row,
+        "conditions",
+        text(conditions)?,
+    )?;
     push(alloc, &mut writes, "rules", row, "actions", text(actions)?)?;
     Ok(writes)
 }

@@ -63,10 +63,7 @@ pub enum CondValue {
     /// An amount.
     Number(i64),
     /// Two amounts, in either order.
-    Between {
-        num1: i64,
-        num2: i64,
-    },
+    Between { num1: i64, num2: i64 },
     /// A day.
     Date(u32),
     /// The days of a recurrence, whose object stands in the text of the rule's conditions, at the place of this one. No transaction

@@ -55,12 +55,7 @@ fn fires(alloc: Global, rule: &Rule, row: &TxRow) -> Result<bool, NoMemory>
 }
 
 /// What actions make of a transaction, one after the other.
-fn act_all(
-    alloc: Global,
-    book: &Book,
-    actions: &[Action],
-    row: TxRow,
-) -> Result<TxRow, NoMemory>
+fn act_all(alloc: Global, book: &Book, actions: &[Action], row: TxRow) -> Result<TxRow, NoMemory>
     ensures { IfOk result (λ x. x ≡ fold (acted book.now.rows) row actions.now) }
 {
     let mut now = row;
@@ -85,12 +80,7 @@ fn apply(alloc: Global, book: &Book, rule: &Rule, row: TxRow) -> Result<TxRow, N
 /// What rules make of a transaction, which need not be in the book: each has what the rules before it made. They run as they stand;
 /// [`rules_of`] and [`rank`] give the order in which they should.
 #[tactic(auto, unfolding(crate::specs::Running::run))]
-pub fn run_rules(
-    alloc: Global,
-    book: &Book,
-    rules: &[Rule],
-    row: TxRow,
-) -> Result<TxRow, NoMemory>
+pub fn run_rules(alloc: Global, book: &Book, rules: &[Rule], row: TxRow) -> Result<TxRow, NoMemory>
     ensures { IfOk result (λ x. x ≡ run book.now.rows rules.now row) }
 {
     let mut now = row;

@@ -105,7 +105,14 @@ fn push_text(
         return Ok(());
     }
     let row = RowName::Given(id.copy()?);
-    push(alloc, writes, "transactions", &row, column, text_or_null(new)?)
+    push(
+        alloc,
+        writes,
+        "transactions",
+        &row,
+        column,
+        text_or_null(new)?,
+    )
 }
 
 /// Puts the write of a flag of a transaction behind others, where it has changed.
@@ -136,7 +143,14 @@ pub(crate) fn push_changed(
 ) -> Result<(), NoMemory>
     ensures { OnOk result (writes.new.items ≡ writes.old.items ++ changed id.now old.now new.now) }
 {
-    push_text(alloc, writes, id, "description", &old.description, &new.description)?;
+    push_text(
+        alloc,
+        writes,
+        id,
+        "description",
+        &old.description,
+        &new.description,
+    )?;
     push_text(alloc, writes, id, "category", &old.category, &new.category)?;
     push_text(alloc, writes, id, "notes", &old.notes, &new.notes)?;
     push_text(alloc, writes, id, "schedule", &old.schedule, &new.schedule)?;

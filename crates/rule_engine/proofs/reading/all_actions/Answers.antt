@@ -1,4 +1,4 @@
-use Rattle.std.proofs.Common.{◌≡◌, ap, sym, ◌∙◌, Err, List}
+use Rattle.std.proofs.Common.{ap, sym, ◌∙◌, Err}
 use Rattle.book_rows.specs.declared.fault.EditFault.{EditFault}
 use Rattle.book_rows.specs.declared.fault.RulePart.TheVariants.{Actions}
 use Rattle.rule_engine.specs.Reading.{action_of, or_bad}

@@ -1,4 +1,4 @@
-use Rattle.std.proofs.Common.{◌≡◌, ap, sym, ◌∙◌, Err, List}
+use Rattle.std.proofs.Common.{ap, sym, ◌∙◌, Err}
 use Rattle.book_rows.specs.declared.fault.EditFault.{EditFault}
 use Rattle.book_rows.specs.declared.fault.RulePart.TheVariants.{Conditions}
 use Rattle.rule_engine.specs.Reading.{condition_of, or_bad}

@@ -1,7 +1,5 @@
 use Rattle.std.proofs.Common.{◌≡◌, drop}
 use Rattle.std.specs.List.{fold}
-use Rattle.book_rows.specs.declared.rows.TxRow.{TxRow}
-use Rattle.rule_engine.specs.declared.rule.Action.{Action}
 use Rattle.rule_engine.specs.Running.{acted}
 use Rattle.rule_engine.proofs.running.act_all.Given as goal
 

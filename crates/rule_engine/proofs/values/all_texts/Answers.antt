@@ -1,8 +1,7 @@
-use Rattle.std.proofs.Common.{◌≡◌, ◌++◌, ◌∷◌, [], ℕ, List, ap, sym, subst, ◌∙◌}
-use Rattle.serde_json.specs.View.{view}
+use Rattle.std.proofs.Common.{ap, sym, ◌∙◌}
 use Rattle.serde_json.specs.Find.{as_str}
 use Rattle.rule_engine.specs.Reading.{ok_of}
-use Rattle.rule_engine.proofs.Entries.{Reads, entry_read, entry_bad, entries_over, reads_none, reads_more}
+use Rattle.rule_engine.proofs.Entries.{entry_bad, entries_over, reads_none, reads_more}
 use Rattle.rule_engine.proofs.values.all_texts.Goals as goal
 
 pub loop-entry-init : goal.loop-entry-init

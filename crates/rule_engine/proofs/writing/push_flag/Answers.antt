@@ -21,5 +21,5 @@ returns c =
     let row_is : one c.in_ok-copy.field-0 c.flag.result ≡ one id c.flag.result = ap (λ (t : Text). one t c.flag.result) c.in_ok-copy.ensures in
     let value_is : one id c.flag.result ≡ one id value = ap (one id) c.flag.ensures in
     let changes : changed_flag id column c.args.old c.args.new ≡ one id value =
-        cond-false (same_flag c.args.old c.args.new) [] (one id value) (sym c.same_flag.ensures ∙ c.if-same_flag.false) in
+    cond-false (same_flag c.args.old c.args.new) [] (one id value) (sym c.same_flag.ensures ∙ c.if-same_flag.false) in
     on_ok c.push.result (λ is. is ∙ ap (λ (ws : List Write). before ++ ws) (row_is ∙ value_is ∙ sym changes)) c.push.ensures

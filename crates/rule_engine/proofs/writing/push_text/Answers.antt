@@ -20,5 +20,5 @@ returns c =
     let row_is : one c.in_ok-copy.field-0 c.in_ok-text_or_null.field-0 ≡ one id c.in_ok-text_or_null.field-0 = ap (λ (t : Text). one t c.in_ok-text_or_null.field-0) c.in_ok-copy.ensures in
     let value_is : one id c.in_ok-text_or_null.field-0 ≡ one id value = ap (one id) c.in_ok-text_or_null.ensures in
     let changes : changed_text id column c.args.old.now c.args.new.now ≡ one id value =
-        cond-false (same_text c.args.old.now c.args.new.now) [] (one id value) (sym c.same_text.ensures ∙ c.if-same_text.false) in
+    cond-false (same_text c.args.old.now c.args.new.now) [] (one id value) (sym c.same_text.ensures ∙ c.if-same_text.false) in
     on_ok c.push.result (λ is. is ∙ ap (λ (ws : List Write). before ++ ws) (row_is ∙ value_is ∙ sym changes)) c.push.ensures
