@@ -8,7 +8,8 @@ use std::alloc::Global;
 use std::test::Fail;
 
 /// A recurrence, the first and the last day of a range, and the occurrences in it.
-const TABLE: &str = r#"{"start":"2024-01-01","frequency":"daily"} > 20240220 20240310 > 20240220 20240221 20240222 20240223 20240224 20240225 20240226 20240227 20240228 20240229 20240301 20240302 20240303 20240304 20240305 20240306 20240307 20240308 20240309 20240310
+const TABLE: &str =
+    r#"{"start":"2024-01-01","frequency":"daily"} > 20240220 20240310 > 20240220 20240221 20240222 20240223 20240224 20240225 20240226 20240227 20240228 20240229 20240301 20240302 20240303 20240304 20240305 20240306 20240307 20240308 20240309 20240310
 {"start":"2024-01-01","frequency":"daily","interval":3} > 20241220 20250131 > 20241220 20241223 20241226 20241229 20250101 20250104 20250107 20250110 20250113 20250116 20250119 20250122 20250125 20250128 20250131
 {"start":"2024-02-28","frequency":"daily","interval":17,"skipWeekend":true,"weekendSolveMode":"before"} > 20240201 20241231 > 20240228 20240315 20240402 20240419 20240506 20240523 20240607 20240626 20240712 20240730 20240816 20240902 20240919 20241004 20241023 20241108 20241126 20241213 20241230
 {"start":"2024-02-28","frequency":"daily","interval":17,"skipWeekend":true,"weekendSolveMode":"after"} > 20240201 20241231 > 20240228 20240318 20240402 20240419 20240506 20240523 20240610 20240626 20240715 20240730 20240816 20240902 20240919 20241007 20241023 20241111 20241126 20241213 20241230
@@ -36,7 +37,8 @@ const TABLE: &str = r#"{"start":"2024-01-01","frequency":"daily"} > 20240220 202
 {"start":"2021-07-04","frequency":"yearly","interval":10,"skipWeekend":true,"weekendSolveMode":"after"} > 20200101 21991231 > 20210705 20310704 20410704 20510704 20610704 20710706 20810704 20910704 21010704 21110706 21210704 21310704 21410704 21510705 21610706 21710704 21810704 21910704"#;
 
 /// A recurrence, and all its occurrences to the end of 2199.
-const KNOWN: &str = r#"{"start":"2024-01-01","frequency":"daily","interval":3,"endMode":"after_n_occurrences","endOccurrences":4} > 19700101 21991231 > 20240101 20240104 20240107 20240110
+const KNOWN: &str =
+    r#"{"start":"2024-01-01","frequency":"daily","interval":3,"endMode":"after_n_occurrences","endOccurrences":4} > 19700101 21991231 > 20240101 20240104 20240107 20240110
 {"start":"2024-01-15","frequency":"monthly","patterns":[{"type":"day","value":31},{"type":"day","value":-1},{"type":"day","value":15}],"endMode":"after_n_occurrences","endOccurrences":5} > 19700101 21991231 > 20240115 20240131 20240215 20240229 20240315
 {"start":"2024-03-30","frequency":"weekly","skipWeekend":true,"weekendSolveMode":"before","endMode":"after_n_occurrences","endOccurrences":2} > 19700101 21991231 > 20240329 20240405
 {"start":"2024-03-29","frequency":"daily","skipWeekend":true,"weekendSolveMode":"after","endMode":"on_date","endDate":"2024-03-31"} > 19700101 21991231 > 20240329 20240401
@@ -65,7 +67,8 @@ x > Object
 {"start":"2024-01-01","frequency":"daily","endMode":"on_date"} > EndDate"#;
 
 /// A book with an account, and a schedule from it by a rule.
-const RENT: &str = r#"accounts bank name S:Bank; rules r conditions S:[{"field":"date","op":"isapprox","value":{"frequency":"monthly","start":"2024-01-31"}},{"field":"acct","op":"is","value":"bank"},{"field":"amount","op":"is","value":-90000}]; rules r actions S:[]; schedules s rule S:r; schedules s name S:Rent; schedules s next_date N:"#;
+const RENT: &str =
+    r#"accounts bank name S:Bank; rules r conditions S:[{"field":"date","op":"isapprox","value":{"frequency":"monthly","start":"2024-01-31"}},{"field":"acct","op":"is","value":"bank"},{"field":"amount","op":"is","value":-90000}]; rules r actions S:[]; schedules s rule S:r; schedules s name S:Rent; schedules s next_date N:"#;
 
 /// Dates, each with a space before it but the first.
 fn joined(alloc: Global, dates: &[u32]) -> Result<String, Fail> {
@@ -167,8 +170,10 @@ fn days_of_another_library(rt: HostRuntime) -> Result<(), Fail> {
 
 #[test]
 fn moved_days_are_next(rt: HostRuntime) -> Result<(), Fail> {
-    let before = r#"{"start":"2024-01-31","frequency":"monthly","patterns":[{"type":"day","value":-1}],"skipWeekend":true,"weekendSolveMode":"before"}"#;
-    let behind = r#"{"start":"2024-01-31","frequency":"monthly","patterns":[{"type":"day","value":-1}],"skipWeekend":true}"#;
+    let before =
+        r#"{"start":"2024-01-31","frequency":"monthly","patterns":[{"type":"day","value":-1}],"skipWeekend":true,"weekendSolveMode":"before"}"#;
+    let behind =
+        r#"{"start":"2024-01-31","frequency":"monthly","patterns":[{"type":"day","value":-1}],"skipWeekend":true}"#;
     assert_eq!(rt; after(rt.alloc(), before, 20240229)?, Some(20240329));
     assert_eq!(rt; after(rt.alloc(), behind, 20240229)?, Some(20240401));
     assert_eq!(rt; after(rt.alloc(), behind, 20240331)?, Some(20240401));
@@ -216,7 +221,10 @@ fn a_schedule_goes_on(rt: HostRuntime) -> Result<(), Fail> {
     let skip = ScheduleEdit::Skip {
         id: Txt::from_text(alloc, "s")?,
     };
-    assert_eq!(rt; told(alloc, &book, &skip)?.as_str(), "schedules s next_date N:20240331;");
+    assert_eq!(rt;
+        told(alloc, &book, &skip)?.as_str(),
+        "schedules s next_date N:20240331;"
+    );
     let post = ScheduleEdit::Post {
         id: Txt::from_text(alloc, "s")?,
     };
@@ -241,8 +249,13 @@ fn a_schedule_has_a_status(rt: HostRuntime) -> Result<(), Fail> {
     ] {
         assert_eq!(rt; status_text(alloc, &book, &id, day)?.as_str(), word);
     }
-    let paid = format!(in alloc; "{RENT}20240329; transactions t schedule S:s; transactions t date N:20240327")?;
+    let paid = format!(in alloc;
+        "{RENT}20240329; transactions t schedule S:s; transactions t date N:20240327"
+    )?;
     let book = book_of(alloc, paid.as_str())?;
-    assert_eq!(rt; status_text(alloc, &book, &id, 20240321)?.as_str(), "Some(Paid)");
+    assert_eq!(rt;
+        status_text(alloc, &book, &id, 20240321)?.as_str(),
+        "Some(Paid)"
+    );
     Ok(())
 }

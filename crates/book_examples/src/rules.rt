@@ -11,10 +11,12 @@ use std::alloc::Global;
 use std::test::Fail;
 
 /// Three live categories, a transaction, and two rules: `a` looks for a part of a text, and `b` for the whole.
-const SHOP: &str = r#"category_groups usual name S:Usual; categories food cat_group S:usual; categories fun cat_group S:usual; categories gift cat_group S:usual; transactions t imported_description S:Shop; rules a conditions S:[{"field":"imported_description","op":"contains","value":"shop"}]; rules a actions S:[{"field":"category","value":"food"}]; rules b conditions S:[{"field":"imported_description","op":"is","value":"SHOP"}]; rules b actions S:[{"field":"category","value":"fun"}]"#;
+const SHOP: &str =
+    r#"category_groups usual name S:Usual; categories food cat_group S:usual; categories fun cat_group S:usual; categories gift cat_group S:usual; transactions t imported_description S:Shop; rules a conditions S:[{"field":"imported_description","op":"contains","value":"shop"}]; rules a actions S:[{"field":"category","value":"food"}]; rules b conditions S:[{"field":"imported_description","op":"is","value":"SHOP"}]; rules b actions S:[{"field":"category","value":"fun"}]"#;
 
 /// A rule that runs after them, and another one like `a`.
-const MORE: &str = r#"rules c stage S:post; rules c conditions S:[{"field":"imported_description","op":"contains","value":"shop"}]; rules c actions S:[{"field":"category","value":"gift"}]; rules aa conditions S:[{"field":"imported_description","op":"contains","value":"shop"}]"#;
+const MORE: &str =
+    r#"rules c stage S:post; rules c conditions S:[{"field":"imported_description","op":"contains","value":"shop"}]; rules c actions S:[{"field":"category","value":"gift"}]; rules aa conditions S:[{"field":"imported_description","op":"contains","value":"shop"}]"#;
 
 /// The ids of the rules of a book in their order, with a space behind each.
 fn order(alloc: Global, book: &Book) -> Result<String, Fail> {
@@ -56,11 +58,17 @@ fn rules_run_in_order(rt: HostRuntime) -> Result<(), Fail> {
     let run = run_on(alloc, &Txt::from_text(alloc, "t")?)?;
     let book = book_of(alloc, SHOP)?;
     assert_eq!(rt; order(alloc, &book)?.as_str(), "a b ");
-    assert_eq!(rt; told(alloc, &book, &run)?.as_str(), "transactions t category S:fun;");
+    assert_eq!(rt;
+        told(alloc, &book, &run)?.as_str(),
+        "transactions t category S:fun;"
+    );
     let lines = format!(in alloc; "{MORE}; {SHOP}")?;
     let book = book_of(alloc, lines.as_str())?;
     assert_eq!(rt; order(alloc, &book)?.as_str(), "a aa b c ");
-    assert_eq!(rt; told(alloc, &book, &run)?.as_str(), "transactions t category S:gift;");
+    assert_eq!(rt;
+        told(alloc, &book, &run)?.as_str(),
+        "transactions t category S:gift;"
+    );
     Ok(())
 }
 
@@ -102,14 +110,28 @@ fn adding(alloc: Global, conditions: &str, actions: &str) -> Result<RuleEdit, Fa
 fn a_rule_is_added(rt: HostRuntime) -> Result<(), Fail> {
     let alloc = rt.alloc();
     let book = book_of(alloc, "accounts bank name S:Bank")?;
-    let add = adding(alloc, r#"[{"field":"cleared","op":"is","value":true}]"#, "[]")?;
+    let add = adding(
+        alloc,
+        r#"[{"field":"cleared","op":"is","value":true}]"#,
+        "[]",
+    )?;
     assert_eq!(rt;
         told(alloc, &book, &add)?.as_str(),
         r#"rules #0 stage S:pre;rules #0 conditions_op S:or;rules #0 conditions S:[{"field":"cleared","op":"is","value":true}];rules #0 actions S:[];"#
     );
-    let bad = adding(alloc, "[]", r#"[{"op":"append-notes","value":"!"},{"op":"set"}]"#)?;
-    assert_eq!(rt; told(alloc, &book, &bad)?.as_str(), "BadRule { part: Actions, at: 1 }");
+    let bad = adding(
+        alloc,
+        "[]",
+        r#"[{"op":"append-notes","value":"!"},{"op":"set"}]"#,
+    )?;
+    assert_eq!(rt;
+        told(alloc, &book, &bad)?.as_str(),
+        "BadRule { part: Actions, at: 1 }"
+    );
     let none = adding(alloc, "null", "[]")?;
-    assert_eq!(rt; told(alloc, &book, &none)?.as_str(), "BadRule { part: Conditions, at: 0 }");
+    assert_eq!(rt;
+        told(alloc, &book, &none)?.as_str(),
+        "BadRule { part: Conditions, at: 0 }"
+    );
     Ok(())
 }
