@@ -9,4 +9,6 @@ mod copies;
 #[cfg(test)]
 mod recurring;
 #[cfg(test)]
+mod rules;
+#[cfg(test)]
 mod sheets;

@@ -117,7 +117,7 @@ fn after(alloc: Global, text: &str, day: u32) -> Result<Option<u32>, Fail> {
 }
 
 /// What a write writes, with `#N` for the row that the write of the place N makes.
-fn write_text(alloc: Global, write: &Write) -> Result<String, Fail> {
+pub fn write_text(alloc: Global, write: &Write) -> Result<String, Fail> {
     let row = match &write.row {
         RowName::Given(id) => String::from_str(alloc, id.as_str())?,
         RowName::Made(at) => format!(in alloc; "#{at}")?,

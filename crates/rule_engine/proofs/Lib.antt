@@ -1,0 +1,9 @@
+pub mod Places
+pub mod Dates
+pub mod Entries
+pub mod Parts
+pub mod Once
+pub mod Ranks
+pub mod Live
+pub mod Following
+pub mod ValidWrites

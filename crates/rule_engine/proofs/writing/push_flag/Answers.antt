@@ -1,0 +1,25 @@
+use Rattle.std.proofs.Common.{◌≡◌, ◌++◌, ◌∷◌, [], List, ap, sym, ◌∙◌}
+use Rattle.std.specs.Prelude.{codes}
+use Rattle.std.proofs.lemmas.Bool.{cond-false}
+use Rattle.field_values.specs.declared.value.Value.{Value}
+use Rattle.finite_sums.specs.Maps.{Text}
+use Rattle.book_rows.specs.declared.write.RowName.TheVariants.{Given}
+use Rattle.book_rows.specs.declared.write.Write.{Write}
+use Rattle.book_edits.specs.Writing.{write, flag}
+use Rattle.book_edits.proofs.Lists.{on_ok}
+use Rattle.rule_engine.specs.Conditions.{same_flag}
+use Rattle.rule_engine.specs.Edits.{changed_flag}
+use Rattle.rule_engine.proofs.writing.push_flag.Goals as goal
+
+pub returns : goal.returns
+returns c =
+    let before = c.args.writes.now.items in
+    let id = c.args.id.now in
+    let column = c.args.column.now in
+    let value = flag c.args.new in
+    let one : Text → Value → List Write = λ t v. write (codes "transactions") (Given t) column v ∷ [] in
+    let row_is : one c.in_ok-copy.field-0 c.flag.result ≡ one id c.flag.result = ap (λ (t : Text). one t c.flag.result) c.in_ok-copy.ensures in
+    let value_is : one id c.flag.result ≡ one id value = ap (one id) c.flag.ensures in
+    let changes : changed_flag id column c.args.old c.args.new ≡ one id value =
+    cond-false (same_flag c.args.old c.args.new) [] (one id value) (sym c.same_flag.ensures ∙ c.if-same_flag.false) in
+    on_ok c.push.result (λ is. is ∙ ap (λ (ws : List Write). before ++ ws) (row_is ∙ value_is ∙ sym changes)) c.push.ensures

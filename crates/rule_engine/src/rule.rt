@@ -1,0 +1,139 @@
+//! What a rule says.
+use field_values::{Items, Txt};
+
+/// The column of a transaction that a condition tests.
+#[derive(Clone, Copy, Debug, PartialEq, Eq)]
+pub enum CondField {
+    /// The id of its account.
+    Acct,
+    /// The id of its payee.
+    Description,
+    /// The id of its category.
+    Category,
+    /// The payee as a statement calls it.
+    ImportedDescription,
+    /// What is noted of it.
+    Notes,
+    /// Its amount.
+    Amount,
+    /// Its day.
+    Date,
+    /// Whether the bank has it.
+    Cleared,
+}
+
+/// How a condition tests its column.
+#[derive(Clone, Copy, Debug, PartialEq, Eq)]
+pub enum CondOp {
+    /// It is the value.
+    Is,
+    /// It is not the value.
+    IsNot,
+    /// It is one of the values.
+    OneOf,
+    /// It is none of the values.
+    NotOneOf,
+    /// The value stands somewhere in it.
+    Contains,
+    /// The value stands nowhere in it.
+    DoesNotContain,
+    /// It is near the value.
+    IsApprox,
+    /// It lies between two values, both included.
+    IsBetween,
+    /// It is greater than the value.
+    Gt,
+    /// It is greater than the value, or is it.
+    Gte,
+    /// It is less than the value.
+    Lt,
+    /// It is less than the value, or is it.
+    Lte,
+}
+
+/// What a condition compares with. Amounts are in cents, a day is YYYYMMDD.
+#[derive(Debug, Drop)]
+pub enum CondValue {
+    /// None.
+    Null,
+    /// An id or a text.
+    Text(Txt),
+    /// Ids or texts.
+    Texts(Items<Txt>),
+    /// An amount.
+    Number(i64),
+    /// Two amounts, in either order.
+    Between { num1: i64, num2: i64 },
+    /// A day.
+    Date(u32),
+    /// The days of a recurrence, whose object stands in the text of the rule's conditions, at the place of this one. No transaction
+    /// meets it.
+    Recurrence,
+    /// Whether it is set.
+    Flag(bool),
+}
+
+/// A test of one column of a transaction.
+#[derive(Debug, Drop)]
+pub struct Condition {
+    /// The column.
+    pub field: CondField,
+    /// The test.
+    pub op: CondOp,
+    /// What the test compares with.
+    pub value: CondValue,
+}
+
+/// A change of one column of a transaction.
+#[derive(Debug, Drop)]
+pub enum Action {
+    /// Gives it a payee, or none.
+    SetDescription(Option<Txt>),
+    /// Gives it a category, or none.
+    SetCategory(Option<Txt>),
+    /// Notes a text. Empty notes are none.
+    SetNotes(Txt),
+    /// Says whether the bank has it.
+    SetCleared(bool),
+    /// Puts a text in front of its notes.
+    PrependNotes(Txt),
+    /// Puts a text behind its notes.
+    AppendNotes(Txt),
+    /// Gives it a schedule, live or not.
+    LinkSchedule(Txt),
+}
+
+/// When a rule runs.
+#[derive(Clone, Copy, Debug, PartialEq, Eq)]
+pub enum Stage {
+    /// Before all others.
+    Pre,
+    /// In between.
+    Plain,
+    /// After all others.
+    Post,
+}
+
+/// How many of its conditions have to hold.
+#[derive(Clone, Copy, Debug, PartialEq, Eq)]
+pub enum RuleOp {
+    /// All.
+    And,
+    /// One.
+    Or,
+}
+
+/// A rule: where its conditions hold on a transaction, its actions change it. One without conditions changes nothing.
+#[derive(Debug, Drop)]
+pub struct Rule {
+    /// The id of its row.
+    pub id: Txt,
+    /// When it runs.
+    pub stage: Stage,
+    /// How many of its conditions have to hold.
+    pub op: RuleOp,
+    /// What is tested, in order.
+    pub conditions: Items<Condition>,
+    /// What is changed, in order.
+    pub actions: Items<Action>,
+}

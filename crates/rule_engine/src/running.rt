@@ -1,0 +1,119 @@
+//! Rules run one after the other.
+ghost use Rattle.std.specs.Prelude.{◌≡◌, IfOk};
+ghost use Rattle.std.specs.List.{list_all, list_any, fold};
+ghost use Rattle.book_rows.specs.declared.rows.TxRow.{TxRow};
+ghost use Rattle.rule_engine.specs.declared.rule.Action.{Action};
+ghost use Rattle.rule_engine.specs.Conditions.{holds};
+ghost use Rattle.rule_engine.specs.Running.{fires, acted, applied, run, read_live, rules_of};
+
+use crate::acting::act;
+use crate::holding::holds;
+use crate::order::rank;
+use crate::reading::read_rule;
+use crate::rule::{Action, Condition, Rule, RuleOp};
+use book_rows::{Book, EditFault, RuleRow, TxRow};
+use field_values::{NoMemory, Txt};
+use std::alloc::Global;
+
+/// Whether one of the conditions holds.
+fn one_holds(alloc: Global, conditions: &[Condition], row: &TxRow) -> Result<bool, NoMemory>
+    ensures { IfOk result (λ b. b ≡ list_any (holds row.now) conditions.now) }
+{
+    for condition in conditions {
+        if holds(alloc, condition, row)? {
+            return Ok(true);
+        }
+    }
+    Ok(false)
+}
+
+/// Whether all conditions hold.
+fn all_hold(alloc: Global, conditions: &[Condition], row: &TxRow) -> Result<bool, NoMemory>
+    ensures { IfOk result (λ b. b ≡ list_all (holds row.now) conditions.now) }
+{
+    for condition in conditions {
+        if !holds(alloc, condition, row)? {
+            return Ok(false);
+        }
+    }
+    Ok(true)
+}
+
+/// Whether the conditions of a rule hold.
+#[tactic(auto, unfolding(crate::specs::Running::fires))]
+fn fires(alloc: Global, rule: &Rule, row: &TxRow) -> Result<bool, NoMemory>
+    ensures { IfOk result (λ b. b ≡ fires rule.now row.now) }
+{
+    let conditions = rule.conditions.as_slice();
+    if conditions.is_empty() {
+        return Ok(false);
+    }
+    match rule.op {
+        RuleOp::And => all_hold(alloc, conditions, row),
+        RuleOp::Or => one_holds(alloc, conditions, row),
+    }
+}
+
+/// What actions make of a transaction, one after the other.
+fn act_all(alloc: Global, book: &Book, actions: &[Action], row: TxRow) -> Result<TxRow, NoMemory>
+    ensures { IfOk result (λ x. x ≡ fold (acted book.now.rows) row actions.now) }
+{
+    let mut now = row;
+    for action in actions {
+        now = act(alloc, book, action, now)?;
+    }
+    Ok(now)
+}
+
+/// What a rule makes of a transaction.
+#[tactic(auto, unfolding(crate::specs::Running::applied))]
+fn apply(alloc: Global, book: &Book, rule: &Rule, row: TxRow) -> Result<TxRow, NoMemory>
+    ensures { IfOk result (λ x. x ≡ applied book.now.rows row rule.now) }
+{
+    if fires(alloc, rule, &row)? {
+        act_all(alloc, book, rule.actions.as_slice(), row)
+    } else {
+        Ok(row)
+    }
+}
+
+/// What rules make of a transaction, which need not be in the book: each has what the rules before it made. They run as they stand;
+/// [`rules_of`] and [`rank`] give the order in which they should.
+#[tactic(auto, unfolding(crate::specs::Running::run))]
+pub fn run_rules(alloc: Global, book: &Book, rules: &[Rule], row: TxRow) -> Result<TxRow, NoMemory>
+    ensures { IfOk result (λ x. x ≡ run book.now.rows rules.now row) }
+{
+    let mut now = row;
+    for rule in rules {
+        now = apply(alloc, book, rule, now)?;
+    }
+    Ok(now)
+}
+
+/// The rule of a row, where it was not deleted and can be read.
+fn read_live(alloc: Global, id: &Txt, row: &RuleRow) -> Result<Option<Rule>, NoMemory>
+    ensures { IfOk result (λ o. o ≡ read_live (id.now, row.now)) }
+{
+    if row.tombstone {
+        return Ok(None);
+    }
+    match read_rule(alloc, id, row) {
+        Ok(rule) => Ok(Some(rule)),
+        Err(EditFault::NoMemory) => Err(NoMemory),
+        Err(_) => Ok(None),
+    }
+}
+
+/// The rules of a book in the order in which they run: those that were not deleted and can be read.
+#[tactic(auto, unfolding(crate::specs::Running::rules_of))]
+pub fn rules_of(alloc: Global, book: &Book) -> Result<Vec<Rule>, NoMemory>
+    ensures { IfOk result (λ v. v.items ≡ rules_of book.now.rows) }
+{
+    let mut rules = Vec::new(alloc);
+    for (id, row) in book.rules() {
+        if let Some(rule) = read_live(alloc, id, row)? {
+            rules.push(rule)?;
+        }
+    }
+    rank(rules)
+}
