@@ -1,32 +1,8 @@
 //! Calls of `command_lines` and `device_core` that no run shows: copies, and the reply to a refusal that no line brings about.
-use command_lines::{added_reply, faulty_reply, read_command, refusal_reply, reply_text};
+use command_lines::{added_reply, faulty_reply, refusal_reply, reply_text};
 use device_core::{EditFault, LineRefusal, RowName, Write, WriteValue};
 use field_values::{Txt, Value};
-use std::alloc::Global;
 use std::test::Fail;
-
-/// Whether the command of a line is copied.
-fn is_copied(alloc: Global, line: &str) -> Result<bool, Fail> {
-    let line = Txt::from_text(alloc, line)?;
-    let command = read_command(alloc, &line)?;
-    Ok(command.copy().is_ok())
-}
-
-#[test]
-fn copies_commands(rt: HostRuntime) -> Result<(), Fail> {
-    for line in [
-        "set\ta\tb\tc\tS:x",
-        "receive\t2024-01-05T10:00:00.000Z-0000-00000000000000aa\ta\tb\tc\tS:x",
-        "messages\ta",
-        "value\ta\tb\tc",
-        "balance\ta",
-        "register\ta",
-        "cell\t2024-01\tto-budget",
-    ] {
-        assert!(rt; is_copied(rt.alloc(), line)?, "at {line}");
-    }
-    Ok(())
-}
 
 #[test]
 fn copies_replies(rt: HostRuntime) -> Result<(), Fail> {

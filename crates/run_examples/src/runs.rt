@@ -90,7 +90,12 @@ type Failing = (
 );
 
 /// The rows' runs, each over a keeper of its own.
-fn failing(alloc: Global, words: &str, input: &str, row: &Failing) -> Result<(u8, String), Fail> {
+fn failing(
+    alloc: Global,
+    words: &'static str,
+    input: &'static str,
+    row: &Failing,
+) -> Result<(u8, String), Fail> {
     let mut keeper = MemoryKeeper::with_faults(alloc, row.2.to_vec(alloc)?);
     let run = Run {
         words,
