@@ -1,6 +1,7 @@
 //! The link of the program. It is the edge of what is proved: what the network gives and takes is not
 //! told, but each failure raises a count.
-ghost use Rattle.std.specs.Prelude.{◌≡◌, ◌≤◌, ◌<◌, length, None, IfOk, IsErr, false};
+ghost use Rattle.std.specs.Prelude.{◌≡◌, ◌≤◌, ◌<◌, ◌∷◌, [], length, None, IfOk, OnOk, OnErr, IsErr, false};
+ghost use Rattle.budget_ports.specs.Exchanges.{Adds, Gets, begun};
 ghost use Rattle.budget_ports.specs.Faults.{risen, count_after};
 ghost use Rattle.budget_ports.specs.Keeper.{has_failed};
 
@@ -124,6 +125,8 @@ impl<'a, N: Net<Listener = TcpListener, Stream = TcpStream>, C: Clock> Link for 
     /// the connection is open for more than ten minutes.
     fn send(&mut self, bytes: &[u8]) -> Result<(), PortFault>
         // what each link promises
+        ensures ok { OnOk result (Adds None None (begun bytes.now ∷ [])) }
+        ensures err { OnErr result (Adds None None []) }
         ensures count { self.new.faults ≡ count_after (has_failed result) self.old.faults }
 
         // what this one does
@@ -143,6 +146,8 @@ impl<'a, N: Net<Listener = TcpListener, Stream = TcpStream>, C: Clock> Link for 
     /// minute, and where the connection is open for more than ten minutes.
     fn receive(&mut self) -> Result<Vec<u8>, PortFault>
         // what each link promises
+        ensures ok { IfOk result (λ got. Gets None None got.items) }
+        ensures err { OnErr result (Adds None None []) }
         ensures count { self.new.faults ≡ count_after (has_failed result) self.old.faults }
 
         // what this one does
