@@ -2,7 +2,7 @@
 //! are written out by hand from the rules.
 use crate::books::book_of;
 use book_rows::{Book, EditFault, RowName, Write, WriteValue, is_day};
-use field_values::Txt;
+use field_values::{Txt, Value};
 use schedules::{ScheduleEdit, next, occurrences, read_recur, schedule_writes, status};
 use std::alloc::Global;
 use std::test::Fail;
@@ -116,6 +116,19 @@ fn after(alloc: Global, text: &str, day: u32) -> Result<Option<u32>, Fail> {
     })
 }
 
+/// A value as a line has it, with its text as it stands.
+fn value_text(alloc: Global, value: &Value) -> Result<String, Fail> {
+    match value {
+        Value::Null => Ok(String::from_str(alloc, "0:")?),
+        Value::Number(number) => Ok(format!(in alloc; "N:{number}")?),
+        Value::Text(text) => {
+            let text = text.as_str();
+            Ok(format!(in alloc; "S:{text}")?)
+        }
+        Value::Other(text) => Ok(String::from_str(alloc, text.as_str())?),
+    }
+}
+
 /// What a write writes, with `#N` for the row that the write of the place N makes.
 pub fn write_text(alloc: Global, write: &Write) -> Result<String, Fail> {
     let row = match &write.row {
@@ -123,8 +136,8 @@ pub fn write_text(alloc: Global, write: &Write) -> Result<String, Fail> {
         RowName::Made(at) => format!(in alloc; "#{at}")?,
     };
     let value = match &write.value {
-        WriteValue::Plain(value) => value.text(alloc)?,
-        WriteValue::IdOf(at) => Txt::new(format!(in alloc; "#{at}")?),
+        WriteValue::Plain(value) => value_text(alloc, value)?,
+        WriteValue::IdOf(at) => format!(in alloc; "#{at}")?,
     };
     let dataset = write.dataset.as_str();
     let column = write.column.as_str();
