@@ -1,5 +1,0 @@
-use Rattle.sync_examples.proofs.talks.sync_at.Given as goal
-
--- the counter's ledger is the blank one's
-abbrev pub ghosts-uncounted : goal.ghosts-uncounted
-ghosts-uncounted a = record { name = a.blank.name; parts = a.blank.parts }
