@@ -7,8 +7,4 @@ mod books;
 #[cfg(test)]
 mod copies;
 #[cfg(test)]
-mod recurring;
-#[cfg(test)]
-mod rules;
-#[cfg(test)]
 mod sheets;
