@@ -1,14 +1,16 @@
 -- An undo right after an edit.
-use Rattle.std.proofs.Common.{◌≡◌, Bool, true, false, cond, List, [], ◌∷◌, Some, None, refl, ap, sym, ◌∙◌, subst}
-use Rattle.std.specs.Prelude.{◌&&◌, ◌||◌, not, map, is_some, pos, codes}
+use Rattle.std.proofs.Common.{◌≡◌, Bool, true, false, cond, List, [], ◌∷◌, Option, Some, None, refl, ap, sym, ◌∙◌, subst, inl, inr}
+use Rattle.std.specs.Prelude.{◌⊎◌, ◌&&◌, ◌||◌, not, map, is_some, pos, codes}
 use Rattle.std.specs.List.{AllByRecursion}
 use Rattle.field_values.specs.Names.{FieldNames, names_eq, field_of}
 use Rattle.field_values.specs.declared.value.Value.{Value}
 use Rattle.field_values.specs.declared.value.Value.TheVariants.{Number}
+use Rattle.book_rows.specs.declared.kind.Kind.{Kind}
+use Rattle.book_rows.specs.declared.kind.Kind.TheVariants.{Flag, Int, Text, Day}
 use Rattle.book_rows.specs.Rows.{Values, with_value, kind_of, has_tombstone}
 use Rattle.edit_history.specs.declared.before.Before.{Before}
 use Rattle.edit_history.specs.Undo.{has_row, first_of_each, before_of, entry_over, tombstone_of, blank_of, undo_to, undo_of, undo_values}
-use Rattle.edit_history.specs.Laws.{with_values, MakesRow, EntriesUndo}
+use Rattle.edit_history.specs.Laws.{with_values, ReadsAsNone, HasNone, MakesRow, EntriesUndo}
 use Rattle.edit_history.proofs.Basics.{bool_cases, true_false, some_is, option_cases, none_some, or_left, or_right, hidden_parts, same, itself, turned}
 use Rattle.edit_history.proofs.Rows.{row_of, has_got}
 use Rattle.edit_history.proofs.Listing.{wrote, first_wrote, all_first}
@@ -39,6 +41,14 @@ unwritten values [] g h = refl
 unwritten values (w ∷ ws) g h = bool_cases (names_eq w.0 g)
     (λ t. true_false _ (or_left _ _ t) h)
     (λ f. unwritten (with_value values w.0 w.1) ws g (ap (λ b. b || wrote field ws g) (sym f) ∙ h) ∙ ap (λ b. cond b (Some w.1) (values g)) (turned g w.0 ∙ f))
+
+-- what stands for no value reads as none
+blank_reads : (k : Option Kind) → ReadsAsNone k (blank_of k)
+blank_reads (Some Flag) = refl
+blank_reads (Some Int) = refl
+blank_reads (Some Text) = refl
+blank_reads (Some Day) = refl
+blank_reads None = tt
 
 module _ (values : Values) where
   -- a field that had no value is answered by the tombstone of its row
@@ -132,6 +142,29 @@ module _ (values : Values) where
         (λ t. true_false _ (answered f f (λ x s. told x f f (f, v) s (undo_some f v h) (itself f)) t) n)
         (λ f. f)) ∙ h)
 
+    seen : (f : FieldNames) → (has_row values f ≡ true) ⊎ (has_tombstone f.dataset ≡ false) → hides f ≡ false
+    seen f (inl h) = ap (λ b. not b && has_tombstone f.dataset) h
+    seen f (inr h) = by (not (has_row values f)) ∙ refl
+      where
+        by : (b : Bool) → (b && has_tombstone f.dataset) ≡ false
+        by true = h
+        by false = refl
+
+    unvalued : (f : FieldNames) → values f ≡ None → (has_row values f ≡ true) ⊎ (has_tombstone f.dataset ≡ false) → HasNone undone f
+    unvalued f none visible =
+        let shows = seen f visible in
+        let blank = blank_of (kind_of f.dataset f.column) in
+        let is : undone f ≡ cond (wrote field (undo_values entry) f) (Some blank) (with_values values ws f) =
+        settled f blank (λ x e. by_case x f blank e
+        (λ u there s. none_some (values x) u there (ap values s ∙ none))
+        (λ _ t s. true_false (hides x) t (ap hides s ∙ shows))
+        (λ _ t s. ap (λ (y : FieldNames). blank_of (kind_of y.dataset y.column)) s)) in
+        bool_cases (wrote field (undo_values entry) f)
+        (λ t. inr (blank, is ∙ ap (λ b. cond b (Some blank) (with_values values ws f)) t, blank_reads (kind_of f.dataset f.column)))
+        (λ n. inl (is ∙ ap (λ b. cond b (Some blank) (with_values values ws f)) n ∙ unwritten values ws f (bool_cases (wrote field ws f)
+        (λ t. true_false _ (answered f f (λ x s. told x f f (f, blank) s (undo_clears f none shows) (itself f)) t) n)
+        (λ f. f)) ∙ none))
+
     made : (f : FieldNames) → MakesRow values (with_values values ws) f → undone (tombstone_of f) ≡ Some (Number (pos 1))
     made f m =
         let hidden : hides f ≡ true = ap (λ b. not b && has_tombstone f.dataset) m.new ∙ m.mortal in
@@ -149,4 +182,4 @@ module _ (values : Values) where
             (bool_cases (wrote field ws g) (λ t. t) (λ n. true_false _ got.some (ap is_some (unwritten values ws g n ∙ got.none))))
 
 pub entries_undo : EntriesUndo
-entries_undo values ws = record { valued = valued values ws; made = made values ws }
+entries_undo values ws = record { valued = valued values ws; unvalued = unvalued values ws; made = made values ws }

@@ -1,10 +1,13 @@
 -- What an entry tells, and what an undo restores.
-use Rattle.std.specs.Prelude.{◌≡◌, ◌↔◌, pos, false, true, List, [], ◌∷◌, map, Some}
+use Rattle.std.specs.Prelude.{◌≡◌, ◌↔◌, ◌⊎◌, pos, false, true, List, [], ◌∷◌, map, Option, None, Some}
 use Rattle.std.specs.List.{Contains, IsDistinct}
 use Rattle.field_values.specs.declared.value.Value.{Value}
-use Rattle.field_values.specs.declared.value.Value.TheVariants.{Number}
+use Rattle.field_values.specs.declared.value.Value.TheVariants.{Null, Number}
 use Rattle.field_values.specs.Names.{FieldNames, names_eq}
-use Rattle.book_rows.specs.Rows.{Values, with_value, has_tombstone}
+use Rattle.book_rows.specs.declared.kind.Kind.{Kind}
+use Rattle.book_rows.specs.declared.kind.Kind.TheVariants.{Flag, Int, Text, Day}
+use Rattle.book_rows.specs.Kinds.{flag_of, int_of, text_of, day_of}
+use Rattle.book_rows.specs.Rows.{Values, with_value, kind_of, has_tombstone}
 use Rattle.edit_history.specs.declared.before.Before.{Before}
 use Rattle.edit_history.specs.Undo.{has_row, before_of, entry_over, tombstone_of, undo_values}
 
@@ -30,10 +33,24 @@ pub record MakesRow (before after : Values) (f : FieldNames) : Type 0 where
   pub there : has_row after f ≡ true
   pub mortal : has_tombstone f.dataset ≡ true
 
+-- a book reads the value in a column of this kind as it reads a column without a value
+abbrev pub ReadsAsNone : Option Kind → Value → Type 0
+ReadsAsNone (Some Flag) v = flag_of v ≡ flag_of Null
+ReadsAsNone (Some Int) v = int_of v ≡ int_of Null
+ReadsAsNone (Some Text) v = text_of v ≡ text_of Null
+ReadsAsNone (Some Day) v = day_of v ≡ day_of Null
+ReadsAsNone None v = Unit {0}
+
+-- the field has no value, or one that reads as none
+abbrev pub HasNone : Values → FieldNames → Type 0
+HasNone values f = (values f ≡ None) ⊎ ((v : Value) × (values f ≡ Some v) × ReadsAsNone (kind_of f.dataset f.column) v)
+
 -- an edit was undone
 pub record IsUndone (before after undone : Values) : Type 0 where
   -- each field that had a value has it again
   pub valued : (f : FieldNames) (v : Value) → before f ≡ Some v → undone f ≡ Some v
+  -- each field that had none reads as one without a value, where its row was there or can't be deleted
+  pub unvalued : (f : FieldNames) → before f ≡ None → (has_row before f ≡ true) ⊎ (has_tombstone f.dataset ≡ false) → HasNone undone f
   -- each row that the edit made is deleted
   pub made : (f : FieldNames) → MakesRow before after f → undone (tombstone_of f) ≡ Some (Number (pos 1))
 
