@@ -40,7 +40,7 @@ once_forth d e h same = record { day = d; kept = is_kept_raw (one_day d) d (once
 
 -- ---- days and weeks go on
 
-raw_by : (r : Said) (f : Frequency) (d : ℕ) → r.frequency ≡ f → is_raw_by f r d ≡ true → is_raw r d ≡ true
+pub raw_by : (r : Said) (f : Frequency) (d : ℕ) → r.frequency ≡ f → is_raw_by f r d ≡ true → is_raw r d ≡ true
 unfolding is_raw
 raw_by r f d e t = subst (λ x. is_raw_by x r d ≡ true) (sym e) t
 
@@ -48,10 +48,10 @@ steps_raw : (r : Said) (step d : ℕ) → StepsBy r step → is_day_step step r.
 steps_raw r step d (inl h) t = raw_by r Daily d h.0 (subst (λ x. is_day_step x r.start d ≡ true) h.1 t)
 steps_raw r step d (inr h) t = raw_by r Weekly d h.0 (subst (λ x. is_day_step x r.start d ≡ true) h.1 t)
 
-never_within : (r : Said) (d : ℕ) → r.ending ≡ Never → is_raw r d ≡ true → is_kept r d ≡ true
+pub never_within : (r : Said) (d : ℕ) → r.ending ≡ Never → is_raw r d ≡ true → is_kept r d ≡ true
 never_within r d e t = is_kept_raw r d t (subst (λ x. is_within x (count_below (is_raw r) d) d ≡ true) (sym e) refl)
 
-some_next : (r : Said) (from e bound : ℕ) → Occurs r e → from ≤ e → e < bound → (n : ℕ) × (next_from r from ≡ Some n) × (n < bound)
+pub some_next : (r : Said) (from e bound : ℕ) → Occurs r e → from ≤ e → e < bound → (n : ℕ) × (next_from r from ≡ Some n) × (n < bound)
 some_next r from e bound o reached below = by (next_from r from) refl
   where
     by : (x : Option ℕ) → next_from r from ≡ x → (n : ℕ) × (next_from r from ≡ Some n) × (n < bound)

@@ -1,11 +1,13 @@
 -- What the laws say.
-use Rattle.std.specs.Prelude.{◌≡◌, ◌↔◌, ◌⊎◌, ℕ, pos, ◌+◌, ◌*◌, ◌/◌, ◌%◌, ◌<◌, ◌≤◌, true, Some, MatchOption}
+use Rattle.std.specs.Prelude.{◌≡◌, ◌≢◌, ◌↔◌, ◌⊎◌, ℕ, pos, ◌+◌, ◌-◌, ◌*◌, ◌/◌, ◌%◌, ◌<◌, ◌≤◌, true, [], Some, MatchOption}
+use Rattle.std.specs.List.{Contains}
 use Rattle.jiff_core.specs.Calendar.{days_from_civil, IsCivilDate}
-use Rattle.schedules.specs.declared.recurrence.Frequency.TheVariants.{Daily, Weekly}
+use Rattle.schedules.specs.declared.recurrence.Frequency.TheVariants.{Daily, Weekly, Monthly, Yearly}
+use Rattle.schedules.specs.declared.recurrence.Pattern.TheVariants.{Place, Last}
 use Rattle.schedules.specs.declared.recurrence.Ending.TheVariants.{Never}
 use Rattle.schedules.specs.declared.month.MonthDay.{MonthDay}
-use Rattle.schedules.specs.Months.{month_day, weekday, date_of, day_in}
-use Rattle.schedules.specs.Days.{Said, is_kept, moved, is_occurrence, next_from}
+use Rattle.schedules.specs.Months.{month_length, month_start, month_day, weekday, date_of, day_in}
+use Rattle.schedules.specs.Days.{Said, Places, places, is_multiple, falls_on, is_kept, moved, is_occurrence, next_from}
 use Rattle.schedules.specs.Terms.{one_day}
 
 -- a raw day that is kept moves to this day
@@ -53,3 +55,34 @@ pub record OccurrencesAreTold : Type 0 where
       → (n : ℕ) × (next_from r from ≡ Some n) × (n < from + step + 4)
   -- one day alone
   pub once : (d e : ℕ) → d < 84_006 → Occurs (one_day d) e ↔ (e ≡ d)
+
+-- raw days come by whole steps of so many months, on these days of a month; twelve months to a year
+abbrev pub StepsByMonths : Said → ℕ → Places → Type 0
+StepsByMonths r step days =
+    ((r.frequency ≡ Monthly) × (step ≡ r.interval) × (days ≡ places r.start r.patterns))
+    ⊎ ((r.frequency ≡ Yearly) × (step ≡ 12 * r.interval) × (days ≡ places r.start []))
+
+-- the month has a day that is meant
+pub record HasMeantDay (days : Places) (month : ℕ) : Type 0 where
+  pub place : ℕ
+  pub first : 1 ≤ place
+  pub last : place ≤ month_length month
+  pub meant : falls_on days (record { month = month; place = place }) ≡ true
+
+-- each month that comes by whole steps from the start's has a day that is meant
+abbrev pub MonthsHaveDays : ℕ → Places → Type 0
+MonthsHaveDays step days = (month : ℕ) → month < 2_760 → (month_day days.start).month ≤ month → is_multiple step (month - (month_day days.start).month) ≡ true → HasMeantDay days month
+
+-- months and years without an end go on
+pub record MonthsGoOn : Type 0 where
+  -- as long as the end of 2199 is not near, an occurrence comes within a step and a month, where each month whose turn it is has a day that is meant
+  pub goes_on : (r : Said) (from step : ℕ) (days : Places) → StepsByMonths r step days → 1 ≤ r.interval → r.ending ≡ Never → r.start ≤ from → from < 84_006
+      → (month_day from).month + step + 2 ≤ 2_760 → MonthsHaveDays step days
+      → (n : ℕ) × (next_from r from ≡ Some n) × (n < month_start ((month_day from).month + step + 2) + 2)
+  -- each month has a last day, and its first 28
+  pub last : (step : ℕ) (days : Places) → Contains days.patterns Last → MonthsHaveDays step days
+  pub early : (step place : ℕ) (days : Places) → 1 ≤ place → place ≤ 28 → Contains days.patterns (Place place) → MonthsHaveDays step days
+  -- the day of the start is meant where none is named
+  pub start : (step : ℕ) (days : Places) → days.patterns ≡ [] → (month_day days.start).place ≤ 28 → MonthsHaveDays step days
+  -- and a year has it, but for 29 February
+  pub years : (step : ℕ) (days : Places) → days.patterns ≡ [] → days.start < 84_006 → (month_day days.start).month % 12 ≢ 1 → 1 ≤ step → MonthsHaveDays (12 * step) days

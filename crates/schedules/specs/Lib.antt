@@ -7,3 +7,4 @@ pub mod Terms
 pub mod Status
 pub mod Edits
 pub mod Laws
+pub mod Statuses

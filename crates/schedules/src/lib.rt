@@ -26,7 +26,7 @@ mod upcoming;
 mod writing;
 
 pub use edit::ScheduleEdit;
-pub use laws::{days_have_dates, occurrences_are_told};
+pub use laws::{days_have_dates, months_go_on, occurrences_are_told, statuses_are_told};
 pub use making::schedule_writes;
 pub use reading::read_recur;
 pub use recurrence::{Ending, Frequency, Pattern, Recurrence, Weekends};
