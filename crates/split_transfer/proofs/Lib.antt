@@ -11,6 +11,9 @@ pub mod Children
 pub mod Splitting
 pub mod Transferring
 pub mod Promise
+pub mod Elsewhere
+pub mod Adding
+pub mod Keeping
 pub mod Telling
 pub mod ValidWrites
 pub mod Linked

@@ -7,4 +7,5 @@ pub mod Transfers
 pub mod Edits
 pub mod After
 pub mod Right
+pub mod PlainEdits
 pub mod Broken

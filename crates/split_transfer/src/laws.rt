@@ -1,6 +1,7 @@
 //! Facts about all edits of pairs and splits, which a proof can call for.
 ghost use Rattle.book_rows.specs.declared.rows.Rows.{Rows};
 ghost use Rattle.split_transfer.specs.Right.{LinksAreTold, PairsAndSplitsStayRight};
+ghost use Rattle.split_transfer.specs.PlainEdits.{PlainEditsKeepPairsAndSplits};
 ghost use Rattle.split_transfer.specs.Broken.{BrokenTellsAll};
 
 /// A law: the partner of a live transaction is told exactly where the two are a pair: both are live, and each names the other. The
@@ -15,6 +16,12 @@ pub fn links_are_told()
 /// them as what it is a part of.
 pub fn pairs_and_splits_stay_right()
     ensures { PairsAndSplitsStayRight }
+{}
+
+/// A law: the same holds after each plain edit that is accepted, but for the one that gives any field any value. It is asked before
+/// that the ids of the rows that the edit makes are new, and that no transaction names one that the edit adds as what it is a part of.
+pub fn plain_edits_keep_pairs_and_splits()
+    ensures { PlainEditsKeepPairsAndSplits }
 {}
 
 /// A law: nothing is told as broken exactly where each live transaction that names another one is in a pair with it, each pair is
