@@ -1,5 +1,6 @@
 -- A conversation with an honest server ends in few rounds.
 use Rattle.std.proofs.Common.{◌≡◌, ◌≢◌, ◌⊎◌, inl, inr, ℕ, zero, suc, ◌+◌, ◌*◌, ◌<◌, ◌≤◌, List, [], ◌∷◌, length, map, Bool, true, false, cond, Option, Some, None, Result, Ok, Err, refl, sym, ap, ap₂, ◌∙◌, subst, arith, length-append}
+use Rattle.std.specs.List.{AllByRecursion}
 use Rattle.std.proofs.lemmas.List.{take_all, length-take}
 use Rattle.hybrid_clock.specs.Moments.{moment_text}
 use Rattle.hybrid_clock.specs.Stamp.{window}
@@ -25,17 +26,18 @@ use Rattle.device_core.specs.declared.edit.LineRefusal.{LineRefusal}
 use Rattle.device_core.specs.Device.{State, Accepted, received}
 use Rattle.device_core.proofs.Received.{received_joined}
 use Rattle.sync_wire.specs.declared.request.SyncRequest.{SyncRequest}
+use Rattle.sync_wire.specs.Laws.{MeaningsAreValid}
 use Rattle.sync_server.specs.Answer.{answer_of}
 use Rattle.device_sync.specs.declared.target.Target.{Target}
-use Rattle.device_sync.specs.Replies.{Got, answer, refusal, with_trie, meant, most_bytes, IsJudged, refuses, says}
+use Rattle.device_sync.specs.Replies.{Got, answer, refusal, messages_of, with_trie, meant, most_bytes, IsJudged, refuses, says}
 use Rattle.device_sync.specs.Requests.{request_of, IsAsked}
 use Rattle.device_sync.specs.Talk.{Outcome, going_on, agreed, not_taken, refused, Next, ends, asks, compared, taken, next, Turn, exchange_of, Ends, Follows, Talk, followed, talked}
 use Rattle.device_sync.specs.Honest.{front_of, Answers, IsFairStatus, Served, answers, declines, Honest, AreWithin}
-use Rattle.device_sync.specs.Laws.{TalksAreTold, IsFair, TalksConverge}
+use Rattle.device_sync.specs.Laws.{TalksAreTold, TalksAreValid, IsFair, TalksConverge}
 use Rattle.device_sync.proofs.Sets.{those_valid, join_valid}
 use Rattle.device_sync.proofs.Rounds.{is_later, answered}
 use Rattle.device_sync.proofs.Meeting.{Grown, grown_none, grown_both, grown_round, grown_server, same_known, same_sets}
-use Rattle.device_sync.proofs.Judging.{one_judgment}
+use Rattle.device_sync.proofs.Judging.{one_judgment, judged_valid}
 
 -- the trie of a set
 abbrev of_set : List Message → Held
@@ -319,3 +321,19 @@ are_told target reading (suc left) since p now (x ∷ xs) o h =
         → followed n (λ q moment. talked reading left (moment_text moment) q (map (λ x. x.got) xs)) ≡ (now, o)
     by (ends q how) e go = ap₂ (λ (q : State) (how : Outcome). (q, how)) (sym e.stays) (sym e.outcome)
     by (asks q moment) e go = go q moment e
+
+-- ---- what a server is heard to say
+
+follows_valid : (n : Next) (xs : List Turn) (now : State) (o : Outcome) (on : State → ℕ → Type 0) → Follows n xs now o on
+    → ((q : State) (moment : ℕ) → on q moment → AllByRecursion (λ (x : Turn). AreMessages (messages_of x.got)) xs) → AllByRecursion (λ (x : Turn). AreMessages (messages_of x.got)) xs
+follows_valid (ends q how) xs now o on e go = subst (AllByRecursion (λ (x : Turn). AreMessages (messages_of x.got))) (sym e.last) tt
+follows_valid (asks q moment) xs now o on e go = go q moment e
+
+pub are_valid : MeaningsAreValid → TalksAreValid
+are_valid law target reading left since p now [] o h = tt
+are_valid law target reading zero since p now (x ∷ xs) o h = absurd h
+are_valid law target reading (suc left) since p now (x ∷ xs) o h = (
+  judged_valid law x.came x.got h.1,
+  follows_valid (next reading left p x.got) xs now o (λ q moment. Talk target reading left (moment_text moment) q xs now o) h.2
+      (λ q moment k. are_valid law target reading left (moment_text moment) q now xs o k),
+)

@@ -1,5 +1,5 @@
 -- A reply is judged as one thing.
-use Rattle.std.proofs.Common.{◌≡◌, ◌≢◌, ℕ, ◌+◌, ◌-◌, ◌≤◌, List, length, None, Some, Result, Ok, Err, sym, ap, ◌∙◌, subst, arith}
+use Rattle.std.proofs.Common.{◌≡◌, ◌≢◌, ℕ, ◌+◌, ◌-◌, ◌≤◌, List, length, Bool, true, false, cond, Option, None, Some, Result, Ok, Err, sym, ap, ◌∙◌, subst, arith}
 use Rattle.std.specs.Prelude.{IfOk}
 use Rattle.field_values.specs.declared.memory.NoMemory.{NoMemory}
 use Rattle.httparse.specs.Grammar.{status_code}
@@ -7,10 +7,13 @@ use Rattle.httparse.proofs.GrammarLemmas.{response_unique}
 use Rattle.sync_wire.specs.declared.fault.WireFault.{WireFault}
 use Rattle.sync_wire.specs.declared.fault.WireFault.TheVariants.{NoMemory as OutOfMemory}
 use Rattle.sync_wire.specs.declared.response.SyncResponse.{SyncResponse}
-use Rattle.sync_wire.specs.Laws.{IsEither}
+use Rattle.field_merge.specs.Messages.{AreMessages}
+use Rattle.minute_trie.specs.declared.read.TrieFault.{TrieFault}
+use Rattle.minute_trie.specs.Faults.{fault_of_text}
+use Rattle.sync_wire.specs.Laws.{IsEither, MeaningsAreValid}
 use Rattle.sync_wire.specs.Wire.{IsResponse, IsResponseFault}
 use Rattle.sync_wire.proofs.Readings.{is_either, response_reads}
-use Rattle.device_sync.specs.Replies.{IsReply, Got, refusal, bad, place_of, meant, most_bytes, IsJudged, too_long, no_reply, refuses, faulty, says}
+use Rattle.device_sync.specs.Replies.{IsReply, Got, refusal, bad, messages_of, place_of, with_trie, meant, most_bytes, IsJudged, too_long, no_reply, refuses, faulty, says}
 use Rattle.device_sync.specs.declared.reply.Judged.{Judged}
 use Rattle.device_sync.specs.Judged.{got_of}
 use Rattle.device_sync.specs.Laws.{RepliesHaveOneMeaning}
@@ -69,6 +72,25 @@ one_judgment bytes one other (says l b x a said e) (no_reply k none f) = absurd 
 one_judgment bytes one other (says l b x a said e) (refuses k t c y nd f) = absurd (nd (one_reply bytes t 200 c b y x).0)
 one_judgment bytes one other (says l b x a said e) (faulty k c y w is p at f) = not_both c b w a (one_reply bytes 200 200 c b y x).1 is said
 one_judgment bytes one other (says l b x a said e) (says k c y a' told f) = e ∙ ap (meant (length bytes)) (one_meaning b c a a' (one_reply bytes 200 200 b c x y).1 said told) ∙ sym f
+
+-- ---- what was judged has valid messages
+
+meant_valid : (whole : ℕ) (a : SyncResponse) → AreMessages a.messages → AreMessages (messages_of (meant whole a))
+meant_valid whole a valid = by a.encrypted (fault_of_text a.merkle)
+  where
+    by : (b : Bool) (fault : Option TrieFault) → AreMessages (messages_of (cond b (bad whole) (with_trie whole a fault)))
+    by true fault = tt
+    by false None = valid
+    by false (Some fault) = tt
+
+pub judged_valid : MeaningsAreValid → (bytes : List ℕ) (got : Got) → IsJudged bytes got → AreMessages (messages_of got)
+judged_valid law bytes got (too_long l e) = let P : Got → Type 0 = λ g. AreMessages (messages_of g) in subst P (sym e) tt
+judged_valid law bytes got (no_reply l none e) = let P : Got → Type 0 = λ g. AreMessages (messages_of g) in subst P (sym e) tt
+judged_valid law bytes got (refuses l s b x ne e) = let P : Got → Type 0 = λ g. AreMessages (messages_of g) in subst P (sym e) tt
+judged_valid law bytes got (faulty l b x w is p at e) = let P : Got → Type 0 = λ g. AreMessages (messages_of g) in subst P (sym e) tt
+judged_valid law bytes got (says l b x a said e) =
+    let P : Got → Type 0 = λ g. AreMessages (messages_of g) in
+    subst P (sym e) (meant_valid (length bytes) a (law.replies b a said))
 
 -- an answer that was made of a body
 pub answered_with : (bytes body : List ℕ) (a : SyncResponse) (r : Result Judged NoMemory) → length bytes ≤ most_bytes → IsReply bytes 200 body → IsResponse body a

@@ -22,7 +22,7 @@ use Rattle.sync_server.specs.Answer.{answer_of}
 use Rattle.sync_server.specs.Heads.{judge_head}
 use Rattle.sync_server.specs.Outside.{HasFound}
 use Rattle.sync_server.specs.Replies.{refusal_bytes, reply_bytes}
-use Rattle.sync_server.specs.Serving.{Found, found_in, Verdict, Accepts, Refuses, judge_request, judge_found, judge_set, DecidesBody, no_request, request, DecidesRest, refused, short, whole, Decides, by_head, too_large, no_head, bytes_end, Means, decided, keeper_fault, no_memory, reply_of, kept_after, answered}
+use Rattle.sync_server.specs.Serving.{Found, found_in, Verdict, Accepts, Refuses, judge_request, judge_found, judge_set, DecidesBody, no_request, request, DecidesRest, refused, short, whole, Decides, by_head, too_large, no_head, bytes_end, Means, decided, keeper_fault, no_memory, reply_of, IsMeant, kept_after, answered}
 use Rattle.sync_server.specs.Laws.{AcceptedAreKept}
 use Rattle.device_sync.specs.Replies.{IsReply}
 use Rattle.device_sync.specs.Requests.{head_text, request_text, IsAsked}
@@ -115,7 +115,7 @@ accepts k q r of has =
     ∙ ap (judge_set q) has.set
 
 pub served_honest : AcceptedAreKept → ServedIsHonest
-served_honest law token old q r s visit status fits of asked has small short_reply means (answered there is has_status wrote sound) kept = by is
+served_honest law token old q r s visit status fits of asked has small short_reply meant (answered there is has_status wrote sound) kept = by is
   where
     x_got : (text : List ℕ) → visit.wrote ≡ text → Some (front_of visit.wrote) ≡ Some (front_of text)
     x_got text e = ap (λ (z : List ℕ). Some (front_of z)) e
@@ -138,7 +138,7 @@ served_honest law token old q r s visit status fits of asked has small short_rep
         subst (λ (z : SyncRequest). Answers r z visit.wrote s) same (record {
           body = body;
           reply = subst (λ (z : List ℕ). IsReply z 200 body) (sym text) (answer_reads body few);
-          said = means e;
+          said = subst IsMeant e meant;
           joined = same_ok (sym (subst (λ (v : Verdict). kept_set (records_after (kept_after v old) q.group []) ≡ Ok s) e kept) ∙ law.joined old q r of.valid has.set);
         }))
 

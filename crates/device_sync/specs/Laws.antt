@@ -1,5 +1,6 @@
 -- What the laws say.
 use Rattle.std.specs.Prelude.{◌≡◌, ℕ, ◌≤◌, List, [], map, length, Some}
+use Rattle.std.specs.List.{AllByRecursion}
 use Rattle.hybrid_clock.specs.declared.stamp.Stamp.{Stamp}
 use Rattle.budget_ports.specs.Exchanges.{Exchange}
 use Rattle.field_merge.specs.declared.message.Message.{Message}
@@ -9,7 +10,7 @@ use Rattle.minute_trie.specs.Trie.{trie_of}
 use Rattle.kept_messages.specs.Pairs.{pairs_of}
 use Rattle.device_core.specs.Device.{State}
 use Rattle.device_sync.specs.declared.target.Target.{Target}
-use Rattle.device_sync.specs.Replies.{Got, IsJudged}
+use Rattle.device_sync.specs.Replies.{Got, messages_of, IsJudged}
 use Rattle.device_sync.specs.Talk.{Outcome, going_on, agreed, out_of_sync, not_taken, refused, bad_reply, Turn, exchange_of, Talk, talked, most_requests}
 use Rattle.device_sync.specs.Honest.{IsFairStatus, Honest, AreWithin}
 
@@ -21,6 +22,11 @@ RepliesHaveOneMeaning = (bytes : List ℕ) (one other : Got) → IsJudged bytes 
 abbrev pub TalksAreTold : Type 0
 TalksAreTold = (target : Target) (reading left : ℕ) (since : List ℕ) (p now : State) (turns : List Turn) (o : Outcome)
     → Talk target reading left since p turns now o → talked reading left since p (map (λ x. x.got) turns) ≡ (now, o)
+
+-- a server is heard to say valid messages alone
+abbrev pub TalksAreValid : Type 0
+TalksAreValid = (target : Target) (reading left : ℕ) (since : List ℕ) (p now : State) (turns : List Turn) (o : Outcome)
+    → Talk target reading left since p turns now o → AllByRecursion (λ x. AreMessages (messages_of x.got)) turns
 
 -- an outcome to which an honest server may lead
 abbrev pub IsFair : Outcome → Type 0

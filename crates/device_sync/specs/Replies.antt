@@ -45,6 +45,12 @@ pub data Got : Type 0 where
   refusal : ℕ → Got
   bad : ℕ → Got
 
+-- the messages of what it was judged as
+abbrev pub messages_of : Got → List Message
+messages_of (answer ms f) = ms
+messages_of (refusal status) = []
+messages_of (bad at) = []
+
 -- the place of a fault in a body; a want of memory has none
 abbrev pub place_of : WireFault → Option ℕ
 place_of (Truncated at) = Some at

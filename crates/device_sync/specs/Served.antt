@@ -9,12 +9,9 @@ use Rattle.field_merge.specs.declared.message.Message.{Message}
 use Rattle.field_merge.specs.Messages.{AreMessages}
 use Rattle.kept_messages.specs.Records.{kept_set}
 use Rattle.sync_wire.specs.declared.request.SyncRequest.{SyncRequest}
-use Rattle.sync_wire.specs.Wire.{IsResponse}
-use Rattle.sync_wire.specs.Canon.{response_bytes}
 use Rattle.sync_server.specs.declared.served.Served.TheVariants as served
-use Rattle.sync_server.specs.Answer.{answer_of}
 use Rattle.sync_server.specs.Outside.{HasFound}
-use Rattle.sync_server.specs.Serving.{file_name, Accepts, Visit, IsServed, kept_after}
+use Rattle.sync_server.specs.Serving.{file_name, Visit, IsMeant, IsServed, kept_after}
 use Rattle.device_sync.specs.Requests.{IsAsked}
 use Rattle.device_sync.specs.Honest.{front_of, Served}
 
@@ -49,7 +46,6 @@ IsCountable bytes = length bytes < 10 ^ 18
 abbrev pub ServedIsHonest : Type 0
 ServedIsHonest = (token : List ℕ) (old : Contents) (q : SyncRequest) (r s : List Message) (visit : Visit) (status : ℕ)
     → FitsHead token → IsOfDevice q → IsAsked token q visit.came → HasGroup old q r → IsCountable visit.came → IsCountable visit.wrote
-    → (visit.verdict ≡ Accepts r q → IsResponse (response_bytes (answer_of r q)) (answer_of r q))
-    → IsServed token (HasFound old) visit (served.Answered status)
+    → IsMeant visit.verdict → IsServed token (HasFound old) visit (served.Answered status)
     → kept_set (records_after (kept_after visit.verdict old) q.group []) ≡ Ok s
     → Served token r (ended visit.came (front_of visit.wrote)) s

@@ -16,7 +16,7 @@ use Rattle.sync_wire.specs.declared.request.SyncRequest.{SyncRequest}
 use Rattle.sync_server.specs.declared.refusal.Refusal.{Refusal}
 use Rattle.sync_server.specs.declared.refusal.Refusal.TheVariants.{BadRecord}
 use Rattle.sync_server.specs.declared.state.ServerState.{ServerState}
-use Rattle.sync_server.specs.Serving.{Found, found_in, file_name, Accepts, Refuses, judge_found, judge_set, kept_after, batch_of, reply_of}
+use Rattle.sync_server.specs.Serving.{Found, found_in, file_name, Accepts, Refuses, judge_found, judge_set, kept_after, batch_of, reply_of, IsMeant}
 use Rattle.sync_server.specs.State.{set_of, Agrees}
 use Rattle.sync_server.specs.Keeping.{OnlyReads, IsFree, Puts, Shrinks, HasKept}
 use Rattle.sync_server.proofs.Sets.{same_or}
@@ -150,9 +150,9 @@ module _ (q : SyncRequest) (r : Refusal) (s0 : ServerState) (t0 t1 : Type 0) (k0
         },
       )
 
-      pub accepted_all : (reply : List ℕ) → reply ≡ reply_of (Accepts ms q) → Puts s0 s3 q.group (Some (join ms q.messages)) → (t3 → k3 ≡ appended k2 q.group batch) → IsKnown t3 l3 → (batch ≢ [] → IsAlone t3 k3 l3)
+      pub accepted_all : (reply : List ℕ) → reply ≡ reply_of (Accepts ms q) → IsMeant (Accepts ms q) → Puts s0 s3 q.group (Some (join ms q.messages)) → (t3 → k3 ≡ appended k2 q.group batch) → IsKnown t3 l3 → (batch ≢ [] → IsAlone t3 k3 l3)
           → (found : Found) × HasKept q found s0 s3 t0 t3 k0 k3 l0 l3 (Ok reply)
-      accepted_all reply er puts keeps known alone = (
+      accepted_all reply er meant puts keeps known alone = (
         found_with (Some q.group) set,
         record {
           told = λ t. both.told (told_on t);
@@ -162,6 +162,7 @@ module _ (q : SyncRequest) (r : Refusal) (s0 : ServerState) (t0 t1 : Type 0) (k0
             record {
               judged = set_is q set ms is;
               reply_is = er;
+              means = meant;
               state = puts;
               keeps = λ t. keeps t ∙ added (told_on t);
               known = known;

@@ -11,7 +11,7 @@ use Rattle.sync_server.specs.declared.refusal.Refusal.TheVariants.{NoMemory, Fil
 use Rattle.sync_server.specs.declared.state.ServerState.{ServerState}
 use Rattle.sync_server.specs.declared.served.Served.{Served}
 use Rattle.sync_server.specs.declared.served.Served.TheVariants as served
-use Rattle.sync_server.specs.Serving.{Found, found_in, Verdict, Accepts, Refuses, Ends, judge_found, judge_set, judge_request, Decides, DecidesRest, DecidesBody, by_head, too_large, no_head, bytes_end, refused, short, whole, no_request, request, AsksKeeper, Means, decided, keeper_fault, no_memory, reply_of, HasStatus, Visit, IsServed, answered, ended, unread, unwritten, kept_after, batch_of}
+use Rattle.sync_server.specs.Serving.{Found, found_in, Verdict, Accepts, Refuses, Ends, judge_found, judge_set, judge_request, Decides, DecidesRest, DecidesBody, by_head, too_large, no_head, bytes_end, refused, short, whole, no_request, request, AsksKeeper, Means, decided, keeper_fault, no_memory, reply_of, HasStatus, Visit, IsServed, IsMeant, answered, ended, unread, unwritten, kept_after, batch_of}
 use Rattle.sync_server.specs.State.{set_of, Remembers}
 use Rattle.std.specs.Str.{bytes_eq}
 use Rattle.sync_server.specs.Heads.{judge_head, IsUndecided}
@@ -66,13 +66,13 @@ module _ (token : Text) (tells new_tells : Type 0) (old new : Contents) (left ne
   visit v failed wrote cut = record { came = came; wrote = wrote; verdict = v; keeper_failed = failed; door_failed = cut; close_failed = false }
 
   pub replied : (bytes : Option (List ℕ)) (outs new_outs : Option (List (List ℕ))) (df ndf : ℕ) (v : Verdict) (failed : Bool) (text : List ℕ) (status : ℕ) (result : Served) → IsAll bytes came
-      → Means token (λ q found. new_tells → HasFound old q found) came failed v → HasStatus v status → reply_of v ≡ text → IsSent text status outs new_outs result → ndf ≡ count_after (is_cut result) df → Remembers s0 s1 v
+      → Means token (λ q found. new_tells → HasFound old q found) came failed v → HasStatus v status → IsMeant v → reply_of v ≡ text → IsSent text status outs new_outs result → ndf ≡ count_after (is_cut result) df → Remembers s0 s1 v
       → ((wrote : List ℕ) (cut : Bool) → UsesKeeper token tells new_tells old new left new_left faults new_faults (visit v failed wrote cut))
       → (x : Visit) × Remembers s0 s1 x.verdict × ServesOpen token x result bytes outs new_outs df ndf tells new_tells old new left new_left faults new_faults
-  replied bytes outs new_outs df ndf v failed text status (served.Answered st) all m h e s n r k =
-      (visit v failed text false, r, record { open_still = refl; came = all; wrote = s.1; count = n; served = answered st m (subst (HasStatus v) (sym s.0) h) (sym e) refl; keeper = k text false })
-  replied bytes outs new_outs df ndf v failed text status served.Cut all m h e s n r k =
-      (visit v failed s.front true, r, record { open_still = refl; came = all; wrote = s.wrote; count = n; served = unwritten m s.rest (e ∙ s.of) s.some refl; keeper = k s.front true })
+  replied bytes outs new_outs df ndf v failed text status (served.Answered st) all m h meant e s n r k =
+      (visit v failed text false, r, record { open_still = refl; came = all; wrote = s.1; count = n; served = answered st m (subst (HasStatus v) (sym s.0) h) (sym e) refl; means = meant; keeper = k text false })
+  replied bytes outs new_outs df ndf v failed text status served.Cut all m h meant e s n r k =
+      (visit v failed s.front true, r, record { open_still = refl; came = all; wrote = s.wrote; count = n; served = unwritten m s.rest (e ∙ s.of) s.some refl; means = meant; keeper = k s.front true })
 
   -- a request that is refused before the keeper is asked, or for want of memory
   pub untouched : (v : Verdict) → kept_after v old ≡ old → ((ms : List Message) (q : SyncRequest) → v ≡ Accepts ms q → ⊥) → (new_tells → tells) → (new_tells → new ≡ old)
@@ -102,6 +102,19 @@ module _ (token came : List ℕ) (F G : SyncRequest → Found → Type 0) (wider
   widened (too_large a b e) = too_large a b e
   widened (no_head a e) = no_head a e
   widened (bytes_end a b e) = bytes_end a b e
+
+-- and so does what becomes of a connection
+module _ (token : List ℕ) (F G : SyncRequest → Found → Type 0) (wider : (q : SyncRequest) (f : Found) → F q f → G q f) where
+  wider_meant : (came : List ℕ) (failed : Bool) (v : Verdict) → Means token F came failed v → Means token G came failed v
+  wider_meant came failed v (decided e d) = decided e (widened token came F G wider v d)
+  wider_meant came failed v (keeper_fault e a f) = keeper_fault e a f
+  wider_meant came failed v (no_memory e f) = no_memory e f
+
+  wider_served : (v : Visit) (result : Served) → IsServed token F v result → IsServed token G v result
+  wider_served v result (answered st m h w d) = answered st (wider_meant v.came v.keeper_failed v.verdict m) h w d
+  wider_served v result (ended e d w k f) = ended e (widened token v.came F G wider Ends d) w k f
+  wider_served v result (unread e f b c u w k d) = unread e f b c u w k d
+  wider_served v result (unwritten m r e n d) = unwritten (wider_meant v.came v.keeper_failed v.verdict m) r e n d
 
 fault_in : Verdict → Bool
 fault_in Ends = false
@@ -149,7 +162,7 @@ module _ (token : Text) (tells new_tells : Type 0) (old new : Contents) (left ne
       let ms = k.by_result.0 in
       let h = k.by_result.1 in
       replied token tells new_tells old new left new_left faults new_faults s0 s1 came bytes outs new_outs df ndf (Accepts ms asks.request) false reply 200 result all
-      (decided refl (asks_decide token came (λ q found. new_tells → HasFound old q found) asks found (Accepts ms asks.request) k.finds h.judged)) refl (sym h.reply_is) sent count
+      (decided refl (asks_decide token came (λ q found. new_tells → HasFound old q found) asks found (Accepts ms asks.request) k.finds h.judged)) refl h.means (sym h.reply_is) sent count
       (remembers s0 s1 ms asks.request h.state) (λ wrote cut. record {
         told = k.told;
         keeps = h.keeps;
@@ -164,7 +177,7 @@ module _ (token : Text) (tells new_tells : Type 0) (old new : Contents) (left ne
   refused_visit asks found r k rose sent =
       let h = k.by_result in
       replied token tells new_tells old new left new_left faults new_faults s0 s1 came bytes outs new_outs df ndf (Refuses r) (is_fault r) (refusal_bytes r) (status_of r) result all
-      (means_refused token came (λ q found. new_tells → HasFound old q found) asks found r k.finds h.why) refl refl sent count
+      (means_refused token came (λ q found. new_tells → HasFound old q found) asks found r k.finds h.why) refl tt refl sent count
       (remembers_token s0 s1 r h.token) (λ wrote cut. record {
         told = k.told;
         keeps = h.same;
@@ -200,7 +213,7 @@ module _ (token : Text) (tells : Type 0) (old : Contents) (left : Contents → T
   pub early_visit : (result : Served) → ndf ≡ count_after (is_cut result) df → (r : Refusal) → ((k : Contents) → Decides token (HasFound k) came (Refuses r)) ⊎ (r ≡ NoMemory)
       → IsSent (refusal_bytes r) (status_of r) outs new_outs result → Alone result
   early_visit result count r why sent =
-      replied token tells tells old old left left faults faults s s came bytes outs new_outs df ndf (Refuses r) false (refusal_bytes r) (status_of r) result all (means why) refl refl sent count
+      replied token tells tells old old left left faults faults s s came bytes outs new_outs df ndf (Refuses r) false (refusal_bytes r) (status_of r) result all (means why) refl tt refl sent count
       (remembers_token s s r refl) (untouched token tells tells old old left left faults faults s s came (Refuses r) refl no (λ t. t) (λ t. refl) (λ k h. h) refl)
     where
       means : ((k : Contents) → Decides token (HasFound k) came (Refuses r)) ⊎ (r ≡ NoMemory) → Means token Told came false (Refuses r)
@@ -224,6 +237,7 @@ module _ (token : Text) (tells : Type 0) (old : Contents) (left : Contents → T
       wrote = stays_to outs new_outs stays;
       count = count;
       served = ended refl (told_of Ends d) refl refl refl;
+      means = tt;
       keeper = untouched token tells tells old old left left faults faults s s came Ends refl ends_no (λ t. t) (λ t. refl) (λ k h. h) refl [] false;
     },
   )
@@ -239,6 +253,7 @@ module _ (token : Text) (tells : Type 0) (old : Contents) (left : Contents → T
       wrote = stays_to outs new_outs stays;
       count = count;
       served = unread refl front back e un refl refl refl;
+      means = tt;
       keeper = untouched token tells tells old old left left faults faults s s came Ends refl ends_no (λ t. t) (λ t. refl) (λ k h. h) refl [] true;
     },
   )
@@ -294,6 +309,8 @@ module _ (token : Text) (tells new_tells : Type 0) (old new : Contents) (left ne
         inner.1,
         record {
           served = closed_served token (λ q found. new_tells → HasFound old q found) v failed result h.served;
+          found = λ t. closed_served token (HasFound old) v failed result (wider_served token (λ q found. new_tells → HasFound old q found) (HasFound old) (λ q found f. f t) v result h.served);
+          means = h.means;
           door = record {
             lets_in = lets_on w0 w2 w3 (lets_on w0 w1 w2 lets st12) st23;
             came = is_next w0 bytes v.came opens h.came;

@@ -9,7 +9,7 @@ use Rattle.sync_server.specs.declared.refusal.Refusal.{Refusal}
 use Rattle.sync_server.specs.declared.refusal.Refusal.TheVariants.{TooLarge, BadRequest, NotFound, MethodNotAllowed, LengthRequired, TokenNotFound, BadMessage, EncryptedMessage, SinceRequired, FileNotFound, FileHasReset, BadRecord, KeeperFault, NoMemory}
 use Rattle.sync_server.specs.declared.state.ServerState.{ServerState}
 use Rattle.sync_server.specs.declared.keeping.Prepared.{Prepared}
-use Rattle.sync_server.specs.Serving.{Found, found_in, Accepts, Refuses, judge_found, kept_after, reply_of, batch_of}
+use Rattle.sync_server.specs.Serving.{Found, found_in, Accepts, Refuses, judge_found, kept_after, reply_of, IsMeant, batch_of}
 use Rattle.sync_server.specs.State.{set_of}
 
 -- a keeper was read, and what it holds is as it was
@@ -70,6 +70,7 @@ pub record Puts (old new : ServerState) (group : Text) (set : Option (List Messa
 -- the reply to a request over the message set of its group, and the records that it adds; the state keeps the set with the new messages
 pub record IsReply (q : SyncRequest) (old new : ServerState) (ms : List Message) (prepared : Prepared) : Type 0 where
   pub reply : prepared.reply ≡ reply_of (Accepts ms q)
+  pub means : IsMeant (Accepts ms q)
   pub batch : prepared.batch.items ≡ batch_of ms q
   pub state : Puts old new q.group (Some (join ms q.messages))
 
@@ -82,6 +83,7 @@ IsPrepared q old new set (Err refusal) = (((index : ℕ) × (set ≡ Err index) 
 pub record HasAccepted (q : SyncRequest) (found : Found) (ms : List Message) (old new : ServerState) (new_tells : Type 0) (contents new_contents : Contents) (new_left : Contents → Type 0) (reply : List ℕ) : Type 0 where
   pub judged : judge_found q found.group found.set ≡ Accepts ms q
   pub reply_is : reply ≡ reply_of (Accepts ms q)
+  pub means : IsMeant (Accepts ms q)
   pub state : Puts old new q.group (Some (join ms q.messages))
   pub keeps : new_tells → new_contents ≡ kept_after (Accepts ms q) contents
   pub known : IsKnown new_tells new_left

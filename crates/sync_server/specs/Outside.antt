@@ -9,7 +9,7 @@ use Rattle.sync_wire.specs.declared.request.SyncRequest.{SyncRequest}
 use Rattle.sync_server.specs.declared.served.Served.{Served}
 use Rattle.sync_server.specs.declared.served.Served.TheVariants as served
 use Rattle.sync_server.specs.Written.{WritesTo, WritesFront}
-use Rattle.sync_server.specs.Serving.{Found, found_in, Verdict, Accepts, Decides, Visit, IsServed, kept_after, batch_of}
+use Rattle.sync_server.specs.Serving.{Found, found_in, Verdict, Accepts, Decides, Visit, IsServed, IsMeant, kept_after, batch_of}
 
 -- these are the bytes of the next connection, as far as it is known who waits
 abbrev pub IsNext : Option (List (List ℕ)) → List ℕ → Type 0
@@ -48,10 +48,12 @@ pub record UsesKeeper (token : Text) (tells new_tells : Type 0) (old new : Conte
   pub alone : (ms : List Message) (q : SyncRequest) → visit.verdict ≡ Accepts ms q → batch_of ms q ≢ [] → IsAlone new_tells new new_left
   pub count : new_faults ≡ count_after visit.keeper_failed faults
 
--- a connection was served
+-- A connection was served, as what the keeper has decides. Where the keeper still tells, that is what these contents have.
 pub record HasServed (token : Text) (visit : Visit) (result : Served) (waiting new_waiting outs new_outs : Option (List (List ℕ))) (door_faults new_door_faults : ℕ)
     (tells new_tells : Type 0) (old new : Contents) (left new_left : Contents → Type 0) (faults new_faults : ℕ) : Type 0 where
   pub served : IsServed token (λ q found. new_tells → HasFound old q found) visit result
+  pub found : new_tells → IsServed token (HasFound old) visit result
+  pub means : IsMeant visit.verdict
   pub door : UsesDoor waiting new_waiting outs new_outs door_faults new_door_faults visit
   pub keeper : UsesKeeper token tells new_tells old new left new_left faults new_faults visit
 
@@ -72,4 +74,5 @@ pub record ServesOpen (token : Text) (visit : Visit) (result : Served) (bytes : 
   pub wrote : WritesTo outs new_outs visit.wrote
   pub count : new_door_faults ≡ count_after visit.door_failed door_faults
   pub served : IsServed token (λ q found. new_tells → HasFound old q found) visit result
+  pub means : IsMeant visit.verdict
   pub keeper : UsesKeeper token tells new_tells old new left new_left faults new_faults visit

@@ -10,7 +10,7 @@ use Rattle.kept_messages.specs.Records.{record_of, kept_set}
 use Rattle.kept_messages.specs.News.{new_in}
 use Rattle.sync_wire.specs.declared.fault.WireFault.{WireFault}
 use Rattle.sync_wire.specs.declared.request.SyncRequest.{SyncRequest}
-use Rattle.sync_wire.specs.Wire.{IsRequest, IsRequestFault}
+use Rattle.sync_wire.specs.Wire.{IsRequest, IsRequestFault, IsResponse}
 use Rattle.sync_wire.specs.Canon.{response_bytes}
 use Rattle.sync_server.specs.declared.refusal.Refusal.{Refusal}
 use Rattle.sync_server.specs.declared.refusal.Refusal.TheVariants.{TooLarge, BadRequest, BadMessage, EncryptedMessage, SinceRequired, FileNotFound, FileHasReset, BadRecord, KeeperFault, NoMemory}
@@ -114,6 +114,12 @@ abbrev pub HasStatus : Verdict → ℕ → Type 0
 HasStatus Ends status = ⊥
 HasStatus (Refuses refusal) status = status ≡ status_of refusal
 HasStatus (Accepts ms q) status = status ≡ 200
+
+-- the bytes of an answer mean this answer, and no other
+abbrev pub IsMeant : Verdict → Type 0
+IsMeant Ends = Unit {0}
+IsMeant (Refuses refusal) = Unit {0}
+IsMeant (Accepts ms q) = IsResponse (response_bytes (answer_of ms q)) (answer_of ms q)
 
 -- the records that are to be kept of a request: those of its new messages
 abbrev pub batch_of : List Message → SyncRequest → List Record

@@ -8,7 +8,7 @@ ghost use Rattle.budget_ports.specs.Contents.{Contents, Text, records_after, app
 ghost use Rattle.budget_ports.specs.Faults.{count_after};
 ghost use Rattle.budget_ports.specs.Keeper.{IsKnown, IsAlone, Commits, HaveKeys};
 ghost use Rattle.kept_messages.specs.Records.{kept_set};
-ghost use Rattle.sync_server.specs.Serving.{Accepts, Found, found_in, file_name, judge_found, reply_of, batch_of};
+ghost use Rattle.sync_server.specs.Serving.{Accepts, Found, found_in, file_name, judge_found, reply_of, IsMeant, batch_of};
 ghost use Rattle.sync_server.specs.Keeping.{OnlyReads, keeper_failed, JudgesGroup, JudgesSet, IsFree, Puts, IsPrepared, HasKept};
 ghost use Rattle.sync_server.specs.State.{set_of, Agrees};
 
@@ -119,6 +119,7 @@ fn reply_over(alloc: Global, kept: Kept, request: &SyncRequest) -> Result<Joined
     requires { AreMessages request.now.messages }
     ensures joined { IfOk result (λ r. r.kept ≡ join kept request.now.messages) }
     ensures reply { IfOk result (λ r. r.prepared.reply ≡ reply_of (Accepts kept request.now)) }
+    ensures means { IfOk result (λ _. IsMeant (Accepts kept request.now)) }
     ensures batch { IfOk result (λ r. r.prepared.batch.items ≡ batch_of kept request.now) }
 {
     let mut batch = Vec::new(alloc);

@@ -5,6 +5,7 @@ ghost use Rattle.field_merge.specs.Messages.{AreMessages};
 ghost use Rattle.budget_ports.specs.Connections.{Stays};
 ghost use Rattle.budget_ports.specs.Faults.{count_after};
 ghost use Rattle.sync_wire.specs.Canon.{response_bytes};
+ghost use Rattle.sync_wire.specs.Wire.{IsResponse};
 ghost use Rattle.sync_server.specs.Replies.{accepted_bytes};
 ghost use Rattle.sync_server.specs.Written.{WritesTo, WritesFront};
 
@@ -31,7 +32,8 @@ pub(crate) fn write_all<D: Door>(door: &mut D, bytes: &[u8]) -> Result<(), Faile
 pub(crate) fn accepted(alloc: Global, response: &SyncResponse) -> Result<Items<u8>, NoMemory>
     requires plain { response.now.encrypted ≡ false }
     requires valid { AreMessages response.now.messages }
-    ensures { IfOk result (λ bytes. bytes ≡ accepted_bytes (response_bytes response.now)) }
+    ensures bytes { IfOk result (λ bytes. bytes ≡ accepted_bytes (response_bytes response.now)) }
+    ensures means { IfOk result (λ _. IsResponse (response_bytes response.now) response.now) }
 {
     let body = write_response(alloc, response)?;
     let status: u16 = 200;

@@ -72,7 +72,7 @@ content_back end w z wide p ok =
 
 -- ---- the message of a content
 
-unless_told : (o : Option NameFault) (f : WireFault) (made m : Message) → unless o f made ≡ Ok m → (o ≡ None) × (m ≡ made)
+pub unless_told : (o : Option NameFault) (f : WireFault) (made m : Message) → unless o f made ≡ Ok m → (o ≡ None) × (m ≡ made)
 unless_told None f made m e = (refl, cc)
 unless_told (Some found) f made m e = absurd cc
 

@@ -14,3 +14,4 @@ pub mod Readings
 pub mod Plain
 pub mod Causes
 pub mod Last
+pub mod Valid

@@ -3,6 +3,7 @@ use Rattle.std.specs.Prelude.{◌≡◌, ◌≢◌, ◌↔◌, ◌⊎◌, ℕ, �
 use Rattle.std.specs.List.{flat_map, AllByRecursion}
 use Rattle.field_values.specs.Value.{value_text}
 use Rattle.hybrid_clock.specs.declared.stamp.Stamp.{Stamp}
+use Rattle.hybrid_clock.specs.Stamp.{IsStamp}
 use Rattle.field_merge.specs.declared.message.Message.{Message}
 use Rattle.field_merge.specs.Messages.{IsMessage, AreMessages}
 use Rattle.sync_wire.specs.declared.fault.WireFault.{WireFault}
@@ -58,6 +59,13 @@ pub record ReadsAs {X : Type 0} (Read : X → Type 0) (Fault : WireFault → Typ
 pub record EnvelopesAreRead : Type 0 where
   pub fields : (end : ℕ) (bytes : List ℕ) → ReadsAs (Means envelope_check layouts.Envelope outline_of end bytes) (FirstFault envelope_check layouts.Envelope end bytes) (outline_at end bytes)
   pub contents : (end : ℕ) (bytes : List ℕ) → ReadsAs (Means content_check layouts.Content content_of end bytes) (FirstFault content_check layouts.Content end bytes) (content_at end bytes)
+
+-- ---- what bytes mean has valid messages
+
+pub record MeaningsAreValid : Type 0 where
+  pub requests : (bytes : List ℕ) (x : SyncRequest) → IsRequest bytes x → AreMessages x.messages
+  pub replies : (bytes : List ℕ) (x : SyncResponse) → IsResponse bytes x → AreMessages x.messages
+  pub contents : (stamp : Stamp) (bytes : List ℕ) (m : Message) → IsStamp stamp → IsMessageContent stamp bytes m → IsMessage m
 
 -- ---- what is written reads back
 

@@ -1,6 +1,6 @@
 //! Facts about all bytes and all messages, which a proof can call for.
 ghost use Rattle.sync_wire.specs.Causes.{FaultsHaveCauses};
-ghost use Rattle.sync_wire.specs.Laws.{BytesAreRead, EnvelopesAreRead, WrittenReadBack, PlainWritesBack, NumbersAreShort, LastOnesCount};
+ghost use Rattle.sync_wire.specs.Laws.{BytesAreRead, EnvelopesAreRead, MeaningsAreValid, WrittenReadBack, PlainWritesBack, NumbersAreShort, LastOnesCount};
 
 /// A law: any bytes mean one request or have one first fault as a request, and not both. The same holds of replies, and of
 /// contents under a timestamp.
@@ -12,6 +12,12 @@ pub fn bytes_are_read()
 /// places are told. The same holds of its content.
 pub fn envelopes_are_read()
     ensures { EnvelopesAreRead }
+{}
+
+/// A law: the messages of a request or of a reply that bytes mean are valid, and so is the message of a content under a valid
+/// timestamp.
+pub fn meanings_are_valid()
+    ensures { MeaningsAreValid }
 {}
 
 /// A law: a request, a reply and a message that are written read back as themselves, so no two of them have one spelling.

@@ -32,6 +32,7 @@ returns-clause-found g c =
         f.2,
         record {
           reply = c.in_ok-joined.ensures.reply;
+          means = c.in_ok-joined.ensures.means;
           batch = c.in_ok-joined.ensures.batch;
           state = rw (sym c.in_ok-joined.ensures.joined) (put_back c.args.state.now c.open_group.new.state c.put.new.self c.args.request.now.group _ c.in_ok-opened.ensures.rest c.in_ok-put.ensures.ok);
         },

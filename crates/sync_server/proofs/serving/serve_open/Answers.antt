@@ -5,7 +5,7 @@ use Rattle.sync_server.specs.Asking.{IsAsked}
 use Rattle.sync_server.specs.declared.asking.Asked.TheVariants as asked
 use Rattle.sync_server.specs.Outside.{IsSent, is_cut}
 use Rattle.sync_server.specs.Replies.{refusal_bytes, status_of}
-use Rattle.sync_server.proofs.Pieces.{sent_on}
+use Rattle.sync_server.proofs.Pieces.{sent_on, stays_on}
 use Rattle.sync_server.proofs.Visits.{accepted_visit, refused_visit, early_visit, ended_visit, unread_visit}
 use Rattle.sync_server.proofs.serving.serve_open.Goals as goal
 
@@ -53,3 +53,6 @@ returns-clause-served g c =
     let te = c.bytes.ensures.value ∙ c.token.ensures in
     let q = subst (λ t. IsAsked t a.0 asked.Failed) te a.2 in
     unread_visit c.args.state.now.token (g.K.Keeper.tells c.args.keeper.now) (g.K.Keeper.contents c.args.keeper.now) (g.K.Keeper.left c.args.keeper.now) (g.K.Keeper.faults c.args.keeper.now) c.args.state.now a.0 (g.D.Door.left c.args.door.now) (g.D.Door.outs c.args.door.now) (g.D.Door.outs c.ask.new.door) (g.D.Door.faults c.args.door.now) (g.D.Door.faults c.ask.new.door) a.1 c.in-Failed.ensures.count q.0 q.1 q.2 q.3 c.in-Failed.ensures.others.1
+
+pub returns-in-Ok-clause-others : goal.returns-in-Ok-clause-others
+returns-in-Ok-clause-others g c = stays_on _ _ _ c.in-Request.ensures.others.0 c.send.ensures.others
