@@ -1,0 +1,11 @@
+pub mod Statement
+pub mod Matching
+pub mod Groups
+pub mod IndexView
+pub mod Laws
+pub mod Second
+pub mod Drafts
+pub mod Named
+pub mod NamesView
+pub mod Edits
+pub mod Rest

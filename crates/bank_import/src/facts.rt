@@ -1,0 +1,197 @@
+//! What is compared of a record and of a transaction.
+ghost use Rattle.std.specs.Prelude.{◌≡◌, IfOk, true};
+ghost use Rattle.std.specs.Option.{option_copied};
+ghost use Rattle.jiff_core.specs.Date.{epoch_day};
+ghost use Rattle.book_rows.specs.Kinds.{is_day};
+ghost use Rattle.book_edits.specs.Checks.{same_id};
+ghost use Rattle.rule_engine.specs.Days.{day_number};
+ghost use Rattle.bank_import.specs.Matching.{day_in, day_of, facts_of, candidate_of, are_same, days_apart, distance, is_near, meets, is_nearer};
+
+use book_rows::{TxRow, is_day};
+use field_values::{NoMemory, Txt};
+use jiff_core::civil::Date;
+use std::cmp::Ordering;
+
+/// What is compared of a record.
+#[derive(Debug, PartialEq, Eq, Drop)]
+pub(crate) struct Facts {
+    /// The number of its day: 0 is 1 January 1970.
+    pub day: Option<i32>,
+    /// In cents.
+    pub amount: i64,
+    /// The id of its payee.
+    pub payee: Option<Txt>,
+    /// Its id in a statement.
+    pub financial_id: Option<Txt>,
+}
+
+/// A transaction that a record may match.
+#[derive(Debug, PartialEq, Eq, Drop)]
+pub(crate) struct Candidate {
+    /// The id of the transaction.
+    pub id: Txt,
+    /// The number of its day: 0 is 1 January 1970.
+    pub day: Option<i32>,
+    /// In cents.
+    pub amount: i64,
+    /// The id of its payee.
+    pub payee: Option<Txt>,
+    /// Its id in a statement.
+    pub financial_id: Option<Txt>,
+}
+
+/// In what a record and a transaction agree.
+#[derive(Clone, Copy, Debug, PartialEq, Eq)]
+pub(crate) enum Pass {
+    /// The id of the statement.
+    ById,
+    /// The amount and the payee, and nearly the day.
+    ByPayee,
+    /// The amount, and nearly the day.
+    ByAmount,
+}
+
+/// A copy of a text that may be absent.
+pub(crate) fn copied(text: &Option<Txt>) -> Result<Option<Txt>, NoMemory>
+    ensures { IfOk result (λ t. t ≡ text.now) }
+{
+    match text {
+        Some(text) => Ok(Some(text.copy()?)),
+        None => Ok(None),
+    }
+}
+
+impl Candidate {
+    /// An equal candidate.
+    pub fn copy(&self) -> Result<Candidate, NoMemory>
+        ensures { IfOk result (λ c. c ≡ self.now) }
+    {
+        Ok(Candidate {
+            id: self.id.copy()?,
+            day: self.day,
+            amount: self.amount,
+            payee: copied(&self.payee)?,
+            financial_id: copied(&self.financial_id)?,
+        })
+    }
+}
+
+/// The date of a day YYYYMMDD.
+fn date_at(day: u32) -> Date
+    requires { is_day day ≡ true }
+    ensures { epoch_day result ≡ day_number day }
+{
+    let year = (day / 10_000) as i16;
+    let month = (day / 100 % 100) as u8;
+    let place = (day % 100) as u8;
+    Date::constrain(year, month, place)
+}
+
+/// The number of a day YYYYMMDD, where it is one from 1970 to 2199.
+fn day_in(day: u32) -> Option<i32>
+    ensures { result ≡ day_in day }
+{
+    if is_day(day) {
+        Some(date_at(day).to_unix_epoch_day())
+    } else {
+        None
+    }
+}
+
+/// The number of a transaction's day.
+fn day_of(row: &TxRow) -> Option<i32>
+    ensures { result ≡ day_of row.now }
+{
+    match row.date {
+        Some(date) => day_in(date),
+        None => None,
+    }
+}
+
+/// What is compared of a transaction that a record makes.
+pub(crate) fn facts_of(row: &TxRow) -> Result<Facts, NoMemory>
+    ensures { IfOk result (λ f. f ≡ facts_of row.now) }
+{
+    Ok(Facts {
+        day: day_of(row),
+        amount: row.amount,
+        payee: copied(&row.description)?,
+        financial_id: copied(&row.financial_id)?,
+    })
+}
+
+/// What is compared of the transaction of an id.
+pub(crate) fn candidate_of(id: &Txt, row: &TxRow) -> Result<Candidate, NoMemory>
+    ensures { IfOk result (λ c. c ≡ candidate_of id.now row.now) }
+{
+    Ok(Candidate {
+        id: id.copy()?,
+        day: day_of(row),
+        amount: row.amount,
+        payee: copied(&row.description)?,
+        financial_id: copied(&row.financial_id)?,
+    })
+}
+
+/// Whether two ids are the same.
+fn same_id(a: &Txt, b: &Txt) -> bool
+    ensures { result ≡ same_id a.now b.now }
+{
+    a.cmp(b) == Ordering::Equal
+}
+
+/// Whether both are there and equal.
+fn are_same(a: &Option<Txt>, b: &Option<Txt>) -> bool
+    ensures { result ≡ are_same a.now b.now }
+{
+    match (a, b) {
+        (Some(a), Some(b)) => same_id(a, b),
+        _ => false,
+    }
+}
+
+/// How many days lie between two, or more than between any two where one is not there.
+fn days_apart(a: Option<i32>, b: Option<i32>) -> u64
+    ensures { result ≡ days_apart a b }
+{
+    match (a, b) {
+        (Some(a), Some(b)) => u64::from(a.abs_diff(b)),
+        _ => 4_294_967_296,
+    }
+}
+
+fn distance(facts: &Facts, other: &Candidate) -> u64
+    ensures { result ≡ distance facts.now other.now }
+{
+    days_apart(facts.day, other.day)
+}
+
+/// Whether the amount is the same, at most seven days lie between, and not both have an id of a statement.
+fn is_near(facts: &Facts, other: &Candidate) -> bool
+    ensures { result ≡ is_near facts.now other.now }
+{
+    facts.amount == other.amount
+        && distance(facts, other) <= 7
+        && !(facts.financial_id.is_some() && other.financial_id.is_some())
+}
+
+/// Whether a record and a transaction agree as a pass asks.
+pub(crate) fn meets(pass: Pass, facts: &Facts, other: &Candidate) -> bool
+    ensures { result ≡ meets pass facts.now other.now }
+{
+    match pass {
+        Pass::ById => are_same(&facts.financial_id, &other.financial_id),
+        Pass::ByPayee => is_near(facts, other) && are_same(&facts.payee, &other.payee),
+        Pass::ByAmount => is_near(facts, other),
+    }
+}
+
+/// Whether a transaction is nearer to a record's day than the best one so far.
+pub(crate) fn is_nearer(facts: &Facts, best: Option<&Candidate>, candidate: &Candidate) -> bool
+    ensures { result ≡ is_nearer facts.now (option_copied best.entry) candidate.now }
+{
+    match best {
+        None => true,
+        Some(best) => distance(facts, candidate) < distance(facts, best),
+    }
+}
