@@ -1,0 +1,5 @@
+pub mod Harmless
+pub mod Written
+pub mod ByRules
+pub mod BySchedules
+pub mod ByStatements
