@@ -13,7 +13,7 @@ use Rattle.device_core.specs.declared.edit.LineRefusal.{LineRefusal}
 use Rattle.device_core.specs.Device.{State, Accepted, IsAhead, edited, undone, redone, received}
 use Rattle.device_core.specs.ReadBack.{EditsReadBack, ReceivedAreJoined}
 use Rattle.command_lines.specs.declared.command.Command.{Command}
-use Rattle.command_lines.specs.declared.command.Command.TheVariants.{Edit, Undo, Redo, Receive, Fields, Messages, Value as ValueOf, Trie, Balance, Register, Cell, Sheet, Broken, Sync}
+use Rattle.command_lines.specs.declared.command.Command.TheVariants.{Edit, Undo, Redo, Receive, Fields, Messages, Value as ValueOf, Trie, Balance, Register, Cell, Sheet, Broken, ScheduleStatus, Sync}
 use Rattle.command_lines.specs.declared.reply.Reply.{Reply}
 use Rattle.command_lines.specs.Commands.{command}
 use Rattle.command_lines.specs.Readings.{answer, IsReading}
@@ -136,6 +136,7 @@ answering target r i (Register account) asks h = stepped target r i _ asks
 answering target r i (Cell month name) asks h = stepped target r i _ asks
 answering target r i (Sheet month) asks h = stepped target r i _ asks
 answering target r i Broken asks h = stepped target r i _ asks
+answering target r i (ScheduleStatus id day) asks h = stepped target r i _ asks
 
 pub lines_obeyed : EditsReadBack → ReceivedAreJoined → TalksAreTold → LinesAreObeyed
 lines_obeyed edits messages talks = record {

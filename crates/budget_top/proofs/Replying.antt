@@ -4,7 +4,7 @@ use Rattle.device_core.specs.declared.edit.LineRefusal.{LineRefusal}
 use Rattle.device_core.specs.Device.{State, Accepted, edited, undone, redone, received}
 use Rattle.device_core.specs.Accepting.{AcceptedAreJoined}
 use Rattle.command_lines.specs.declared.command.Command.{Command}
-use Rattle.command_lines.specs.declared.command.Command.TheVariants.{Edit as EditOf, Undo, Redo, Receive, Fields, Messages, Value, Trie, Balance, Register, Cell, Sheet, Broken, Sync}
+use Rattle.command_lines.specs.declared.command.Command.TheVariants.{Edit as EditOf, Undo, Redo, Receive, Fields, Messages, Value, Trie, Balance, Register, Cell, Sheet, Broken, ScheduleStatus, Sync}
 use Rattle.command_lines.specs.declared.reply.Reply.{Reply}
 use Rattle.command_lines.specs.Replies.{refused, reply_lines, reply_text_of}
 use Rattle.command_lines.specs.ReplyLines.{RepliesAreLines, IsReply}
@@ -45,6 +45,7 @@ module _ (law : RepliesAreLines) (joined : AcceptedAreJoined) where
   obeyed_reply s reading (Ok (Cell month name)) valid = law.answers s.messages (Cell month name) valid.messages
   obeyed_reply s reading (Ok (Sheet month)) valid = law.answers s.messages (Sheet month) valid.messages
   obeyed_reply s reading (Ok Broken) valid = law.answers s.messages Broken valid.messages
+  obeyed_reply s reading (Ok (ScheduleStatus id day)) valid = law.answers s.messages (ScheduleStatus id day) valid.messages
 
 -- ---- the reply to any line
 
@@ -76,9 +77,9 @@ cut_behind text more ls is =
     ∙ ap (λ ps. ls ++ ps) (pieces_some more)
 
 pub replies_cut : RepliesAreLines → AcceptedAreJoined → StatesStayValid → RepliesAreCut
-replies_cut law joined stay t r [] valid heard = refl
-replies_cut law joined stay t r (i ∷ is) valid heard =
+replies_cut law joined stay t r [] valid talked = refl
+replies_cut law joined stay t r (i ∷ is) valid talked =
     cut_behind (reply_text_of (step t r i).1) (replies t (step t r i).0 is) (reply_lines (step t r i).1)
     (law.cut (step t r i).1 (step_reply law joined t r i valid))
-    ∙ ap (λ ls. reply_lines (step t r i).1 ++ ls) (replies_cut law joined stay t (step t r i).0 is (stay.stepped t r i valid heard.0) heard.1)
+    ∙ ap (λ ls. reply_lines (step t r i).1 ++ ls) (replies_cut law joined stay t (step t r i).0 is (stay.stepped t r i valid talked.0) talked.1)
     ∙ sym (append_assoc (reply_lines (step t r i).1) (lines_of_replies t (step t r i).0 is) ([] ∷ []))

@@ -33,7 +33,8 @@ use Rattle.device_core.specs.Device.{State, Accepted, begun, first_in_row, writt
 use Rattle.minute_trie.specs.Held.{Held}
 use Rattle.minute_trie.specs.Diff.{difference}
 use Rattle.device_sync.specs.declared.target.Target.{Target}
-use Rattle.device_sync.specs.Replies.{Got, answer, refusal, bad}
+use Rattle.device_sync.specs.Replies.{Got, answer, refusal, bad, messages_of}
+use Rattle.device_sync.specs.Laws.{TalksAreValid}
 use Rattle.device_sync.specs.Requests.{first_since}
 use Rattle.device_sync.specs.Talk.{Outcome, not_taken, trie_in, Next, ends, asks, compared, taken, next, Turn as TalkTurn, talked, followed, most_requests}
 use Rattle.hybrid_clock.specs.Moments.{moment_text}
@@ -45,13 +46,13 @@ use Rattle.device_core.proofs.Making.{writes_valid}
 use Rattle.device_core.proofs.Stamping.{stamped_valid}
 use Rattle.command_lines.specs.Commands.{command, IsCommand}
 use Rattle.command_lines.specs.declared.command.Command.{Command}
-use Rattle.command_lines.specs.declared.command.Command.TheVariants.{Edit as EditOf, Undo as UndoLine, Redo as RedoLine, Receive, Fields, Messages, Value as ValueOf, Trie, Balance, Register, Cell, Sheet, Broken, Sync}
+use Rattle.command_lines.specs.declared.command.Command.TheVariants.{Edit as EditOf, Undo as UndoLine, Redo as RedoLine, Receive, Fields, Messages, Value as ValueOf, Trie, Balance, Register, Cell, Sheet, Broken, ScheduleStatus, Sync}
 use Rattle.command_lines.specs.declared.reply.Reply.{Reply}
 use Rattle.command_lines.specs.Written.{LinesWriteBack}
 use Rattle.budget_top.specs.Session.{asked, obeyed, settled, wrote_all, added_all}
-use Rattle.budget_top.specs.Doing.{Given, Running, syncs, conversed, synced_by}
+use Rattle.budget_top.specs.Doing.{Given, Running, syncs, conversed, synced_by, IsWholeTalk, IsWholeIf, IsWhole}
 use Rattle.budget_top.specs.Course.{Input, step}
-use Rattle.budget_top.specs.Valid.{IsState, messages_of, IsHeard, StatesStayValid}
+use Rattle.budget_top.specs.Valid.{IsState, StatesStayValid}
 
 -- ---- the clock
 
@@ -205,6 +206,7 @@ obeyed_valid s reading (Ok (Register account)) is valid = is
 obeyed_valid s reading (Ok (Cell month name)) is valid = is
 obeyed_valid s reading (Ok (Sheet month)) is valid = is
 obeyed_valid s reading (Ok Broken) is valid = is
+obeyed_valid s reading (Ok (ScheduleStatus id day)) is valid = is
 obeyed_valid s reading (Ok Sync) is valid = is
 
 -- ---- a sync
@@ -239,19 +241,22 @@ talked_valid reading zero since p (x ∷ xs) is heard = is
 talked_valid reading (suc left) since p (x ∷ xs) is heard =
     followed_valid (next reading left p x.got) _ (next_valid reading left p x.got is heard.0) (λ q moment of. talked_valid reading left (moment_text moment) q xs of heard.1)
 
-conversed_valid : (s : State) (given : Given) → IsState s → IsHeard given → IsState (conversed s given).0
-conversed_valid s given is heard = by (nat_lt (given.reading / 60_000) window)
+conversed_valid : TalksAreValid → (target : Target) (s : State) (given : Given) → IsState s → IsWholeTalk target s given → IsState (conversed s given).0
+conversed_valid law target s given is w = by (nat_lt (given.reading / 60_000) window) refl
   where
-    by : (b : Bool) → IsState (cond b (talked given.reading most_requests (first_since given.since given.reading) s (map (λ (x : TalkTurn). x.got) given.turns)) (s, not_taken (OfClock (Beyond given.reading)))).0
-    by true = talked_valid given.reading most_requests (first_since given.since given.reading) s given.turns is heard
-    by false = is
+    by : (b : Bool) → nat_lt (given.reading / 60_000) window ≡ b
+        → IsState (cond b (talked given.reading most_requests (first_since given.since given.reading) s (map (λ (x : TalkTurn). x.got) given.turns)) (s, not_taken (OfClock (Beyond given.reading)))).0
+    by true e =
+        talked_valid given.reading most_requests (first_since given.since given.reading) s given.turns is
+        (law target given.reading most_requests (first_since given.since given.reading) s (conversed s given).0 given.turns (conversed s given).1 (w.talk (ltb-true (given.reading / 60_000) window e)))
+    by false e = is
 
-step_valid : LinesWriteBack → (target : Target) (r : Running) (i : Input) → IsState r.state → IsHeard i.given → IsState (step target r i).0.state
-step_valid law target r i is heard = by (syncs (asked i.line))
+step_valid : LinesWriteBack → TalksAreValid → (target : Target) (r : Running) (i : Input) → IsState r.state → IsWhole target r.state i.given (asked i.line) → IsState (step target r i).0.state
+step_valid law heard target r i is w = by (syncs (asked i.line)) w
   where
-    by : (b : Bool) → IsState (cond b (synced_by r.state i.given) (obeyed r.state i.given.reading (asked i.line))).0
-    by true = conversed_valid r.state i.given is heard
-    by false = obeyed_valid r.state i.given.reading (asked i.line) is (asked_valid law i.line)
+    by : (b : Bool) → IsWholeIf b target r.state i.given → IsState (cond b (synced_by r.state i.given) (obeyed r.state i.given.reading (asked i.line))).0
+    by true w = conversed_valid heard target r.state i.given is w
+    by false w = obeyed_valid r.state i.given.reading (asked i.line) is (asked_valid law i.line)
 
 begun_valid : (node : List ℕ) (ms : List Message) → IsNode node → AreMessages ms → IsState (begun node ms)
 begun_valid node ms is valid = by (last_stamp ms) (λ s e. last_valid ms valid s e)
@@ -260,8 +265,8 @@ begun_valid node ms is valid = by (last_stamp ms) (λ s e. last_valid ms valid s
     by None h = record { messages = valid; clock = record { within = omega arith; counter = omega arith; node = is }; history = record { undo = tt; redo = tt } }
     by (Some s) h = let last = h s refl in record { messages = valid; clock = record { within = last.within; counter = last.counter; node = is }; history = record { undo = tt; redo = tt } }
 
-pub stay_valid : LinesWriteBack → StatesStayValid
-stay_valid law = record {
+pub stay_valid : LinesWriteBack → TalksAreValid → StatesStayValid
+stay_valid law heard = record {
   begun = begun_valid;
-  stepped = step_valid law;
+  stepped = step_valid law heard;
 }

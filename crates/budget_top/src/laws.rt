@@ -11,7 +11,7 @@ ghost use Rattle.budget_top.specs.Answers.{AnswersStay};
 
 use command_lines::{lines_write_back, replies_are_lines};
 use device_core::{accepted_are_joined, edits_read_back, received_are_joined};
-use device_sync::talks_are_told;
+use device_sync::{talks_are_told, talks_are_valid};
 use field_merge::latest_message;
 use sync_server::answers_tell;
 
@@ -23,8 +23,8 @@ pub fn lines_are_written()
 
 /// Whoever cuts what a device has written at its line feeds finds one reply behind the other, each as
 /// `ok N` and N lines, or as the one line of a refusal. So a text in a reply never looks like the end
-/// of it. The device's state has to be valid, and so the messages of a server's answers, as they always are
-/// (`states_stay_valid`).
+/// of it. The device's state has to be valid, as it always is (`states_stay_valid`), and the lines have to have their whole
+/// talk with a server, as those of a run have (`Talked`).
 pub fn replies_are_cut()
     ensures { RepliesAreCut }
 {
@@ -48,12 +48,13 @@ pub fn lines_are_obeyed()
 }
 
 /// A device that begins with a node and valid messages has a valid state: its messages are valid, and so is the
-/// timestamp at which its clock stands, and what can be undone and redone. No line leaves it another one, where the
-/// messages that a server has answered are valid, as those of each reply that was judged are (`judge`).
+/// timestamp at which its clock stands, and what can be undone and redone. No line that has its whole talk with a server
+/// leaves it another one, whatever the server sends.
 pub fn states_stay_valid()
     ensures { StatesStayValid }
 {
     lines_write_back();
+    talks_are_valid();
 }
 
 /// How bytes become lines. Any bytes are lines with their ends and a last piece without one; the whole lines are those

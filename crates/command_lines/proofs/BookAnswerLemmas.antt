@@ -20,10 +20,13 @@ use Rattle.command_lines.specs.declared.reply.Reply.{Reply}
 use Rattle.command_lines.specs.declared.reply.Reply.TheVariants.{Done}
 use Rattle.command_lines.specs.Answers.{MayHaveId, name_text, BooksAreTold}
 use Rattle.split_transfer.specs.Broken.{broken}
-use Rattle.command_lines.specs.BookAnswers.{told_cell, cell_or_faulty, cell_text, lines_of}
+use Rattle.book_rows.specs.Kinds.{is_day}
+use Rattle.schedules.specs.Status.{status_in}
+use Rattle.command_lines.specs.BookAnswers.{told_cell, cell_or_faulty, cell_text, lines_of, told_status}
+use Rattle.command_lines.proofs.StatusLemmas.{standing}
 use Rattle.command_lines.proofs.TextLines.{broken_lines}
 use Rattle.command_lines.specs.CellNames.{is_of_group, is_of_month, is_empty, id_behind, this_or, named_by, all_kinds, cell_named}
-use Rattle.command_lines.specs.Refusals.{no_such_account, no_such_group, no_such_category, bad_month}
+use Rattle.command_lines.specs.Refusals.{no_such_account, no_such_group, no_such_category, no_such_schedule, bad_date, bad_month}
 use Rattle.command_lines.specs.Register.{register_lines, register_of}
 use Rattle.command_lines.specs.Replies.{faulty}
 use Rattle.command_lines.proofs.Prefixes.{starts_written}
@@ -200,6 +203,18 @@ books_told ms =
           let cells : List ACell = sheet_of (budget_of rows) month in
           (map cell_text cells, ap (λ b. cond b (Done (map cell_text cells)) (bad_month month)) is, lines_of_sheet cells);
       broken = (lines_of (broken rows), refl, broken_lines rows);
+      status = λ id day live is.
+          let s = standing rows id day live is in (
+            s.0,
+            s.1,
+            ap (λ b. cond b (cond (is_day day) (told_status id (status_in rows id day)) (bad_date day)) (no_such_schedule id)) live
+                ∙ ap (λ b. cond b (told_status id (status_in rows id day)) (bad_date day)) is
+                ∙ ap (told_status id) s.1,
+          );
+      no_schedule = λ id day live. ap (λ b. cond b (cond (is_day day) (told_status id (status_in rows id day)) (bad_date day)) (no_such_schedule id)) live;
+      no_day = λ id day live is.
+          ap (λ b. cond b (cond (is_day day) (told_status id (status_in rows id day)) (bad_date day)) (no_such_schedule id)) live
+          ∙ ap (λ b. cond b (told_status id (status_in rows id day)) (bad_date day)) is;
       no_cell = λ month text is. ap (λ b. cond b (cell_or_faulty rows (cell_named month text)) (bad_month month)) is;
       no_sheet = λ month is. ap (λ b. cond b (Done (map cell_text (sheet_of (budget_of rows) month))) (bad_month month)) is;
     }

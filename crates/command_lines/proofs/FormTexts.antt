@@ -1,4 +1,4 @@
--- Flags, dates and months, and their texts.
+-- Flags, dates, months, stages of rules and how many conditions have to hold, and their texts.
 use Rattle.std.proofs.Common.{◌≡◌, ◌∙◌, ℕ, suc, ◌+◌, ◌-◌, ◌*◌, ◌/◌, ◌%◌, ◌<◌, ◌==◌, Bool, true, false, cond, List, [], ◌∷◌, ◌++◌, length, Option, Some, None, refl, ap, sym, subst, arith}
 use Rattle.std.specs.Prelude.{codes, if◌then◌else◌, slice_index}
 use Rattle.std.specs.Str.{bytes_eq}
@@ -7,8 +7,13 @@ use Rattle.std.proofs.lemmas.Slice.Eq.{bytes_eq-Decides}
 use Rattle.std.proofs.lemmas.Bool.Decides.{nat_tests}
 use Rattle.book_rows.specs.Months.{digit_of, two_at, four_at, behind}
 use Rattle.book_rows.specs.Ids.{two_digits, four_digits}
-use Rattle.command_lines.specs.Forms.{flag_of, date_of, month_of}
-use Rattle.command_lines.specs.Written.{flag_text, date_text, month_text}
+use Rattle.rule_engine.specs.declared.rule.Stage.{Stage}
+use Rattle.rule_engine.specs.declared.rule.Stage.TheVariants.{Pre, Plain, Post}
+use Rattle.rule_engine.specs.declared.rule.RuleOp.{RuleOp}
+use Rattle.rule_engine.specs.declared.rule.RuleOp.TheVariants.{And, Or}
+use Rattle.rule_engine.specs.Edits.{op_text}
+use Rattle.command_lines.specs.Forms.{flag_of, date_of, month_of, stage_of, op_of}
+use Rattle.command_lines.specs.Written.{flag_text, date_text, month_text, stage_text}
 
 -- ---- flags
 
@@ -22,6 +27,35 @@ flag_written text b e = by (bytes_eq text (codes "1")) (bytes_eq text (codes "0"
     by : (one zero : Bool) → bytes_eq text (codes "1") ≡ one → bytes_eq text (codes "0") ≡ zero → (if one then Some true else (if zero then Some false else None)) ≡ Some b → flag_text b ≡ text
     by true z p q found = let same : true ≡ b = cc in ap flag_text (sym same) ∙ sym ((bytes_eq-Decides text (codes "1")).0 p)
     by false true p q found = let same : false ≡ b = cc in ap flag_text (sym same) ∙ sym ((bytes_eq-Decides text (codes "0")).0 q)
+    by false false p q found = absurd (cc)
+
+-- ---- stages, and how many conditions have to hold
+
+pub stage_back : (stage : Stage) → stage_of (stage_text stage) ≡ Some stage
+stage_back Pre = refl
+stage_back Plain = refl
+stage_back Post = refl
+
+pub stage_written : (text : List ℕ) (stage : Stage) → stage_of text ≡ Some stage → stage_text stage ≡ text
+stage_written text stage e = by (bytes_eq text (codes "pre")) (bytes_eq text (codes "none")) (bytes_eq text (codes "post")) refl refl refl e
+  where
+    by : (pre none post : Bool) → bytes_eq text (codes "pre") ≡ pre → bytes_eq text (codes "none") ≡ none → bytes_eq text (codes "post") ≡ post
+        → (if pre then Some Pre else (if none then Some Plain else (if post then Some Post else None))) ≡ Some stage → stage_text stage ≡ text
+    by true none post p q r found = let same : Pre ≡ stage = cc in ap stage_text (sym same) ∙ sym ((bytes_eq-Decides text (codes "pre")).0 p)
+    by false true post p q r found = let same : Plain ≡ stage = cc in ap stage_text (sym same) ∙ sym ((bytes_eq-Decides text (codes "none")).0 q)
+    by false false true p q r found = let same : Post ≡ stage = cc in ap stage_text (sym same) ∙ sym ((bytes_eq-Decides text (codes "post")).0 r)
+    by false false false p q r found = absurd (cc)
+
+pub op_back : (op : RuleOp) → op_of (op_text op) ≡ Some op
+op_back And = refl
+op_back Or = refl
+
+pub op_written : (text : List ℕ) (op : RuleOp) → op_of text ≡ Some op → op_text op ≡ text
+op_written text op e = by (bytes_eq text (codes "and")) (bytes_eq text (codes "or")) refl refl e
+  where
+    by : (all one : Bool) → bytes_eq text (codes "and") ≡ all → bytes_eq text (codes "or") ≡ one → (if all then Some And else (if one then Some Or else None)) ≡ Some op → op_text op ≡ text
+    by true one p q found = let same : And ≡ op = cc in ap op_text (sym same) ∙ sym ((bytes_eq-Decides text (codes "and")).0 p)
+    by false true p q found = let same : Or ≡ op = cc in ap op_text (sym same) ∙ sym ((bytes_eq-Decides text (codes "or")).0 q)
     by false false p q found = absurd (cc)
 
 -- ---- numbers are read back from their digits

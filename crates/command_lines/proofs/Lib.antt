@@ -5,6 +5,10 @@ pub mod RepeatLemmas
 pub mod Opening
 pub mod Telling
 pub mod Known
+pub mod SessionLines
+pub mod StatementLines
+pub mod ScheduleLines
+pub mod RuleLines
 pub mod PairLines
 pub mod BookLines
 pub mod EditLines
@@ -12,10 +16,12 @@ pub mod KnownLines
 pub mod Cutting
 pub mod WordLemmas
 pub mod Shares
+pub mod Repeating
 pub mod LineLemmas
 pub mod ReadingLemmas
 pub mod LineBack
 pub mod PairsBack
+pub mod RulesBack
 pub mod WrittenLemmas
 pub mod RawLemmas
 pub mod ReceivedLines
@@ -24,6 +30,7 @@ pub mod RegisterLemmas
 pub mod Prefixes
 pub mod PlainTexts
 pub mod TextLines
+pub mod StatusLemmas
 pub mod BookAnswerLemmas
 pub mod AnswerLemmas
 pub mod RowIds

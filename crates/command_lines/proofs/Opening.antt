@@ -8,10 +8,15 @@ use Rattle.hybrid_clock.specs.Reading.{read_stamp}
 use Rattle.hybrid_clock.proofs.Writing.{text_reads}
 use Rattle.command_lines.specs.declared.command.Command.{Command}
 use Rattle.std.specs.Fmt.{signed_decimal}
-use Rattle.command_lines.specs.Forms.{Share, Wanted, no_more, word, may_end, some_texts, some_shares, misfit, is_name, of_stamp, stamp_word, name_word, if_read, amount_of, id_or_none, behind, id_of, flag_of, date_of, month_of, form_word, amount_word, flag_word, date_word, month_word, id_word}
-use Rattle.command_lines.specs.Written.{flag_text, date_text, month_text}
+use Rattle.command_lines.specs.Forms.{Share, Wanted, no_more, word, may_end, some_texts, some_shares, misfit, is_name, of_stamp, stamp_word, name_word, if_read, amount_of, id_or_none, behind, id_of, flag_of, date_of, month_of, stage_of, op_of, form_word, amount_word, flag_word, date_word, month_word, id_word, stage_word, op_word}
+use Rattle.rule_engine.specs.declared.rule.Stage.{Stage}
+use Rattle.rule_engine.specs.declared.rule.Stage.TheVariants.{Pre}
+use Rattle.rule_engine.specs.declared.rule.RuleOp.{RuleOp}
+use Rattle.rule_engine.specs.declared.rule.RuleOp.TheVariants.{And}
+use Rattle.rule_engine.specs.Edits.{op_text}
+use Rattle.command_lines.specs.Written.{flag_text, date_text, month_text, stage_text}
 use Rattle.command_lines.proofs.Amounts.{amount_back, id_of_back}
-use Rattle.command_lines.proofs.FormTexts.{flag_back, date_back, month_back}
+use Rattle.command_lines.proofs.FormTexts.{flag_back, date_back, month_back, stage_back, op_back}
 use Rattle.command_lines.specs.FormLaws.{id_text, share_texts}
 use Rattle.command_lines.proofs.FormLemmas.{IsForm, Makes}
 use Rattle.command_lines.proofs.RepeatLemmas.{some_made, texts_make, shares_make}
@@ -127,3 +132,9 @@ open_date next h = open_form date_of next (date_text 0) 0 (date_back 0 (omega ar
 
 pub open_month : (next : ℕ → Wanted) → ((n : ℕ) → Opens (next n)) → Opens (month_word next)
 open_month next h = open_form month_of next (month_text 0) 0 (month_back 0 (omega arith)) h
+
+pub open_stage : (next : Stage → Wanted) → ((stage : Stage) → Opens (next stage)) → Opens (stage_word next)
+open_stage next h = open_form stage_of next (stage_text Pre) Pre (stage_back Pre) h
+
+pub open_op : (next : RuleOp → Wanted) → ((op : RuleOp) → Opens (next op)) → Opens (op_word next)
+open_op next h = open_form op_of next (op_text And) And (op_back And) h

@@ -1,5 +1,4 @@
--- Of each line of a session, and of each that edits a transaction and those that hang together with it: its words can be given, and
--- its command is told by them.
+-- Of each line that edits a transaction and those that hang together with it: its words can be given, and its command is told by them.
 use Rattle.std.proofs.Common.{◌≡◌, ◌≢◌, ℕ, Bool, true, false, cond, List, [], ◌∷◌, ◌++◌, map, ◌⊎◌, inl, refl, ap, sym, subst}
 use Rattle.std.specs.Prelude.{codes}
 use Rattle.std.specs.Fmt.{signed_decimal}
@@ -15,27 +14,13 @@ use Rattle.command_lines.specs.declared.command.Command.TheVariants.{Edit}
 use Rattle.command_lines.specs.Forms.{Share, Wanted, misfit, no_more, word, some_shares, amount_of, flag_of, date_of, id_of, amount_word}
 use Rattle.command_lines.specs.FormLaws.{IsShare, id_text, share_texts}
 use Rattle.command_lines.specs.Written.{part_texts, CanWritePart}
-use Rattle.command_lines.specs.Commands.{LineForm, words_in, pair, part_of, change, change_forms, change_words, tx_set_words, tx_delete_words, split_words, transfer_words, pair_lines, words_of_pair_lines, session_lines, words_of_session_lines}
+use Rattle.command_lines.specs.Commands.{LineForm, words_in, pair, part_of, change, change_forms, change_words, tx_set_words, tx_delete_words, split_words, transfer_words, pair_lines, words_of_pair_lines, words_of_rule_lines}
 use Rattle.command_lines.proofs.Amounts.{amount_written, id_told}
 use Rattle.command_lines.proofs.FormTexts.{flag_written, date_written}
 use Rattle.command_lines.proofs.Opening.{CanEnd, GoesOn, Opens, can_end, open_end, open_word, open_id, open_amount, open_flag, open_date}
 use Rattle.command_lines.proofs.Telling.{Tells, tells_form}
 use Rattle.command_lines.proofs.Known.{IsKnown, AreKnown, known_in}
-
--- ---- the lines of a session
-
-session_lines_are : AreKnown session_lines
-session_lines_are = (
-  record { good = refl; plain = refl; form = tt; goes = tt; tells = record { same = refl; valid = tt; can = tt } },
-  (
-    record { good = refl; plain = refl; form = tt; goes = tt; tells = record { same = refl; valid = tt; can = tt } },
-    (record { good = refl; plain = refl; form = tt; goes = tt; tells = record { same = refl; valid = tt; can = tt } }, tt),
-  ),
-)
-
-session_lines_known : (name : List ℕ) → (words_of_session_lines name ≡ misfit) ⊎ IsKnown name (words_of_session_lines name)
-unfolding words_of_session_lines
-session_lines_known name = known_in session_lines name misfit session_lines_are (inl refl)
+use Rattle.command_lines.proofs.RuleLines.{rule_lines_known}
 
 -- ---- what a transaction's change wants
 
@@ -184,4 +169,4 @@ pair_lines_are = (
 
 pub pair_lines_known : (name : List ℕ) → (words_of_pair_lines name ≡ misfit) ⊎ IsKnown name (words_of_pair_lines name)
 unfolding words_of_pair_lines
-pair_lines_known name = known_in pair_lines name (words_of_session_lines name) pair_lines_are (session_lines_known name)
+pair_lines_known name = known_in pair_lines name (words_of_rule_lines name) pair_lines_are (rule_lines_known name)

@@ -26,12 +26,16 @@ use Rattle.device_core.specs.declared.edit.LineRefusal.{LineRefusal}
 use Rattle.device_core.specs.declared.edit.LineRefusal.TheVariants.{Edit as OfEdit, Clock as OfClock, NoMemory}
 use Rattle.kept_messages.specs.Pairs.{pairs_of}
 use Rattle.command_lines.specs.declared.command.Command.{Command}
-use Rattle.command_lines.specs.declared.command.Command.TheVariants.{Edit, Undo, Redo, Receive, Fields, Messages, Value, Trie, Balance, Register, Cell, Sheet, Broken, Sync}
+use Rattle.command_lines.specs.declared.command.Command.TheVariants.{Edit, Undo, Redo, Receive, Fields, Messages, Value, Trie, Balance, Register, Cell, Sheet, Broken, ScheduleStatus, Sync}
 use Rattle.command_lines.specs.declared.reply.Reply.{Reply}
 use Rattle.command_lines.specs.declared.reply.Reply.TheVariants.{Done, Refused}
 use Rattle.finite_sums.specs.Maps.{Text}
 use Rattle.book_rows.specs.declared.rows.Rows.{Rows}
-use Rattle.book_rows.specs.Live.{is_live_account}
+use Rattle.book_rows.specs.Kinds.{is_day}
+use Rattle.book_rows.specs.Live.{is_live_account, is_live_schedule}
+use Rattle.schedules.specs.declared.standing.ScheduleStatus.{ScheduleStatus as Standing}
+use Rattle.schedules.specs.declared.standing.ScheduleStatus.TheVariants.{Completed, Paid, Due, Upcoming, Missed, Scheduled}
+use Rattle.schedules.specs.Status.{status_in}
 use Rattle.book_rows.specs.Balances.{balance_of}
 use Rattle.book_rows.specs.Months.{is_month}
 use Rattle.envelope_cells.specs.declared.name.CellName.{CellName}
@@ -39,10 +43,10 @@ use Rattle.envelope_cells.specs.BudgetOf.{budget_of}
 use Rattle.envelope_cells.specs.CellOf.{cell_of}
 use Rattle.envelope_cells.specs.SheetOf.{sheet_of}
 use Rattle.device_core.specs.Books.{rows_of}
-use Rattle.command_lines.specs.Refusals.{no_such_account, no_such_group, no_such_category, bad_month}
+use Rattle.command_lines.specs.Refusals.{no_such_account, no_such_group, no_such_category, no_such_schedule, bad_date, bad_month}
 use Rattle.command_lines.specs.Register.{register_lines}
 use Rattle.command_lines.specs.CellNames.{is_of_group, cell_named}
-use Rattle.command_lines.specs.BookAnswers.{balance_answer, register_answer, told_cell, cell_or_faulty, cell_answer, cell_text, sheet_answer}
+use Rattle.command_lines.specs.BookAnswers.{balance_answer, register_answer, told_cell, cell_or_faulty, cell_answer, cell_text, sheet_answer, told_status, status_answer}
 use Rattle.command_lines.specs.Readings.{shown, answer}
 use Rattle.command_lines.specs.Replies.{detail_text, reply_lines, refused_clock, refused}
 use Rattle.command_lines.specs.ReplyLines.{IsLine, AreLines, IsReply, RepliesAreLines}
@@ -144,6 +148,23 @@ sheet_reply_is rows month named = by (is_month month)
     by true = sheet_is rows month named
     by false = code (codes "bad-month") refl
 
+status_told : (id : List ℕ) (status : Option Standing) → IsReply (told_status id status)
+status_told id None = code (codes "no-such-schedule") refl
+status_told id (Some Completed) = (code (codes "completed") refl, tt)
+status_told id (Some Paid) = (code (codes "paid") refl, tt)
+status_told id (Some Due) = (code (codes "due") refl, tt)
+status_told id (Some Upcoming) = (code (codes "upcoming") refl, tt)
+status_told id (Some Missed) = (code (codes "missed") refl, tt)
+status_told id (Some Scheduled) = (code (codes "scheduled") refl, tt)
+
+status_is : (rows : Rows) (id : List ℕ) (day : ℕ) → IsReply (status_answer rows id day)
+status_is rows id day = by (is_live_schedule rows id) (is_day day)
+  where
+    by : (live is : Bool) → IsReply (cond live (cond is (told_status id (status_in rows id day)) (bad_date day)) (no_such_schedule id))
+    by true true = status_told id (status_in rows id day)
+    by true false = code (codes "bad-date") refl
+    by false is = code (codes "no-such-schedule") refl
+
 answer_is : OnOneLine → (messages : List Message) (command : Command) → AreMessages messages → IsReply (answer messages command)
 answer_is law messages Fields valid = message_lines_are law (fields messages)
 answer_is law messages (Messages since) valid = message_lines_are law (messages_after since messages)
@@ -156,6 +177,7 @@ answer_is law messages (Register account) valid = register_reply_is (rows_of mes
 answer_is law messages (Cell month name) valid = cell_is (rows_of messages) month name
 answer_is law messages (Sheet month) valid = sheet_reply_is (rows_of messages) month (rows_named messages valid)
 answer_is law messages Broken valid = lines_are_lines (broken (rows_of messages))
+answer_is law messages (ScheduleStatus id day) valid = status_is (rows_of messages) id day
 answer_is law messages (Edit edit) valid = tt
 answer_is law messages Undo valid = tt
 answer_is law messages Redo valid = tt

@@ -32,7 +32,7 @@ Tells front misfit = Unit {0}
 Tells front (no_more c) = IsCommandOf front c
 Tells front (word next) = (text : List ℕ) → Tells (front ++ text ∷ []) (next text)
 Tells front (may_end c next) = IsCommandOf front c × ((text : List ℕ) → Tells (front ++ text ∷ []) (next text))
-Tells front (some_texts texts made) = (more : List (List ℕ)) → IsCommandOf (front ++ more) (made (texts ++ more))
+Tells front (some_texts texts made) = (more : List (List ℕ)) → texts ++ more ≢ [] → IsCommandOf (front ++ more) (made (texts ++ more))
 Tells front (some_shares shares made) = (more : List Share) → AllByRecursion IsShare more → shares ++ more ≢ [] → IsCommandOf (front ++ flat_map share_texts more) (made (shares ++ more))
 
 -- the same of equal texts and commands
@@ -45,7 +45,8 @@ tells_end (no_more made) front c h e = let same : made ≡ c = cc in subst (IsCo
 tells_end (word next) front c h e = absurd (cc)
 tells_end (may_end made next) front c h e = let same : made ≡ c = cc in subst (IsCommandOf front) same h.0
 tells_end (some_texts texts made) front c h e =
-    moved (front ++ []) front (made (texts ++ [])) c (append-nil front) (ap made (append-nil texts) ∙ sym (made_some made texts c e).1) (h [])
+    let some = made_some made texts c e in
+    moved (front ++ []) front (made (texts ++ [])) c (append-nil front) (ap made (append-nil texts) ∙ sym some.1) (h [] (λ none. some.0 (sym (append-nil texts) ∙ none)))
 tells_end (some_shares shares made) front c h e =
     let some = made_some made shares c e in
     moved (front ++ []) front (made (shares ++ [])) c (append-nil front) (ap made (append-nil shares) ∙ sym some.1) (h [] tt (λ none. some.0 (sym (append-nil shares) ∙ none)))
@@ -56,8 +57,8 @@ tells_behind (no_more c) front text h = tt
 tells_behind (word next) front text h = h text
 tells_behind (may_end c next) front text h = h.1 text
 tells_behind (some_texts texts made) front text h =
-    λ more. moved (front ++ text ∷ more) ((front ++ text ∷ []) ++ more) (made (texts ++ text ∷ more)) (made ((texts ++ text ∷ []) ++ more))
-    (sym (append_assoc front (text ∷ []) more)) (ap made (sym (append_assoc texts (text ∷ []) more))) (h (text ∷ more))
+    λ more some. moved (front ++ text ∷ more) ((front ++ text ∷ []) ++ more) (made (texts ++ text ∷ more)) (made ((texts ++ text ∷ []) ++ more))
+    (sym (append_assoc front (text ∷ []) more)) (ap made (sym (append_assoc texts (text ∷ []) more))) (h (text ∷ more) (λ none. some (append_assoc texts (text ∷ []) more ∙ none)))
 tells_behind (some_shares shares made) front text h = by (amount_of text) refl
   where
     by : (o : Option ℤ) → amount_of text ≡ o → Tells (front ++ text ∷ []) (if_read (λ n. word (λ id. some_shares (shares ++ (n, id_or_none id) ∷ []) made)) o)

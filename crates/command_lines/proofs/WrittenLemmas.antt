@@ -17,20 +17,21 @@ use Rattle.field_merge.specs.Lines.{parts}
 use Rattle.field_merge.specs.Messages.{IsMessage, message_of, message_texts, line_of_texts}
 use Rattle.field_merge.proofs.EscapeLemmas.{escaped-no_tab}
 use Rattle.field_merge.proofs.LineLemmas.{parts-none, parts-at}
-use Rattle.device_core.specs.declared.edit.Edit.TheVariants.{Book, Pair}
+use Rattle.device_core.specs.declared.edit.Edit.TheVariants.{Book, Pair, Rule, Schedule as OfSchedule, Import}
 use Rattle.book_edits.specs.declared.edit.BookEdit.TheVariants.{Set, AccountAdd, AccountRename, AccountOffbudget, AccountReopen, AccountClose, GroupAdd, GroupRename, GroupDelete, CategoryAdd, CategoryRename, CategoryMove, CategoryDelete, PayeeAdd, PayeeRename, PayeeDelete, TxAdd, Budget, Carryover, Hold, Move, Note}
 use Rattle.command_lines.specs.declared.command.Command.{Command}
-use Rattle.command_lines.specs.declared.command.Command.TheVariants.{Edit, Undo, Redo, Receive, Fields, Messages, Value, Trie, Balance, Register, Cell, Sheet, Broken, Sync}
+use Rattle.command_lines.specs.declared.command.Command.TheVariants.{Edit, Undo, Redo, Receive, Fields, Messages, Value, Trie, Balance, Register, Cell, Sheet, Broken, ScheduleStatus, Sync}
 use Rattle.std.specs.Fmt.{signed_decimal}
 use Rattle.command_lines.specs.Forms.{Wanted, word, no_more, misfit, of_stamp, stamp_word, name_word, amount_of, id_of, flag_of, date_of, month_of, if_read, form_word, amount_word, flag_word, date_word, month_word, id_word}
 use Rattle.command_lines.specs.FormLaws.{id_text}
-use Rattle.command_lines.specs.Commands.{words_of_row_lines, words_of_state_lines, words_of_add_lines, words_of_month_lines, words_of_book_lines, words_of_pair_lines, words_of_session_lines, line_words, of_words, longest_line, IsCommand}
+use Rattle.command_lines.specs.Commands.{words_of_row_lines, words_of_state_lines, words_of_add_lines, words_of_month_lines, words_of_book_lines, words_of_pair_lines, words_of_rule_lines, words_of_schedule_lines, words_of_statement_lines, words_of_session_lines, line_words, of_words, longest_line, IsCommand}
 use Rattle.command_lines.specs.Written.{flag_text, date_text, month_text, CanBeWritten, command_line, CommandsReadBack}
 use Rattle.command_lines.proofs.Amounts.{amount_back, id_of_back}
 use Rattle.command_lines.proofs.FormTexts.{flag_back, date_back, month_back}
 use Rattle.command_lines.proofs.FormLemmas.{Makes}
 use Rattle.command_lines.proofs.LineBack.{makes_form, line_back}
 use Rattle.command_lines.proofs.PairsBack.{pairs_back}
+use Rattle.command_lines.proofs.RulesBack.{rules_back, schedules_back}
 
 -- ---- a word of a form
 
@@ -58,7 +59,7 @@ receive_makes m is =
     ap (λ value. Some (Receive (record m { value = value }))) (values_read_back_lem m.value is.value)))))
 
 words_back : (c : Command) → IsCommand c → CanBeWritten c → of_words (parts (command_line c)) ≡ Ok c
-unfolding words_of_row_lines words_of_state_lines words_of_add_lines words_of_month_lines words_of_book_lines words_of_pair_lines words_of_session_lines
+unfolding words_of_row_lines words_of_state_lines words_of_add_lines words_of_month_lines words_of_book_lines words_of_pair_lines words_of_rule_lines words_of_schedule_lines words_of_statement_lines words_of_session_lines
 words_back (Edit (Book (Set d r c v))) is can =
     line_back (codes "set") (d ∷ r ∷ c ∷ value_text v ∷ []) (Edit (Book (Set d r c v))) refl (ap (λ value. Some (Edit (Book (Set d r c value)))) (values_read_back_lem v is))
 words_back (Receive m) is can = line_back (codes "receive") (message_texts m) (Receive m) refl (receive_makes m is)
@@ -117,7 +118,12 @@ words_back (Cell month name) is can =
 words_back (Sheet month) is can =
     line_back (codes "sheet") (month_text month ∷ []) (Sheet month) refl (makes_form month_of (λ month. no_more (Sheet month)) month (month_text month) [] (Sheet month) (month_back month can) refl)
 words_back Broken is can = line_back (codes "broken") [] Broken refl refl
+words_back (ScheduleStatus id day) is can =
+    line_back (codes "schedule-status") (id ∷ date_text day ∷ []) (ScheduleStatus id day) refl (makes_form date_of (λ day. no_more (ScheduleStatus id day)) day (date_text day) [] (ScheduleStatus id day) (date_back day can) refl)
 words_back (Edit (Pair edit)) is can = pairs_back edit can
+words_back (Edit (Rule edit)) is can = rules_back edit can
+words_back (Edit (OfSchedule edit)) is can = schedules_back edit can
+words_back (Edit (Import edit)) is can = line_back (codes "import") (edit.account ∷ edit.statement ∷ []) (Edit (Import edit)) refl refl
 words_back Undo is can = line_back (codes "undo") [] Undo refl refl
 words_back Redo is can = line_back (codes "redo") [] Redo refl refl
 words_back Sync is can = line_back (codes "sync") [] Sync refl refl

@@ -15,13 +15,16 @@ use Rattle.field_merge.specs.Log.{IsRising}
 use Rattle.field_merge.specs.Messages.{message_line, AreMessages}
 use Rattle.minute_trie.specs.Trie.{Pair, stamp_pair, trie_of}
 use Rattle.minute_trie.specs.Faults.{fault_of_text, map_of_text}
-use Rattle.command_lines.specs.declared.command.Command.TheVariants.{Fields, Messages, Value, Trie, Balance, Register, Cell, Sheet, Broken}
+use Rattle.command_lines.specs.declared.command.Command.TheVariants.{Fields, Messages, Value, Trie, Balance, Register, Cell, Sheet, Broken, ScheduleStatus}
 use Rattle.command_lines.specs.declared.reply.Reply.TheVariants.{Done}
 use Rattle.field_merge.specs.Lines.{ended}
-use Rattle.book_rows.specs.Live.{is_live_account}
+use Rattle.book_rows.specs.Kinds.{is_day}
+use Rattle.book_rows.specs.Live.{is_live_account, is_live_schedule}
 use Rattle.book_rows.specs.Balances.{balance_of}
 use Rattle.book_rows.specs.Months.{is_month}
 use Rattle.split_transfer.specs.Broken.{broken}
+use Rattle.schedules.specs.declared.standing.ScheduleStatus.{ScheduleStatus as Standing}
+use Rattle.schedules.specs.Status.{status_in}
 use Rattle.envelope_cells.specs.declared.name.CellName.{CellName}
 use Rattle.envelope_cells.specs.declared.name.CellKind.{CellKind}
 use Rattle.envelope_cells.specs.BudgetOf.{budget_of}
@@ -29,7 +32,8 @@ use Rattle.envelope_cells.specs.CellOf.{cell_of, is_of_category}
 use Rattle.envelope_cells.specs.SheetOf.{sheet_of}
 use Rattle.envelope_cells.specs.Text.{kind_text, sheet_text}
 use Rattle.device_core.specs.Books.{rows_of}
-use Rattle.command_lines.specs.Refusals.{no_such_account, no_such_group, no_such_category, bad_month}
+use Rattle.command_lines.specs.Refusals.{no_such_account, no_such_group, no_such_category, no_such_schedule, bad_date, bad_month}
+use Rattle.command_lines.specs.BookAnswers.{status_text}
 use Rattle.command_lines.specs.Replies.{faulty}
 use Rattle.command_lines.specs.Register.{Entry}
 use Rattle.command_lines.specs.RegisterLaws.{IsRegister}
@@ -79,6 +83,12 @@ pub record BooksAreTold (ms : List Message) : Type 0 where
   pub sheet : (month : ℕ) → is_month month ≡ true → (lines : List (List ℕ)) × (answer ms (Sheet month) ≡ Done lines) × (flat_map ended lines ≡ sheet_text (sheet_of (budget_of (rows_of ms)) month))
   -- `broken`: the lines that tell which pairs and splits are wrong
   pub broken : (lines : List (List ℕ)) × (answer ms Broken ≡ Done lines) × (flat_map ended lines ≡ broken (rows_of ms))
+  -- `schedule-status` of a live schedule and a day: how it stands on that day
+  pub status : (id : List ℕ) (day : ℕ) → is_live_schedule (rows_of ms) id ≡ true → is_day day ≡ true
+      → (standing : Standing) × (status_in (rows_of ms) id day ≡ Some standing) × (answer ms (ScheduleStatus id day) ≡ Done (status_text standing ∷ []))
+  -- of no live schedule, and, of a live one, of no day
+  pub no_schedule : (id : List ℕ) (day : ℕ) → is_live_schedule (rows_of ms) id ≡ false → answer ms (ScheduleStatus id day) ≡ no_such_schedule id
+  pub no_day : (id : List ℕ) (day : ℕ) → is_live_schedule (rows_of ms) id ≡ true → is_day day ≡ false → answer ms (ScheduleStatus id day) ≡ bad_date day
   -- `cell` and `sheet` of no month
   pub no_cell : (month : ℕ) (text : List ℕ) → is_month month ≡ false → answer ms (Cell month text) ≡ bad_month month
   pub no_sheet : (month : ℕ) → is_month month ≡ false → answer ms (Sheet month) ≡ bad_month month

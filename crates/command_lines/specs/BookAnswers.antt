@@ -1,10 +1,11 @@
 -- What the lines that ask of the books are answered, of a book's rows.
-use Rattle.std.specs.Prelude.{ℕ, ℤ, ◌-◌, ◌==◌, List, [], ◌∷◌, ◌++◌, length, take, map as list_map, Option, None, Some, if◌then◌else◌}
+use Rattle.std.specs.Prelude.{ℕ, ℤ, ◌-◌, ◌==◌, List, [], ◌∷◌, ◌++◌, length, take, map as list_map, codes, Option, None, Some, if◌then◌else◌}
 use Rattle.std.specs.Fmt.{signed_decimal}
 use Rattle.std.specs.List.{slice_split}
 use Rattle.finite_sums.specs.Maps.{Text}
 use Rattle.book_rows.specs.declared.rows.Rows.{Rows}
-use Rattle.book_rows.specs.Live.{is_live_account}
+use Rattle.book_rows.specs.Kinds.{is_day}
+use Rattle.book_rows.specs.Live.{is_live_account, is_live_schedule}
 use Rattle.book_rows.specs.Balances.{balance_of}
 use Rattle.book_rows.specs.Months.{is_month}
 use Rattle.envelope_cells.specs.declared.name.Cell.{Cell}
@@ -14,9 +15,12 @@ use Rattle.envelope_cells.specs.CellOf.{cell_of}
 use Rattle.envelope_cells.specs.SheetOf.{sheet_of}
 use Rattle.envelope_cells.specs.Text.{kind_text}
 use Rattle.split_transfer.specs.Broken.{broken}
+use Rattle.schedules.specs.declared.standing.ScheduleStatus.{ScheduleStatus}
+use Rattle.schedules.specs.declared.standing.ScheduleStatus.TheVariants.{Completed, Paid, Due, Upcoming, Missed, Scheduled}
+use Rattle.schedules.specs.Status.{status_in}
 use Rattle.command_lines.specs.declared.reply.Reply.{Reply}
 use Rattle.command_lines.specs.declared.reply.Reply.TheVariants.{Done}
-use Rattle.command_lines.specs.Refusals.{no_such_account, no_such_group, no_such_category, bad_month}
+use Rattle.command_lines.specs.Refusals.{no_such_account, no_such_group, no_such_category, no_such_schedule, bad_date, bad_month}
 use Rattle.command_lines.specs.Replies.{faulty}
 use Rattle.command_lines.specs.Register.{register_lines}
 use Rattle.command_lines.specs.CellNames.{is_of_group, cell_named}
@@ -63,3 +67,22 @@ lines_of text = take (length (pieces text) - 1) (pieces text)
 -- `broken`: the lines that tell which pairs and splits are wrong
 abbrev pub broken_answer : Rows → Reply
 broken_answer rows = Done (lines_of (broken rows))
+
+-- the word for how a schedule stands
+abbrev pub status_text : ScheduleStatus → Text
+status_text Completed = codes "completed"
+status_text Paid = codes "paid"
+status_text Due = codes "due"
+status_text Upcoming = codes "upcoming"
+status_text Missed = codes "missed"
+status_text Scheduled = codes "scheduled"
+
+-- how a schedule stands, or that there is none
+abbrev pub told_status : Text → Option ScheduleStatus → Reply
+told_status id (Some status) = Done (status_text status ∷ [])
+told_status id None = no_such_schedule id
+
+-- `schedule-status`: how a live schedule stands on a day. The schedule is judged first
+abbrev pub status_answer : Rows → Text → ℕ → Reply
+status_answer rows id day =
+    if is_live_schedule rows id then (if is_day day then told_status id (status_in rows id day) else bad_date day) else no_such_schedule id

@@ -5,7 +5,7 @@ use Rattle.field_values.specs.Names.{field_of}
 use Rattle.field_values.specs.Value.{value_of}
 use Rattle.field_merge.specs.Lines.{parts}
 use Rattle.field_merge.specs.Messages.{IsMessage, message_of}
-use Rattle.device_core.specs.declared.edit.Edit.TheVariants.{Book, Pair}
+use Rattle.device_core.specs.declared.edit.Edit.TheVariants.{Book, Pair, Rule, Schedule as OfSchedule, Import}
 use Rattle.device_core.specs.Edits.{IsEdit}
 use Rattle.book_edits.specs.declared.edit.BookEdit.{BookEdit}
 use Rattle.book_edits.specs.declared.edit.BookEdit.TheVariants.{Set, AccountAdd, AccountRename, AccountOffbudget, AccountReopen, AccountClose, GroupAdd, GroupRename, GroupDelete, CategoryAdd, CategoryRename, CategoryMove, CategoryDelete, PayeeAdd, PayeeRename, PayeeDelete, TxAdd, Budget, Carryover, Hold, Move, Note}
@@ -14,11 +14,15 @@ use Rattle.split_transfer.specs.declared.edit.PairEdit.TheVariants.{TxSet, TxDel
 use Rattle.split_transfer.specs.declared.edit.TxChange.{TxChange}
 use Rattle.split_transfer.specs.declared.edit.TxChange.TheVariants.{Date, Amount, Account, Payee, Category, Notes, Cleared, Schedule}
 use Rattle.split_transfer.specs.declared.edit.SplitPart.{SplitPart}
+use Rattle.rule_engine.specs.declared.edit.RuleEdit.{RuleEdit}
+use Rattle.rule_engine.specs.declared.edit.RuleEdit.TheVariants.{RuleAdd, RuleDelete, RulesRun}
+use Rattle.schedules.specs.declared.edit.ScheduleEdit.{ScheduleEdit}
+use Rattle.schedules.specs.declared.edit.ScheduleEdit.TheVariants.{Add, Post, Skip, Delete}
 use Rattle.command_lines.specs.declared.command.Command.{Command}
-use Rattle.command_lines.specs.declared.command.Command.TheVariants.{Edit, Undo, Redo, Receive, Fields, Messages, Value, Trie, Balance, Register, Cell, Sheet, Broken, Sync}
+use Rattle.command_lines.specs.declared.command.Command.TheVariants.{Edit, Undo, Redo, Receive, Fields, Messages, Value, Trie, Balance, Register, Cell, Sheet, Broken, ScheduleStatus, Sync}
 use Rattle.command_lines.specs.declared.command.CommandFault.{CommandFault}
 use Rattle.command_lines.specs.declared.command.CommandFault.TheVariants.{BadCommand, NoMemory}
-use Rattle.command_lines.specs.Forms.{Share, Wanted, word, some_shares, no_more, misfit, stamp_word, name_word, amount_word, flag_word, date_word, month_word, id_word, command_of}
+use Rattle.command_lines.specs.Forms.{Share, Wanted, word, some_texts, some_shares, no_more, misfit, stamp_word, name_word, amount_word, flag_word, date_word, month_word, id_word, stage_word, op_word, command_of}
 
 -- an edit of the books
 abbrev pub edit : BookEdit → Command
@@ -157,6 +161,48 @@ split_words = word (λ id. some_shares [] (λ shares. pair (Split id (map part_o
 abbrev pub transfer_words : Wanted
 transfer_words = word (λ from. word (λ to. date_word (λ date. amount_word (λ amount. word (λ notes. no_more (pair (Transfer from to date amount notes)))))))
 
+-- an edit of rules, or of transactions by rules
+abbrev pub rule : RuleEdit → Command
+rule e = Edit (Rule e)
+
+-- `rule-add`: an id or a hyphen for a new one, a stage, whether all conditions have to hold or one, the conditions and the actions
+abbrev pub rule_add_words : Wanted
+rule_add_words = id_word (λ id. stage_word (λ stage. op_word (λ op. word (λ conditions. word (λ actions. no_more (rule (RuleAdd id stage op conditions actions)))))))
+
+-- `rule-delete`: a rule
+abbrev pub rule_delete_words : Wanted
+rule_delete_words = word (λ id. no_more (rule (RuleDelete id)))
+
+-- `rules-run`: transactions, one or more
+abbrev pub rules_run_words : Wanted
+rules_run_words = some_texts [] (λ ids. rule (RulesRun ids))
+
+-- an edit of a schedule
+abbrev pub scheduling : ScheduleEdit → Command
+scheduling e = Edit (OfSchedule e)
+
+-- `schedule-add`: an id or a hyphen for a new one, a name, an account, a payee or a hyphen for none, an amount and a recurrence
+abbrev pub schedule_add_words : Wanted
+schedule_add_words = id_word (λ id. word (λ name. word (λ account. id_word (λ payee. amount_word (λ amount. word (λ recur. no_more (scheduling (Add id name account payee amount recur))))))))
+
+-- the lines that go on with a schedule, or delete it: a schedule
+abbrev pub schedule_post_words : Wanted
+schedule_post_words = word (λ id. no_more (scheduling (Post id)))
+
+abbrev pub schedule_skip_words : Wanted
+schedule_skip_words = word (λ id. no_more (scheduling (Skip id)))
+
+abbrev pub schedule_delete_words : Wanted
+schedule_delete_words = word (λ id. no_more (scheduling (Delete id)))
+
+-- `import`: an account and a statement
+abbrev pub import_words : Wanted
+import_words = word (λ account. word (λ statement. no_more (Edit (Import (record { account = account; statement = statement })))))
+
+-- `schedule-status`: a schedule and a day
+abbrev pub schedule_status_words : Wanted
+schedule_status_words = word (λ id. date_word (λ day. no_more (ScheduleStatus id day)))
+
 -- the lines that take back the latest edit or the latest undo, and the one that syncs with the server: no word
 abbrev pub undo_words : Wanted
 undo_words = no_more Undo
@@ -270,6 +316,28 @@ pair_lines =
     ∷ (codes "transfer", transfer_words)
     ∷ []
 
+-- the lines that edit rules, and transactions by rules
+abbrev pub rule_lines : List LineForm
+rule_lines =
+    (codes "rule-add", rule_add_words)
+    ∷ (codes "rule-delete", rule_delete_words)
+    ∷ (codes "rules-run", rules_run_words)
+    ∷ []
+
+-- the lines about schedules
+abbrev pub schedule_lines : List LineForm
+schedule_lines =
+    (codes "schedule-add", schedule_add_words)
+    ∷ (codes "schedule-post", schedule_post_words)
+    ∷ (codes "schedule-skip", schedule_skip_words)
+    ∷ (codes "schedule-delete", schedule_delete_words)
+    ∷ (codes "schedule-status", schedule_status_words)
+    ∷ []
+
+-- the line about statements
+abbrev pub statement_lines : List LineForm
+statement_lines = (codes "import", import_words) ∷ []
+
 -- the lines of a session
 abbrev pub session_lines : List LineForm
 session_lines =
@@ -282,8 +350,17 @@ session_lines =
 unfoldable pub words_of_session_lines : List ℕ → Wanted
 words_of_session_lines name = words_in session_lines name misfit
 
+unfoldable pub words_of_statement_lines : List ℕ → Wanted
+words_of_statement_lines name = words_in statement_lines name (words_of_session_lines name)
+
+unfoldable pub words_of_schedule_lines : List ℕ → Wanted
+words_of_schedule_lines name = words_in schedule_lines name (words_of_statement_lines name)
+
+unfoldable pub words_of_rule_lines : List ℕ → Wanted
+words_of_rule_lines name = words_in rule_lines name (words_of_schedule_lines name)
+
 unfoldable pub words_of_pair_lines : List ℕ → Wanted
-words_of_pair_lines name = words_in pair_lines name (words_of_session_lines name)
+words_of_pair_lines name = words_in pair_lines name (words_of_rule_lines name)
 
 unfoldable pub words_of_book_lines : List ℕ → Wanted
 words_of_book_lines name = words_in book_lines name (words_of_pair_lines name)

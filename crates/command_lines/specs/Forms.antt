@@ -10,6 +10,10 @@ use Rattle.hybrid_clock.specs.declared.stamp.StampFault.{StampFault}
 use Rattle.hybrid_clock.specs.Reading.{read_stamp}
 use Rattle.field_merge.specs.Escapes.{unescaped, bad_escape}
 use Rattle.book_rows.specs.Months.{behind as before_last, two_at, four_at}
+use Rattle.rule_engine.specs.declared.rule.Stage.{Stage}
+use Rattle.rule_engine.specs.declared.rule.Stage.TheVariants.{Pre, Plain, Post}
+use Rattle.rule_engine.specs.declared.rule.RuleOp.{RuleOp}
+use Rattle.rule_engine.specs.declared.rule.RuleOp.TheVariants.{And, Or}
 use Rattle.command_lines.specs.declared.command.Command.{Command}
 
 -- an amount, and an id or none
@@ -73,6 +77,16 @@ month_of text =
     if length text == 7 then (if slice_index text 4 == 45 then before_last 100 (four_at text 0) (two_at text 5) else None)
     else None
 
+-- the stage of a rule: `none` is neither of the others
+abbrev pub stage_of : List ℕ → Option Stage
+stage_of text =
+    if bytes_eq text (codes "pre") then Some Pre
+    else (if bytes_eq text (codes "none") then Some Plain else (if bytes_eq text (codes "post") then Some Post else None))
+
+-- whether all conditions of a rule have to hold, or one
+abbrev pub op_of : List ℕ → Option RuleOp
+op_of text = if bytes_eq text (codes "and") then Some And else (if bytes_eq text (codes "or") then Some Or else None)
+
 -- what is wanted behind a word that was read, or was not of its form
 abbrev pub if_read : {A : Type 0} → (A → Wanted) → Option A → Wanted
 if_read next (Some a) = next a
@@ -93,6 +107,12 @@ date_word = form_word date_of
 
 abbrev pub month_word : (ℕ → Wanted) → Wanted
 month_word = form_word month_of
+
+abbrev pub stage_word : (Stage → Wanted) → Wanted
+stage_word = form_word stage_of
+
+abbrev pub op_word : (RuleOp → Wanted) → Wanted
+op_word = form_word op_of
 
 -- an id that may be left out: a hyphen stands for none
 abbrev pub id_or_none : List ℕ → Option (List ℕ)

@@ -20,6 +20,14 @@ no_such_group id = Refused 4 (codes "no-such-group") id
 abbrev pub no_such_category : List ℕ → Reply
 no_such_category id = Refused 5 (codes "no-such-category") id
 
+-- there is no live schedule of this id
+abbrev pub no_such_schedule : List ℕ → Reply
+no_such_schedule id = Refused 20 (codes "no-such-schedule") id
+
+-- this is no day
+abbrev pub bad_date : ℕ → Reply
+bad_date n = Refused 8 (codes "bad-date") (decimal n)
+
 -- this is no month
 abbrev pub bad_month : ℕ → Reply
 bad_month n = Refused 10 (codes "bad-month") (decimal n)
@@ -52,7 +60,7 @@ refused_edit (NoSuchGroup id) = Some (no_such_group id)
 refused_edit (NoSuchCategory id) = Some (no_such_category id)
 refused_edit (NoSuchPayee id) = Some (Refused 6 (codes "no-such-payee") id)
 refused_edit (NoSuchTransaction id) = Some (Refused 7 (codes "no-such-transaction") id)
-refused_edit (BadDate n) = Some (Refused 8 (codes "bad-date") (decimal n))
+refused_edit (BadDate n) = Some (bad_date n)
 refused_edit (BadAmount n) = Some (Refused 9 (codes "bad-amount") (signed_decimal n))
 refused_edit (BadMonth n) = Some (bad_month n)
 refused_edit (SplitSum difference) = Some (Refused 11 (codes "split-sum") (signed_decimal difference))
@@ -64,7 +72,7 @@ refused_edit (IncomeCategory id) = Some (Refused 16 (codes "income-category") id
 refused_edit (NameTaken id) = Some (Refused 17 (codes "name-taken") id)
 refused_edit (TooManyWrites n) = Some (Refused 18 (codes "too-many-writes") (decimal n))
 refused_edit (BadRule part at) = Some (Refused 19 (codes "bad-rule") (rule_part part ++ 32 ∷ decimal at))
-refused_edit (NoSuchSchedule id) = Some (Refused 20 (codes "no-such-schedule") id)
+refused_edit (NoSuchSchedule id) = Some (no_such_schedule id)
 refused_edit (BadRecur part) = Some (Refused 21 (codes "bad-recur") (recur_part part))
 refused_edit (ScheduleDone id) = Some (Refused 22 (codes "schedule-done") id)
 refused_edit (BadStatement row column) = Some (Refused 23 (codes "bad-statement") (decimal row ++ 32 ∷ decimal column))

@@ -6,7 +6,7 @@ use Rattle.field_merge.specs.declared.message.Message.{Message}
 use Rattle.field_merge.specs.Escapes.{raw_escaped}
 use Rattle.field_merge.specs.Lines.{reading}
 use Rattle.field_merge.specs.Messages.{message_texts, line_of_texts}
-use Rattle.device_core.specs.declared.edit.Edit.TheVariants.{Book, Pair}
+use Rattle.device_core.specs.declared.edit.Edit.TheVariants.{Book, Pair, Rule, Schedule as OfSchedule, Import}
 use Rattle.book_edits.specs.declared.edit.BookEdit.{BookEdit}
 use Rattle.book_edits.specs.declared.edit.BookEdit.TheVariants.{Set, AccountAdd, AccountRename, AccountOffbudget, AccountReopen, AccountClose, GroupAdd, GroupRename, GroupDelete, CategoryAdd, CategoryRename, CategoryMove, CategoryDelete, PayeeAdd, PayeeRename, PayeeDelete, TxAdd, Budget, Carryover, Hold, Move, Note}
 use Rattle.split_transfer.specs.declared.edit.PairEdit.{PairEdit}
@@ -14,12 +14,20 @@ use Rattle.split_transfer.specs.declared.edit.PairEdit.TheVariants.{TxSet, TxDel
 use Rattle.split_transfer.specs.declared.edit.TxChange.{TxChange}
 use Rattle.split_transfer.specs.declared.edit.TxChange.TheVariants.{Date, Amount, Account, Payee, Category, Notes, Cleared, Schedule}
 use Rattle.split_transfer.specs.declared.edit.SplitPart.{SplitPart}
+use Rattle.rule_engine.specs.declared.rule.Stage.{Stage}
+use Rattle.rule_engine.specs.declared.rule.Stage.TheVariants.{Pre, Plain, Post as PostStage}
+use Rattle.rule_engine.specs.declared.rule.RuleOp.{RuleOp}
+use Rattle.rule_engine.specs.declared.edit.RuleEdit.{RuleEdit}
+use Rattle.rule_engine.specs.declared.edit.RuleEdit.TheVariants.{RuleAdd, RuleDelete, RulesRun}
+use Rattle.rule_engine.specs.Edits.{op_text}
+use Rattle.schedules.specs.declared.edit.ScheduleEdit.{ScheduleEdit}
+use Rattle.schedules.specs.declared.edit.ScheduleEdit.TheVariants.{Add, Post, Skip, Delete}
 use Rattle.std.specs.Fmt.{signed_decimal}
 use Rattle.book_rows.specs.Ids.{two_digits, four_digits, month_id}
 use Rattle.command_lines.specs.Forms.{is_amount}
 use Rattle.command_lines.specs.FormLaws.{id_text}
 use Rattle.command_lines.specs.declared.command.Command.{Command}
-use Rattle.command_lines.specs.declared.command.Command.TheVariants.{Edit, Undo, Redo, Receive, Fields, Messages, Value, Trie, Balance, Register, Cell, Sheet, Broken, Sync}
+use Rattle.command_lines.specs.declared.command.Command.TheVariants.{Edit, Undo, Redo, Receive, Fields, Messages, Value, Trie, Balance, Register, Cell, Sheet, Broken, ScheduleStatus, Sync}
 use Rattle.command_lines.specs.Commands.{command, longest_line, IsCommand}
 
 -- how a flag is written, a number YYYYMMDD and a number YYYYMM
@@ -80,6 +88,24 @@ pair_texts (TxDelete id) = codes "tx-delete" ∷ id ∷ []
 pair_texts (Split id parts) = codes "split" ∷ id ∷ flat_map part_texts parts
 pair_texts (Transfer from to date amount notes) = codes "transfer" ∷ from ∷ to ∷ date_text date ∷ signed_decimal amount ∷ notes ∷ []
 
+-- the word for a stage; that for how many conditions have to hold is the one that the rule's row gets
+abbrev pub stage_text : Stage → List ℕ
+stage_text Pre = codes "pre"
+stage_text Plain = codes "none"
+stage_text PostStage = codes "post"
+
+abbrev pub rule_texts : RuleEdit → List (List ℕ)
+rule_texts (RuleAdd id stage op conditions actions) = codes "rule-add" ∷ id_text id ∷ stage_text stage ∷ op_text op ∷ conditions ∷ actions ∷ []
+rule_texts (RuleDelete id) = codes "rule-delete" ∷ id ∷ []
+rule_texts (RulesRun ids) = codes "rules-run" ∷ ids
+
+abbrev pub schedule_texts : ScheduleEdit → List (List ℕ)
+schedule_texts (Add id name account payee amount recur) =
+    codes "schedule-add" ∷ id_text id ∷ name ∷ account ∷ id_text payee ∷ signed_decimal amount ∷ recur ∷ []
+schedule_texts (Post id) = codes "schedule-post" ∷ id ∷ []
+schedule_texts (Skip id) = codes "schedule-skip" ∷ id ∷ []
+schedule_texts (Delete id) = codes "schedule-delete" ∷ id ∷ []
+
 -- an id that is given is no hyphen, a date has eight digits at most and a month six, and an amount has 64 bits
 abbrev pub IsGiven : Option (List ℕ) → Type 0
 IsGiven id = id ≢ Some (codes "-")
@@ -124,18 +150,34 @@ CanWritePair (TxDelete id) = Unit {0}
 CanWritePair (Split id parts) = (parts ≢ []) × AllByRecursion CanWritePart parts
 CanWritePair (Transfer from to date amount notes) = HasEight date × Has64Bits amount
 
+-- rules run on a transaction, or on several
+abbrev pub CanWriteRule : RuleEdit → Type 0
+CanWriteRule (RuleAdd id stage op conditions actions) = IsGiven id
+CanWriteRule (RuleDelete id) = Unit {0}
+CanWriteRule (RulesRun ids) = ids ≢ []
+
+abbrev pub CanWriteSchedule : ScheduleEdit → Type 0
+CanWriteSchedule (Add id name account payee amount recur) = IsGiven id × IsGiven payee × Has64Bits amount
+CanWriteSchedule other = Unit {0}
+
 -- the words of a line can write what the command holds
 abbrev pub CanBeWritten : Command → Type 0
 CanBeWritten (Edit (Book edit)) = CanWriteEdit edit
 CanBeWritten (Edit (Pair edit)) = CanWritePair edit
+CanBeWritten (Edit (Rule edit)) = CanWriteRule edit
+CanBeWritten (Edit (OfSchedule edit)) = CanWriteSchedule edit
 CanBeWritten (Cell month name) = HasSix month
 CanBeWritten (Sheet month) = HasSix month
+CanBeWritten (ScheduleStatus id day) = HasEight day
 CanBeWritten other = Unit {0}
 
 -- the name of a command and its words, each as a text
 abbrev pub command_texts : Command → List (List ℕ)
 command_texts (Edit (Book edit)) = edit_texts edit
 command_texts (Edit (Pair edit)) = pair_texts edit
+command_texts (Edit (Rule edit)) = rule_texts edit
+command_texts (Edit (OfSchedule edit)) = schedule_texts edit
+command_texts (Edit (Import edit)) = codes "import" ∷ edit.account ∷ edit.statement ∷ []
 command_texts Undo = codes "undo" ∷ []
 command_texts Redo = codes "redo" ∷ []
 command_texts (Receive message) = codes "receive" ∷ message_texts message
@@ -148,6 +190,7 @@ command_texts (Register account) = codes "register" ∷ account ∷ []
 command_texts (Cell month name) = codes "cell" ∷ month_text month ∷ name ∷ []
 command_texts (Sheet month) = codes "sheet" ∷ month_text month ∷ []
 command_texts Broken = codes "broken" ∷ []
+command_texts (ScheduleStatus id day) = codes "schedule-status" ∷ id ∷ date_text day ∷ []
 command_texts Sync = codes "sync" ∷ []
 
 -- the line of a command

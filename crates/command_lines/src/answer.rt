@@ -16,6 +16,7 @@ ghost use Rattle.command_lines.specs.Readings.{answer, book_answer, shown, IsRea
 use crate::book_answer::{balance_reply, broken_reply, cell_reply, register_reply, sheet_reply};
 use crate::command::Command;
 use crate::reply::{Reply, one_line};
+use crate::schedule_answer::status_reply;
 use crate::text_lines::lines_in;
 use book_rows::Book;
 use device_core::Device;
@@ -139,6 +140,7 @@ fn book_reply_over<G: Ledger>(
         Command::Cell { month, name } => cell_reply(alloc, book, *month, name, &mut steps),
         Command::Sheet { month } => sheet_reply(alloc, book, *month, &mut steps),
         Command::Broken => broken_reply(alloc, book),
+        Command::ScheduleStatus { id, day } => status_reply(alloc, book, id, *day),
         _ => unreachable!(),
     }
 }
@@ -161,7 +163,7 @@ fn told_of_books(alloc: Global, device: &Device, command: &Command) -> Result<Re
     book_reply(alloc, device.book(), command)
 }
 
-/// The reply to a line that only reads: `fields`, `messages`, `value`, `trie`, `balance`, `register`, `cell`, `sheet` or `broken`. It is told
+/// The reply to a line that only reads: `fields`, `messages`, `value`, `trie`, `balance`, `register`, `cell`, `sheet`, `broken` or `schedule-status`. It is told
 /// by the device's messages alone, so devices that have the same messages reply the same.
 pub fn read_reply(alloc: Global, device: &Device, command: &Command) -> Result<Reply, NoMemory>
     requires live { device.now.spent ≡ false }
@@ -186,7 +188,8 @@ pub fn read_reply(alloc: Global, device: &Device, command: &Command) -> Result<R
         | Command::Register { .. }
         | Command::Cell { .. }
         | Command::Sheet { .. }
-        | Command::Broken => told_of_books(alloc, device, command),
+        | Command::Broken
+        | Command::ScheduleStatus { .. } => told_of_books(alloc, device, command),
         Command::Edit(_)
         | Command::Undo
         | Command::Redo

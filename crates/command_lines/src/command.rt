@@ -41,6 +41,8 @@ pub enum Command {
     Sheet { month: u32 },
     /// `broken`: the transfers and splits that are wrong.
     Broken,
+    /// `schedule-status ID DAY`: how a schedule stands on a day YYYYMMDD.
+    ScheduleStatus { id: Txt, day: u32 },
     /// `sync`: hands the server what the device has, and takes what the server has.
     Sync,
 }
@@ -86,6 +88,10 @@ impl Command {
             }),
             Command::Sheet { month } => Ok(Command::Sheet { month: *month }),
             Command::Broken => Ok(Command::Broken),
+            Command::ScheduleStatus { id, day } => Ok(Command::ScheduleStatus {
+                id: id.copy()?,
+                day: *day,
+            }),
             Command::Sync => Ok(Command::Sync),
         }
     }

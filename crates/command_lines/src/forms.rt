@@ -1,8 +1,9 @@
-//! The forms of words: amounts, flags, dates and months.
+//! The forms of words: amounts, flags, dates, months, and how a rule runs.
 ghost use Rattle.std.specs.Prelude.{◌≡◌, ◌<◌, ◌+◌, IfSome, length};
 ghost use Rattle.book_rows.specs.Months.{digit_of, two_at, four_at};
-ghost use Rattle.command_lines.specs.Forms.{amount_of, flag_of, date_of, month_of};
+ghost use Rattle.command_lines.specs.Forms.{amount_of, flag_of, date_of, month_of, stage_of, op_of};
 
+use device_core::{RuleOp, Stage};
 use itoa::Buffer;
 
 /// The amount whose decimal text this is: with no plus, no leading zero and no minus before 0, and of 64 bits.
@@ -29,6 +30,35 @@ pub(crate) fn flag_in(text: &str) -> Option<bool>
     }
     if text == "0" {
         return Some(false);
+    }
+    None
+}
+
+/// The stage of a rule that a word names: `none` is neither of the others.
+pub(crate) fn stage_in(text: &str) -> Option<Stage>
+    ensures { result ≡ stage_of text.now }
+{
+    if text == "pre" {
+        return Some(Stage::Pre);
+    }
+    if text == "none" {
+        return Some(Stage::Plain);
+    }
+    if text == "post" {
+        return Some(Stage::Post);
+    }
+    None
+}
+
+/// How many conditions of a rule have to hold, by a word.
+pub(crate) fn op_in(text: &str) -> Option<RuleOp>
+    ensures { result ≡ op_of text.now }
+{
+    if text == "and" {
+        return Some(RuleOp::And);
+    }
+    if text == "or" {
+        return Some(RuleOp::Or);
     }
     None
 }

@@ -7,7 +7,7 @@ ghost use Rattle.command_lines.specs.Forms.{Wanted, Share, some_shares, word, da
 ghost use Rattle.command_lines.specs.Unread.{command_of_unread, HasText, IsFaultOf};
 
 use crate::command::{Command, CommandFault};
-use crate::session_lines::session_line;
+use crate::rule_lines::rule_line;
 use crate::words::Words;
 use device_core::{Edit, PairEdit, SplitPart, TxChange};
 use field_values::Items;
@@ -241,6 +241,6 @@ pub(crate) fn pair_line(
         "tx-delete" => tx_delete(alloc, words),
         "split" => split(alloc, words),
         "transfer" => transfer(alloc, words),
-        _ => session_line(name, words),
+        _ => rule_line(alloc, name, words),
     }
 }

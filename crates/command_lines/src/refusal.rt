@@ -2,7 +2,7 @@
 ghost use Rattle.std.specs.Prelude.{◌≡◌, ◌++◌, ◌∷◌, [], IfOk, Some};
 ghost use Rattle.std.specs.Fmt.{decimal, signed_decimal};
 ghost use Rattle.command_lines.specs.declared.reply.Reply.TheVariants.{Refused};
-ghost use Rattle.command_lines.specs.Refusals.{rule_part, recur_part, refused_edit, no_such_account, no_such_group, no_such_category, bad_month as bad_month_reply};
+ghost use Rattle.command_lines.specs.Refusals.{rule_part, recur_part, refused_edit, no_such_account, no_such_group, no_such_category, no_such_schedule, bad_date as bad_date_reply, bad_month as bad_month_reply};
 
 use crate::reply::{Reply, number_text, refusal};
 use book_rows::{EditFault, RecurPart, RulePart};
@@ -57,6 +57,20 @@ pub(crate) fn no_category(alloc: Global, id: &Txt) -> Result<Reply, NoMemory>
     ensures { IfOk result (λ r. r ≡ no_such_category id.now) }
 {
     with_id(alloc, 5, "no-such-category", id)
+}
+
+/// There is no live schedule of this id.
+pub(crate) fn no_schedule(alloc: Global, id: &Txt) -> Result<Reply, NoMemory>
+    ensures { IfOk result (λ r. r ≡ no_such_schedule id.now) }
+{
+    with_id(alloc, 20, "no-such-schedule", id)
+}
+
+/// This is no day of the calendar.
+pub(crate) fn bad_date(alloc: Global, date: u32) -> Result<Reply, NoMemory>
+    ensures { IfOk result (λ r. r ≡ bad_date_reply date) }
+{
+    with_number(alloc, 8, "bad-date", date as u64)
 }
 
 /// This is no month.
@@ -133,7 +147,7 @@ pub(crate) fn edit_refusal(alloc: Global, fault: &EditFault) -> Result<Reply, No
         EditFault::NoSuchCategory { id } => no_category(alloc, id),
         EditFault::NoSuchPayee { id } => with_id(alloc, 6, "no-such-payee", id),
         EditFault::NoSuchTransaction { id } => with_id(alloc, 7, "no-such-transaction", id),
-        EditFault::BadDate { n } => with_number(alloc, 8, "bad-date", *n as u64),
+        EditFault::BadDate { n } => bad_date(alloc, *n),
         EditFault::BadAmount { n } => with_amount(alloc, 9, "bad-amount", *n),
         EditFault::BadMonth { n } => bad_month(alloc, *n),
         EditFault::SplitSum { difference } => with_amount(alloc, 11, "split-sum", *difference),
@@ -145,7 +159,7 @@ pub(crate) fn edit_refusal(alloc: Global, fault: &EditFault) -> Result<Reply, No
         EditFault::NameTaken { id } => with_id(alloc, 17, "name-taken", id),
         EditFault::TooManyWrites { n } => with_number(alloc, 18, "too-many-writes", *n),
         EditFault::BadRule { part, at } => bad_rule(alloc, *part, *at),
-        EditFault::NoSuchSchedule { id } => with_id(alloc, 20, "no-such-schedule", id),
+        EditFault::NoSuchSchedule { id } => no_schedule(alloc, id),
         EditFault::BadRecur { part } => bad_recur(alloc, *part),
         EditFault::ScheduleDone { id } => with_id(alloc, 22, "schedule-done", id),
         EditFault::BadStatement { row, column } => bad_statement(alloc, *row, *column),

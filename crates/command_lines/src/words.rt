@@ -5,13 +5,16 @@ ghost use Rattle.field_values.specs.Names.{IsName};
 ghost use Rattle.field_merge.specs.Lines.{parts};
 ghost use Rattle.hybrid_clock.specs.Stamp.{IsStamp};
 ghost use Rattle.hybrid_clock.specs.declared.stamp.Stamp.{Stamp};
+ghost use Rattle.rule_engine.specs.declared.rule.Stage.{Stage};
+ghost use Rattle.rule_engine.specs.declared.rule.RuleOp.{RuleOp};
 ghost use Rattle.command_lines.specs.declared.command.Command.{Command};
 ghost use Rattle.command_lines.specs.Commands.{IsCommandFault};
-ghost use Rattle.command_lines.specs.Forms.{Wanted, word, no_more, stamp_word, name_word, amount_word, flag_word, date_word, month_word, id_word};
+ghost use Rattle.command_lines.specs.Forms.{Wanted, word, no_more, stamp_word, name_word, amount_word, flag_word, date_word, month_word, id_word, stage_word, op_word};
 ghost use Rattle.command_lines.specs.Unread.{words_of, command_of_unread, HasText};
 
 use crate::command::CommandFault;
-use crate::forms::{amount_in, date_in, flag_in, month_in};
+use crate::forms::{amount_in, date_in, flag_in, month_in, op_in, stage_in};
+use device_core::{RuleOp, Stage};
 use field_merge::{bad_escape, cut_part, unescape};
 use field_values::{NamePart, Txt, check_name};
 use hybrid_clock::Stamp;
@@ -205,6 +208,36 @@ impl<'a> Words<'a> {
     {
         let text = self.text(alloc)?;
         match month_in(text.as_str()) {
+            Some(read) => Ok(read),
+            None => Err(self.at_last()),
+        }
+    }
+
+    /// The stage of a rule that the next word names. The word is at fault where it is missing, has a bad escape, or is none of `pre`,
+    /// `none` and `post`.
+    pub(crate) fn stage(&mut self, alloc: Global) -> Result<Stage, CommandFault>
+        ensures ok { IfOk result (λ stage. (next : Stage → Wanted) → command_of_unread (stage_word next) self.old ≡ command_of_unread (next stage) self.new) }
+        ensures err { IfErr result (λ fault. (next : Stage → Wanted) → IsCommandFault (command_of_unread (stage_word next) self.old) fault) }
+        ensures there { OnOk result (HasText self.old.words) }
+        ensures memory { IfErr result (λ fault. fault ≡ CommandFault.NoMemory → HasText self.old.words) }
+    {
+        let text = self.text(alloc)?;
+        match stage_in(text.as_str()) {
+            Some(read) => Ok(read),
+            None => Err(self.at_last()),
+        }
+    }
+
+    /// How many conditions of a rule have to hold, by the next word. The word is at fault where it is missing, has a bad escape, or is
+    /// neither `and` nor `or`.
+    pub(crate) fn op(&mut self, alloc: Global) -> Result<RuleOp, CommandFault>
+        ensures ok { IfOk result (λ op. (next : RuleOp → Wanted) → command_of_unread (op_word next) self.old ≡ command_of_unread (next op) self.new) }
+        ensures err { IfErr result (λ fault. (next : RuleOp → Wanted) → IsCommandFault (command_of_unread (op_word next) self.old) fault) }
+        ensures there { OnOk result (HasText self.old.words) }
+        ensures memory { IfErr result (λ fault. fault ≡ CommandFault.NoMemory → HasText self.old.words) }
+    {
+        let text = self.text(alloc)?;
+        match op_in(text.as_str()) {
             Some(read) => Ok(read),
             None => Err(self.at_last()),
         }

@@ -1,7 +1,9 @@
-//! Copies of edits of transactions that hang together.
+//! Copies of edits: of transactions that hang together, of rules and of schedules.
 ghost use Rattle.std.specs.Prelude.{◌≡◌, IfOk};
 
 use field_values::{Items, NoMemory, Txt};
+use rule_engine::RuleEdit;
+use schedules::ScheduleEdit;
 use split_transfer::{PairEdit, SplitPart, TxChange};
 use std::alloc::Global;
 
@@ -79,5 +81,56 @@ pub(crate) fn copy_pair(alloc: Global, edit: &PairEdit) -> Result<PairEdit, NoMe
             amount: *amount,
             notes: notes.copy()?,
         }),
+    }
+}
+
+/// An equal edit.
+pub(crate) fn copy_rule(alloc: Global, edit: &RuleEdit) -> Result<RuleEdit, NoMemory>
+    ensures { IfOk result (λ e. e ≡ edit.now) }
+{
+    match edit {
+        RuleEdit::RuleAdd {
+            id,
+            stage,
+            op,
+            conditions,
+            actions,
+        } => Ok(RuleEdit::RuleAdd {
+            id: copy_of(id)?,
+            stage: *stage,
+            op: *op,
+            conditions: conditions.copy()?,
+            actions: actions.copy()?,
+        }),
+        RuleEdit::RuleDelete { id } => Ok(RuleEdit::RuleDelete { id: id.copy()? }),
+        RuleEdit::RulesRun { ids } => Ok(RuleEdit::RulesRun {
+            ids: ids.copy(alloc)?,
+        }),
+    }
+}
+
+/// An equal edit.
+pub(crate) fn copy_schedule(edit: &ScheduleEdit) -> Result<ScheduleEdit, NoMemory>
+    ensures { IfOk result (λ e. e ≡ edit.now) }
+{
+    match edit {
+        ScheduleEdit::Add {
+            id,
+            name,
+            account,
+            payee,
+            amount,
+            recur,
+        } => Ok(ScheduleEdit::Add {
+            id: copy_of(id)?,
+            name: name.copy()?,
+            account: account.copy()?,
+            payee: copy_of(payee)?,
+            amount: *amount,
+            recur: recur.copy()?,
+        }),
+        ScheduleEdit::Post { id } => Ok(ScheduleEdit::Post { id: id.copy()? }),
+        ScheduleEdit::Skip { id } => Ok(ScheduleEdit::Skip { id: id.copy()? }),
+        ScheduleEdit::Delete { id } => Ok(ScheduleEdit::Delete { id: id.copy()? }),
     }
 }

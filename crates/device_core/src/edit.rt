@@ -5,11 +5,14 @@ ghost use Rattle.book_rows.specs.declared.fault.EditFault.TheVariants.{NoMemory 
 ghost use Rattle.book_edits.specs.Faults.{IsEditFault};
 ghost use Rattle.device_core.specs.Edits.{writes_of, IsEdit, MayWantMemory, RefusesId};
 
-use crate::copies::copy_pair;
+use crate::copies::{copy_pair, copy_rule, copy_schedule};
+use bank_import::{ImportEdit, import_writes};
 use book_edits::{BookEdit, writes};
 use book_rows::{Book, EditFault, Write};
 use field_values::NoMemory;
 use hybrid_clock::ClockFault;
+use rule_engine::{RuleEdit, rule_writes};
+use schedules::{ScheduleEdit, schedule_writes};
 use split_transfer::{PairEdit, pair_writes};
 use std::alloc::Global;
 
@@ -45,6 +48,12 @@ pub enum Edit {
     Book(BookEdit),
     /// An edit of a transaction and of those that hang together with it.
     Pair(PairEdit),
+    /// An edit of rules, or of transactions by rules.
+    Rule(RuleEdit),
+    /// An edit of a schedule.
+    Schedule(ScheduleEdit),
+    /// The import of a bank's statement.
+    Import(ImportEdit),
 }
 
 impl Edit {
@@ -55,6 +64,9 @@ impl Edit {
         match self {
             Edit::Book(edit) => Ok(Edit::Book(edit.copy()?)),
             Edit::Pair(edit) => Ok(Edit::Pair(copy_pair(alloc, edit)?)),
+            Edit::Rule(edit) => Ok(Edit::Rule(copy_rule(alloc, edit)?)),
+            Edit::Schedule(edit) => Ok(Edit::Schedule(copy_schedule(edit)?)),
+            Edit::Import(edit) => Ok(Edit::Import(edit.copy()?)),
         }
     }
 }
@@ -71,5 +83,8 @@ pub(crate) fn edit_writes(alloc: Global, book: &Book, edit: &Edit) -> Result<Vec
     match edit {
         Edit::Book(edit) => writes(alloc, book, edit),
         Edit::Pair(edit) => pair_writes(alloc, book, edit),
+        Edit::Rule(edit) => rule_writes(alloc, book, edit),
+        Edit::Schedule(edit) => schedule_writes(alloc, book, edit),
+        Edit::Import(edit) => import_writes(alloc, book, edit),
     }
 }

@@ -9,6 +9,7 @@ mod known;
 mod laws;
 mod placing;
 
+pub use bank_import::ImportEdit;
 pub use book_edits::BookEdit;
 pub use book_rows::{EditFault, RowName, Write, WriteValue};
 pub use device::Device;
@@ -19,4 +20,6 @@ pub use laws::{
     entries_are_taken_back, greatest_is_told, lines_are_undone, messages_are_answered,
     received_are_joined, writes_are_answered, writes_are_joined,
 };
+pub use rule_engine::{RuleEdit, RuleOp, Stage};
+pub use schedules::ScheduleEdit;
 pub use split_transfer::{PairEdit, SplitPart, TxChange};
