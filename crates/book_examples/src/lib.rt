@@ -1,10 +1,12 @@
-//! Examples of books and of sheets: the public calls of `book_rows` and `envelope_cells` with ample memory, on values that were
-//! written out by hand from the rules.
+//! Examples of books, sheets and recurrences: the public calls of `book_rows` and `envelope_cells` and some of `schedules` with ample
+//! memory, on values that were written out by hand from the rules, or that another program gave.
 #![tactic(auto)]
 
 #[cfg(test)]
 mod books;
 #[cfg(test)]
 mod copies;
+#[cfg(test)]
+mod recurring;
 #[cfg(test)]
 mod sheets;

@@ -6,7 +6,7 @@ use crate::books::book_of;
 use book_rows::Book;
 use envelope_cells::name::Sheet;
 use envelope_cells::{CellKind, CellName, CellValues, sheet, sheet_text};
-use field_values::{Steps, Txt};
+use field_values::{Copied, Steps, Txt};
 use std::alloc::Global;
 use std::marker::Brand;
 use std::sync::ledger::{Blank, Ledger};
@@ -173,7 +173,7 @@ fn year_off_the_budget(rt: HostRuntime) -> Result<(), Fail> {
 /// A copy of the name of a cell of January.
 fn named(alloc: Global, kind: CellKind, id: &str) -> Result<CellName, Fail> {
     let id = Txt::from_text(alloc, id)?;
-    Ok(CellName::make(202_401, kind, &id)?.copy()?)
+    Ok(CellName::make(202_401, kind, &id)?.copy()?.copied()?)
 }
 
 /// What a cell of January tells in that household.

@@ -9,10 +9,20 @@ mod calls;
 #[cfg(test)]
 mod checks;
 #[cfg(test)]
+mod pairs;
+#[cfg(test)]
 mod reads;
+#[cfg(test)]
+mod rules;
 #[cfg(test)]
 mod runs;
 #[cfg(test)]
+mod scheduled;
+#[cfg(test)]
+mod statements;
+#[cfg(test)]
 mod table;
+#[cfg(test)]
+mod undo;
 #[cfg(test)]
 mod words;
