@@ -46,7 +46,7 @@ module _ (found : BTreeMap Text Text) (key : Text) (e : Entry) (is : key_of e.1 
 
 -- ---- places
 
-behind : (at : ℕ) (names : List Text) (name key : Text)
+pub behind : (at : ℕ) (names : List Text) (name key : Text)
     → place_from at (names ++ name ∷ []) key ≡ option_or (place_from at names key) (cond (same_id (folded name) key) (Some (at + length names)) None)
 behind at [] name key = let e : at ≡ at + 0 = omega arith in ap (λ n. cond (same_id (folded name) key) (Some n) None) e
 behind at (n ∷ names) name key = by (same_id (folded n) key) (behind (at + 1) names name key)

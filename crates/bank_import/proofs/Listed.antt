@@ -72,10 +72,10 @@ lt_is Less h = refl
 lt_is Equal h = absurd (let bad : false ≡ true = h in cc)
 lt_is Greater h = absurd (let bad : false ≡ true = h in cc)
 
-abbrev Below : Text → List Text → Type 0
+abbrev pub Below : Text → List Text → Type 0
 Below k ks = AllByRecursion (λ q. text_cmp k q ≡ Less) ks
 
-abbrev Up : List Text → Type 0
+abbrev pub Up : List Text → Type 0
 Up [] = Unit {0}
 Up (k ∷ ks) = Below k ks × Up ks
 
@@ -87,25 +87,22 @@ one_up : (b : Bool) (q : Text) (qs : List Text) → Below q qs → Up qs → Up 
 one_up true q qs h r = (h, r)
 one_up false q qs h r = r
 
-abbrev Entry : Type 0
-Entry = Text × TxRow
-
-keyed : (b : Bool) (e : Entry) (es : List Entry) → cond b (e.0 ∷ list_map (λ (e : Entry). e.0) es) (list_map (λ (e : Entry). e.0) es) ≡ list_map (λ (e : Entry). e.0) (cond b (e ∷ es) es)
+keyed : {X : Type 0} (b : Bool) (e : Text × X) (es : List (Text × X)) → cond b (e.0 ∷ list_map (λ e. e.0) es) (list_map (λ e. e.0) es) ≡ list_map (λ e. e.0) (cond b (e ∷ es) es)
 keyed true e es = refl
 keyed false e es = refl
 
-module _ (p : TxRow → Bool) where
-  below_keys : (k : Text) (es : List Entry) → below_all text_cmp k es ≡ true → Below k (keys_where p es)
+module _ {X : Type 0} (p : X → Bool) where
+  below_keys : (k : Text) (es : List (Text × X)) → below_all text_cmp k es ≡ true → Below k (keys_where p es)
   below_keys k [] h = tt
   below_keys k (e ∷ es) h =
       let parts = both_true _ _ h in
-      subst (Below k) (keyed (p e.1) e (filter (λ (e : Entry). p e.1) es)) (one_below (p e.1) k e.0 (keys_where p es) (lt_is (text_cmp k e.0) parts.0) (below_keys k es parts.1))
+      subst (Below k) (keyed (p e.1) e (filter (λ e. p e.1) es)) (one_below (p e.1) k e.0 (keys_where p es) (lt_is (text_cmp k e.0) parts.0) (below_keys k es parts.1))
 
-  up_keys : (es : List Entry) → is_sorted text_cmp es ≡ true → Up (keys_where p es)
+  pub up_keys : (es : List (Text × X)) → is_sorted text_cmp es ≡ true → Up (keys_where p es)
   up_keys [] h = tt
   up_keys (e ∷ es) h =
       let parts = both_true _ _ h in
-      subst Up (keyed (p e.1) e (filter (λ (e : Entry). p e.1) es)) (one_up (p e.1) e.0 (keys_where p es) (below_keys e.0 es parts.0) (up_keys es parts.1))
+      subst Up (keyed (p e.1) e (filter (λ e. p e.1) es)) (one_up (p e.1) e.0 (keys_where p es) (below_keys e.0 es parts.0) (up_keys es parts.1))
 
 module _ (rows : Rows) where
   abbrev out : List Text → List Candidate

@@ -9,3 +9,7 @@ pub mod Named
 pub mod NamesView
 pub mod Edits
 pub mod Rest
+pub mod Twice
+pub mod NewPayees
+pub mod Read
+pub mod Amounts

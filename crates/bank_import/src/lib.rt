@@ -26,8 +26,9 @@ mod writing;
 pub use edit::ImportEdit;
 pub use entry::Entry;
 pub use laws::{
-    candidates_are_told, ids_are_found_again, imports_come_to_rest, matches_are_nearest,
-    matches_are_told, rows_are_found_again,
+    amounts_are_told, candidates_are_told, ids_are_found_again, imports_come_to_rest,
+    matches_are_nearest, matches_are_told, new_payees_are_told, rows_are_found_again,
+    statements_are_told, statements_come_once,
 };
 pub use making::import_writes;
 pub use matching::matches;
