@@ -1,0 +1,5 @@
+pub mod Books
+pub mod Histories
+pub mod Sheets
+pub mod Moving
+pub mod Doing

@@ -1,0 +1,54 @@
+-- How the months of a sheet are numbered, and what its cells add up.
+use Rattle.std.specs.Prelude.{ℕ, ◌≡◌, ◌≢◌, ◌↔◌, ◌+◌, ◌*◌, ◌/◌, ◌%◌, true, pos, ◌+ℤ◌, ℤ, List, Some, unwrap_or}
+use Rattle.std.specs.FinMap.{get}
+use Rattle.finite_sums.specs.Sums.{total}
+use Rattle.finite_sums.specs.Maps.{Text, text_cmp, value_or_zero, is_among, AreDistinct}
+use Rattle.envelope_cells.specs.Budget.{Budget, expense_groups, categories}
+use Rattle.envelope_cells.specs.Cells.{total_income, total_spent}
+use Rattle.envelope_cells.specs.CellOf.{cell_of, group_named}
+use Rattle.envelope_cells.specs.Ids.{month_number, month_at}
+use Rattle.envelope_cells.specs.declared.name.CellKind.{CellKind}
+use Rattle.envelope_cells.specs.declared.name.CellKind.TheVariants.{GroupSum, GroupBudget, GroupLeftover, Sum, Budget as OfBudget, Leftover}
+use Rattle.book_rows.specs.declared.rows.Rows.{Rows}
+use Rattle.book_rows.specs.declared.rows.TxRow.{TxRow}
+use Rattle.book_rows.specs.Live.{is_counted}
+use Rattle.book_rows.specs.Months.{is_month, month_of_row}
+use Rattle.envelope_cells.specs.BudgetOf.{budget_of}
+
+-- how months are numbered
+pub record MonthsAreNumbered : Type 0 where
+  pub first : month_at 0 ≡ 197_001
+  -- a month is followed by the next one of its year, and December by January of the next year
+  pub next : (m : ℕ) → month_at m % 100 ≢ 12 → month_at (m + 1) ≡ month_at m + 1
+  pub december : (m : ℕ) → month_at m % 100 ≡ 12 → month_at (m + 1) ≡ (month_at m / 100 + 1) * 100 + 1
+  pub number : (m : ℕ) → month_number (month_at m) ≡ m
+  pub month : (month : ℕ) → is_month month ≡ true → month_at (month_number month) ≡ month
+
+-- a transaction counts in a category and in a month YYYYMM
+pub record CountsIn (rows : Rows) (c : Text) (month : ℕ) (x : TxRow) : Type 0 where
+  pub counts : is_counted rows x ≡ true
+  pub category : x.category ≡ Some c
+  pub dated : month_of_row x ≡ Some month
+
+-- these are the transactions that count in a category and in a month, each once
+pub record AreThoseOf (rows : Rows) (c : Text) (month : ℕ) (ids : List Text) : Type 0 where
+  pub once : AreDistinct text_cmp ids
+  pub those : (id : Text) → (is_among text_cmp ids id ≡ true) ↔ ((x : TxRow) × (get rows.txs id ≡ Some x) × CountsIn rows c month x)
+
+-- the sum of a category in a month is that of the amounts of the transactions that count there
+abbrev pub SumsAreOfTransactions : Type 0
+SumsAreOfTransactions = (rows : Rows) (c : Text) (m : ℕ) → (ids : List Text) × AreThoseOf rows c (month_at m) ids
+    × ((budget_of rows).category_sum c m ≡ total (λ id. value_or_zero (λ (x : TxRow). x.amount) (get rows.txs id)) ids)
+
+-- what a cell of this kind and id tells in a month YYYYMM, or 0
+abbrev pub told : Budget → ℕ → CellKind → Text → ℤ
+told b month kind id = unwrap_or (cell_of b (record { month = month; kind = kind; id = id })) (pos 0)
+
+-- how the cells of groups and of the whole month add up
+pub record CellsAddUp (b : Budget) : Type 0 where
+  -- what came in and what went out is all that was moved in live categories
+  pub moved : (m : ℕ) → total_income b m +ℤ total_spent b m ≡ total (λ c. b.category_sum c m) (categories b)
+  -- the cells of a group add up those of its categories
+  pub sum : (month : ℕ) (g : _) → group_named b.groups g.id ≡ Some g → told b month GroupSum g.id ≡ total (told b month Sum) g.categories
+  pub budget : (month : ℕ) (g : _) → group_named (expense_groups b) g.id ≡ Some g → told b month GroupBudget g.id ≡ total (told b month OfBudget) g.categories
+  pub left : (month : ℕ) (g : _) → group_named (expense_groups b) g.id ≡ Some g → told b month GroupLeftover g.id ≡ total (told b month Leftover) g.categories

@@ -1,0 +1,76 @@
+//! Facts about all books, edits, histories and sheets, which a proof can call for.
+ghost use Rattle.std.specs.Prelude.{List};
+ghost use Rattle.finite_sums.specs.Maps.{Text};
+ghost use Rattle.book_rows.specs.declared.rows.Rows.{Rows};
+ghost use Rattle.book_rows.specs.declared.write.Write.{Write};
+ghost use Rattle.split_transfer.specs.After.{Ids};
+ghost use Rattle.book_laws.specs.Books.{BalancesAreTold, KeptRowsAreTold, MonthsAreNamed, TransactionsAreListed, ValuesAreRead};
+ghost use Rattle.book_laws.specs.Moving.{TransfersMove};
+ghost use Rattle.book_laws.specs.Doing.{ChangesDo, PlainEditsDo};
+ghost use Rattle.book_laws.specs.Histories.{HistoriesGoBack};
+ghost use Rattle.envelope_cells.specs.Budget.{Budget};
+ghost use Rattle.book_laws.specs.Sheets.{CellsAddUp, MonthsAreNumbered, SumsAreOfTransactions};
+
+/// A law: how a value is read in a column of each kind, and which numbers write a day.
+pub fn values_are_read()
+    ensures { ValuesAreRead }
+{}
+
+/// A law: which numbers are months, and which month a row has: a transaction that of its day, a budget row and a month row the one of
+/// which its id is made.
+pub fn months_are_named()
+    ensures { MonthsAreNamed }
+{}
+
+/// A law: an account, a group, a payee, a rule and a schedule are live where the row is there and was not deleted; the id of a
+/// transaction is alive where the transaction is there and live.
+pub fn kept_rows_are_told()
+    ensures { KeptRowsAreTold }
+{}
+
+/// A law: the parts of a transaction and the transactions of an account are those that say so, dead or alive, in the order of their ids.
+pub fn transactions_are_listed()
+    ensures { (rows : Rows) → TransactionsAreListed rows }
+{}
+
+/// A law: the balance of an account is what its live transactions add up to, but for those that are split, whose parts do.
+pub fn balances_are_told()
+    ensures { (rows : Rows) → BalancesAreTold rows }
+{}
+
+/// A law: the latest entry is undone first, and what was undone last is redone first, until an edit comes.
+pub fn histories_go_back()
+    ensures { HistoriesGoBack }
+{}
+
+/// A law: months are numbered one after the other from January 1970, and January follows December.
+pub fn months_are_numbered()
+    ensures { MonthsAreNumbered }
+{}
+
+/// A law: the sum of a category in a month is that of the transactions which count, are of the category and have a day in the month,
+/// each once.
+pub fn sums_are_of_transactions()
+    ensures { SumsAreOfTransactions }
+{}
+
+/// A law: the cells of a group add up those of its categories, and what came in and what went out is all that was moved.
+pub fn cells_add_up()
+    ensures { (b : Budget) → CellsAddUp b }
+{}
+
+/// A law: a transfer that is accepted takes its amount out of the one account and brings it into the other one, by two transactions of
+/// one day that name each other, and changes no other transaction. It is asked before that the ids of both are new and differ.
+pub fn transfers_move()
+    ensures { TransfersMove }
+{}
+
+/// A law: a plain edit that is accepted does what it is for: the row that it is about has then what the edit gives it.
+pub fn plain_edits_do()
+    ensures { (ids : Ids) (rows : Rows) (ws : List Write) → PlainEditsDo ids rows ws }
+{}
+
+/// A law: a change of a transaction that is accepted does what it is for: the transaction has then what the change gives it.
+pub fn changes_do()
+    ensures { (ids : Ids) (rows : Rows) (id : Text) (ws : List Write) → ChangesDo ids rows id ws }
+{}

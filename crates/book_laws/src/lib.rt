@@ -1,0 +1,13 @@
+//! What is true of all books, of their edits, histories and sheets, beyond what the crates that make them say.
+//!
+//! There is no code here: the definitions are those of `book_rows`, `book_edits`, `split_transfer`, `edit_history` and
+//! `envelope_cells`, and each law says of some of them, in the subject's words, what a wrong definition would break.
+#![tactic(auto)]
+
+mod laws;
+
+pub use laws::{
+    balances_are_told, cells_add_up, changes_do, histories_go_back, kept_rows_are_told,
+    months_are_named, months_are_numbered, plain_edits_do, sums_are_of_transactions,
+    transactions_are_listed, transfers_move, values_are_read,
+};

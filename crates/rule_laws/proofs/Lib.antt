@@ -1,0 +1,5 @@
+pub mod RawDays
+pub mod Cutting
+pub mod TestLaws
+pub mod StageLaws
+pub mod RunLaws

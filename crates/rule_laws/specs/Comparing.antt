@@ -1,0 +1,74 @@
+-- What the tests of conditions say.
+use Rattle.std.specs.Prelude.{◌≡◌, ◌↔◌, ◌⊎◌, ℕ, ℤ, pos, ◌+◌, ◌*◌, ◌<◌, ◌≤◌, ◌+ℤ◌, ◌-ℤ◌, ◌≤ℤ◌, ◌<ℤ◌, unsigned_abs, Bool, true, false, not, List, [], Option, None, Some, chars, encode_utf8_all}
+use Rattle.std.specs.List.{Contains}
+use Rattle.std.specs.Str.Iter.{HasSubslice}
+use Rattle.caseless.specs.Caseless.{default_case_fold, IsDefaultMatch}
+use Rattle.jiff_core.specs.Calendar.{days_from_civil}
+use Rattle.finite_sums.specs.Maps.{Text}
+use Rattle.book_rows.specs.Kinds.{is_day}
+use Rattle.rule_engine.specs.declared.rule.CondOp.{CondOp}
+use Rattle.rule_engine.specs.declared.rule.CondOp.TheVariants.{Is, IsNot, OneOf, NotOneOf, Contains as HasPart, DoesNotContain, IsApprox, IsBetween, Gt, Gte, Lt, Lte}
+use Rattle.rule_engine.specs.declared.rule.CondValue.{CondValue}
+use Rattle.rule_engine.specs.declared.rule.CondValue.TheVariants.{Null, Text as OneText, Texts, Between, Date as Day, Recurrence, Flag}
+use Rattle.rule_engine.specs.Days.{day_number}
+use Rattle.rule_engine.specs.Conditions.{id_holds, text_holds, number_holds, amount_holds, day_holds, flag_holds, or_empty}
+
+-- how ids are compared
+pub record IdsAreCompared : Type 0 where
+  -- an id is the same where it is there and has the same bytes, and none is only none
+  pub is : (t : Text) (id : Option Text) → (id_holds Is (OneText t) id ≡ true) ↔ (id ≡ Some t)
+  pub is_none : (id : Option Text) → (id_holds Is Null id ≡ true) ↔ (id ≡ None)
+  pub one_of : (ts : List Text) (id : Option Text) → (id_holds OneOf (Texts ts) id ≡ true) ↔ ((t : Text) × Contains ts t × (id ≡ Some t))
+  -- the opposite tests hold where these don't
+  pub is_not : (value : CondValue) (id : Option Text) → id_holds IsNot value id ≡ not (id_holds Is value id)
+  pub not_one_of : (value : CondValue) (id : Option Text) → id_holds NotOneOf value id ≡ not (id_holds OneOf value id)
+
+-- how texts are tested: whatever the letters' case is on either side. No text is the empty one
+pub record TextsAreTested : Type 0 where
+  pub is : (t text : Text) → (text_holds Is (OneText t) text ≡ true) ↔ IsDefaultMatch (chars text) (chars t)
+  pub one_of : (ts : List Text) (text : Text) → (text_holds OneOf (Texts ts) text ≡ true) ↔ ((t : Text) × Contains ts t × IsDefaultMatch (chars text) (chars t))
+  -- the part, folded, stands in the text, folded
+  pub has : (t text : Text) → (text_holds HasPart (OneText t) text ≡ true) ↔ HasSubslice (encode_utf8_all (default_case_fold (chars text))) (encode_utf8_all (default_case_fold (chars t)))
+  pub is_not : (value : CondValue) (text : Text) → text_holds IsNot value text ≡ not (text_holds Is value text)
+  pub not_one_of : (value : CondValue) (text : Text) → text_holds NotOneOf value text ≡ not (text_holds OneOf value text)
+  pub has_not : (value : CondValue) (text : Text) → text_holds DoesNotContain value text ≡ not (text_holds HasPart value text)
+  pub empty : or_empty None ≡ []
+
+-- how amounts are compared
+pub record AmountsAreCompared : Type 0 where
+  pub is : (z amount : ℤ) → (number_holds Is z amount ≡ true) ↔ (amount ≡ z)
+  pub above : (z amount : ℤ) → (number_holds Gt z amount ≡ true) ↔ (z <ℤ amount)
+  pub from : (z amount : ℤ) → (number_holds Gte z amount ≡ true) ↔ (z ≤ℤ amount)
+  pub below : (z amount : ℤ) → (number_holds Lt z amount ≡ true) ↔ (amount <ℤ z)
+  pub up_to : (z amount : ℤ) → (number_holds Lte z amount ≡ true) ↔ (amount ≤ℤ z)
+  -- at most seven and a half in a hundred of what it is compared with away, rounded to the nearest cent, a half up
+  pub near : (z amount : ℤ) → (number_holds IsApprox z amount ≡ true) ↔ (1000 * unsigned_abs (amount -ℤ z) ≤ 75 * unsigned_abs z + 500)
+  -- between two amounts in either order, both included
+  pub between : (a b amount : ℤ) → (amount_holds IsBetween (Between a b) amount ≡ true) ↔ (((a ≤ℤ amount) × (amount ≤ℤ b)) ⊎ ((b ≤ℤ amount) × (amount ≤ℤ a)))
+
+-- how days are compared
+pub record DaysAreCompared : Type 0 where
+  -- no day meets no test, and a recurrence is met by none
+  pub none : (op : CondOp) (value : CondValue) → day_holds op value None ≡ false
+  pub recurrence : (op : CondOp) (day : Option ℕ) → day_holds op Recurrence day ≡ false
+  pub is : (n day : ℕ) → (day_holds Is (Day n) (Some day) ≡ true) ↔ (day ≡ n)
+  pub above : (n day : ℕ) → (day_holds Gt (Day n) (Some day) ≡ true) ↔ (n < day)
+  pub from : (n day : ℕ) → (day_holds Gte (Day n) (Some day) ≡ true) ↔ (n ≤ day)
+  pub below : (n day : ℕ) → (day_holds Lt (Day n) (Some day) ≡ true) ↔ (day < n)
+  pub up_to : (n day : ℕ) → (day_holds Lte (Day n) (Some day) ≡ true) ↔ (day ≤ n)
+  -- at most two days of the calendar apart, either way
+  pub near : (n day : ℕ) → is_day n ≡ true → is_day day ≡ true
+      → (day_holds IsApprox (Day n) (Some day) ≡ true) ↔ ((day_number day ≤ℤ (day_number n +ℤ pos 2)) × (day_number n ≤ℤ (day_number day +ℤ pos 2)))
+  pub number : (year month place : ℕ) → month < 100 → place < 100 → day_number (year * 10_000 + month * 100 + place) ≡ days_from_civil (pos year) month place
+
+-- how flags are compared
+abbrev pub FlagsAreCompared : Type 0
+FlagsAreCompared = (b set : Bool) → (flag_holds Is (Flag b) set ≡ true) ↔ (set ≡ b)
+
+-- what the tests of conditions say
+pub record ConditionsAreTold : Type 0 where
+  pub ids : IdsAreCompared
+  pub texts : TextsAreTested
+  pub amounts : AmountsAreCompared
+  pub days : DaysAreCompared
+  pub flags : FlagsAreCompared

@@ -1,0 +1,3 @@
+pub mod Recurring
+pub mod Comparing
+pub mod Making

@@ -1,0 +1,53 @@
+//! Facts about all recurrences and rules, which a proof can call for.
+ghost use Rattle.std.specs.Prelude.{ℕ, ◌≤◌};
+ghost use Rattle.schedules.specs.Days.{Said};
+ghost use Rattle.rule_laws.specs.Recurring.{DaysMove, EndsCut, MiddlesAreRounded, RawDaysAreTold};
+ghost use Rattle.rule_laws.specs.Comparing.{ConditionsAreTold};
+ghost use Rattle.rule_laws.specs.Making.{IdsAreTakenOnce, RulesMakeRows, RulesReadBack, StagesComeInTurn};
+
+/// A law: raw days lie whole steps of days, weeks, months or years from the start on, and by months on a day that is meant.
+pub fn raw_days_are_told()
+    ensures { (r : Said) (some : 1 ≤ r.interval) → RawDaysAreTold r some }
+{}
+
+/// A law: an end with a day keeps the raw days up to it, and one after so many the first ones, wherever they move.
+pub fn ends_cut()
+    ensures { (r : Said) → EndsCut r }
+{}
+
+/// A law: a Saturday and a Sunday move to the last day before that is none, or to the first one behind, and no other day moves.
+pub fn days_move()
+    ensures { (d : ℕ) → DaysMove d }
+{}
+
+/// A law: the amount of a schedule that is given by two is their middle, and a half of a cent is rounded up.
+pub fn middles_are_rounded()
+    ensures { MiddlesAreRounded }
+{}
+
+/// A law: what the tests of conditions say of ids, texts, amounts, days and flags.
+pub fn conditions_are_told()
+    ensures { ConditionsAreTold }
+{}
+
+/// A law: rules run by stage, first, none and last, within a stage from the one that counts least, and of those that count the same by
+/// their ids.
+pub fn stages_come_in_turn()
+    ensures { StagesComeInTurn }
+{}
+
+/// A law: a rule that is accepted can be read, with the stage and the op that were given.
+pub fn rules_read_back()
+    ensures { RulesReadBack }
+{}
+
+/// A law: after the rules were run on transactions each of them stands as the rules make it, and each other one as before; nothing is
+/// written that stays as it is.
+pub fn rules_make_rows()
+    ensures { RulesMakeRows }
+{}
+
+/// A law: of ids that are named several times each is taken once, at its first place.
+pub fn ids_are_taken_once()
+    ensures { IdsAreTakenOnce }
+{}

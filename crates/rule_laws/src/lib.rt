@@ -1,0 +1,12 @@
+//! What is true of all recurrences and of all rules, beyond what the crates that read them say.
+//!
+//! There is no code here: the definitions are those of `schedules` and `rule_engine`, and each law says of some of them, in the
+//! subject's words, what a wrong definition would break.
+#![tactic(auto)]
+
+mod laws;
+
+pub use laws::{
+    conditions_are_told, days_move, ends_cut, ids_are_taken_once, middles_are_rounded,
+    raw_days_are_told, rules_make_rows, rules_read_back, stages_come_in_turn,
+};
