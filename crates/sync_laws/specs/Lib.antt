@@ -1,0 +1,5 @@
+pub mod Contents
+pub mod Counting
+pub mod Server
+pub mod Turning
+pub mod Whole
