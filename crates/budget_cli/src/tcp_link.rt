@@ -77,7 +77,7 @@ pub struct TcpLink<'a, N: Net<Listener = TcpListener, Stream = TcpStream>, C: Cl
     net: &'a N,
     clock: C,
     peer: Option<&'a str>,
-    open: Option<Connection>,
+    asked: Option<Connection>,
     faults: u64,
 }
 
@@ -85,7 +85,7 @@ impl<'a, N: Net<Listener = TcpListener, Stream = TcpStream>, C: Clock> TcpLink<'
     /// A link to the server at an address. Where there is none, each call fails. It has not failed.
     pub fn new(alloc: Global, net: &'a N, clock: C, peer: Option<&'a str>) -> TcpLink<'a, N, C>
         ensures peer { result.peer ≡ peer.entry }
-        ensures open { result.open ≡ None }
+        ensures unasked { result.asked ≡ None }
         ensures faults { result.faults ≡ 0 }
     {
         TcpLink {
@@ -93,7 +93,7 @@ impl<'a, N: Net<Listener = TcpListener, Stream = TcpStream>, C: Clock> TcpLink<'
             net,
             clock,
             peer,
-            open: None,
+            asked: None,
             faults: 0,
         }
     }
@@ -135,7 +135,7 @@ impl<'a, N: Net<Listener = TcpListener, Stream = TcpStream>, C: Clock> Link for 
     {
         if let Some(address) = self.peer {
             if let Ok(connection) = self.begin(address, bytes) {
-                self.open = Some(connection);
+                self.asked = Some(connection);
                 return Ok(());
             }
         }
@@ -152,11 +152,11 @@ impl<'a, N: Net<Listener = TcpListener, Stream = TcpStream>, C: Clock> Link for 
 
         // what this one does
         ensures bound { IfOk result (λ got. length got.items ≤ 268_435_457) }
-        ensures closed { self.old.open ≡ None → IsErr result }
-        ensures open { self.new.open ≡ None }
+        ensures closed { self.old.asked ≡ None → IsErr result }
+        ensures ended { self.new.asked ≡ None }
         ensures peer { self.new.peer ≡ self.old.peer }
     {
-        if let Some(mut connection) = self.open.take() {
+        if let Some(mut connection) = self.asked.take() {
             match read_reply(self.alloc, &mut connection, &self.clock) {
                 Ok(got) => return Ok(got),
                 Err(PortFault::NoMemory) => return Err(PortFault::NoMemory),

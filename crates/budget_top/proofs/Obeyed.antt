@@ -7,11 +7,13 @@ use Rattle.device_sync.specs.Laws.{TalksAreTold}
 use Rattle.device_core.specs.declared.edit.LineRefusal.TheVariants.{Clock as OfClock}
 use Rattle.field_values.specs.declared.value.Value.{Value}
 use Rattle.field_merge.specs.declared.message.Message.{Message}
+use Rattle.device_core.specs.declared.edit.Edit.{Edit as AnyEdit}
 use Rattle.device_core.specs.declared.edit.Edit.TheVariants.{Book}
 use Rattle.book_edits.specs.declared.edit.BookEdit.TheVariants.{Set}
 use Rattle.device_core.specs.declared.edit.LineRefusal.{LineRefusal}
 use Rattle.device_core.specs.Device.{State, Accepted, IsAhead, edited, undone, redone, received}
 use Rattle.device_core.specs.ReadBack.{EditsReadBack, ReceivedAreJoined}
+use Rattle.device_core.specs.Several.{EditsAreMade}
 use Rattle.command_lines.specs.declared.command.Command.{Command}
 use Rattle.command_lines.specs.declared.command.Command.TheVariants.{Edit, Undo, Redo, Receive, Fields, Messages, Value as ValueOf, Trie, Balance, Register, Cell, Sheet, Broken, ScheduleStatus, Sync}
 use Rattle.command_lines.specs.declared.reply.Reply.{Reply}
@@ -22,7 +24,7 @@ use Rattle.budget_top.specs.Session.{asked, settled, wrote_all, added_all, reply
 use Rattle.device_sync.specs.declared.target.Target.{Target}
 use Rattle.budget_top.specs.Doing.{Given, Running, IsWithin, TalksTo, conversed, last_synced, sync_reply, done}
 use Rattle.budget_top.specs.Course.{Input, step}
-use Rattle.budget_top.specs.Obeying.{Says, IsNone, Refuses, Writes, TakesBack, TakesIn, Syncs, LinesAreObeyed}
+use Rattle.budget_top.specs.Obeying.{Says, IsNone, Refuses, Writes, Makes, TakesBack, TakesIn, Syncs, LinesAreObeyed}
 use Rattle.budget_top.proofs.Syncing.{talked_so, late_so}
 
 -- a line asks for what it says
@@ -61,6 +63,15 @@ writing law target r i dataset row column value accepted says ahead is =
       after_it = ap (λ (p : Running × Reply). p.0) now;
       read_back = back;
       told = ap (λ (p : Running × Reply). p.1) now ∙ ap (λ (n : ℕ). wrote n accepted.made) back.one ∙ ap (λ (ids : List (List ℕ)). wrote 1 ids) back.none_made;
+    }
+
+editing : EditsAreMade → (target : Target) (r : Running) (i : Input) (edit : AnyEdit) (accepted : Accepted) → Says i.line (Edit edit) → IsAhead r.state.clock r.state.messages
+    → edited r.state edit i.given.reading ≡ Ok accepted → Makes r edit accepted (step target r i).0 (step target r i).1
+editing law target r i edit accepted says ahead is =
+    let now = accepting r wrote_all _ accepted (step target r i) (stepped target r i _ (asks i.line _ says)) is in record {
+      after_it = ap (λ (p : Running × Reply). p.0) now;
+      made = law r.state edit i.given.reading accepted ahead is;
+      told = ap (λ (p : Running × Reply). p.1) now;
     }
 
 taking_back : (target : Target) (r : Running) (i : Input) (said : Command) (meant : Result Accepted LineRefusal) (accepted : Accepted) → Says i.line said → done target r i.given (Ok said) ≡ left_by r wrote_all meant
@@ -138,10 +149,11 @@ answering target r i (Sheet month) asks h = stepped target r i _ asks
 answering target r i Broken asks h = stepped target r i _ asks
 answering target r i (ScheduleStatus id day) asks h = stepped target r i _ asks
 
-pub lines_obeyed : EditsReadBack → ReceivedAreJoined → TalksAreTold → LinesAreObeyed
-lines_obeyed edits messages talks = record {
-  writes = writing edits;
-  refused_writes = λ target r i dataset row column value refusal says is. refusing r wrote_all _ refusal (step target r i) (stepped target r i _ (asks i.line _ says)) is;
+pub lines_obeyed : EditsReadBack → EditsAreMade → ReceivedAreJoined → TalksAreTold → LinesAreObeyed
+lines_obeyed writes edits messages talks = record {
+  writes = writing writes;
+  edits = editing edits;
+  refused_edits = λ target r i edit refusal says is. refusing r wrote_all _ refusal (step target r i) (stepped target r i _ (asks i.line _ says)) is;
   undos = λ target r i accepted says is. taking_back target r i Undo (undone r.state i.given.reading) accepted says refl is;
   refused_undos = λ target r i refusal says is. refusing r wrote_all _ refusal (step target r i) (stepped target r i _ (asks i.line _ says)) is;
   redos = λ target r i accepted says is. taking_back target r i Redo (redone r.state i.given.reading) accepted says refl is;

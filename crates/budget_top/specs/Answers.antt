@@ -1,5 +1,6 @@
--- What is kept of the requests that a server has answered, and what is answered.
-use Rattle.std.specs.Prelude.{◌≡◌, ◌↔◌, List, [], ◌∷◌, ◌++◌, true, Ok}
+-- What is kept of the requests that a server has answered, what is answered, and what is written of it.
+use Rattle.std.specs.Prelude.{◌≡◌, ◌↔◌, ◌+◌, ℕ, List, [], ◌∷◌, ◌++◌, length, codes, true, Ok}
+use Rattle.std.specs.Fmt.{decimal}
 use Rattle.std.specs.List.{Contains}
 use Rattle.std.specs.Ordering.{is_gt, nat_cmp}
 use Rattle.std.specs.Cmp.Lexicographic.{slice_cmp}
@@ -11,10 +12,10 @@ use Rattle.kept_messages.specs.Records.{kept_set}
 use Rattle.sync_wire.specs.declared.request.SyncRequest.{SyncRequest}
 use Rattle.sync_wire.specs.declared.response.SyncResponse.{SyncResponse}
 use Rattle.sync_wire.specs.Canon.{response_bytes}
-use Rattle.sync_server.specs.declared.served.Served.TheVariants.{Answered}
-use Rattle.sync_server.specs.Serving.{Accepts}
+use Rattle.sync_server.specs.declared.served.Served.TheVariants.{Answered, Cut}
+use Rattle.sync_server.specs.Serving.{Accepts, Visit}
 use Rattle.sync_server.specs.Replies.{accepted_bytes}
-use Rattle.budget_top.specs.Serving.{Turn, AreServed, kept_by}
+use Rattle.budget_top.specs.Serving.{Turn, AreServed, kept_by, end_lines}
 
 -- the group keeps messages, and these are among them
 pub record KeepsAll (contents : Contents) (group : Text) (ms : List Message) : Type 0 where
@@ -48,3 +49,11 @@ pub record AnswersStay : Type 0 where
       AreServed (Unit {0}) token k (earlier ++ t ∷ later) → IsAnswered t ms q → IsToldRight (kept_by k earlier) t ms q
   -- and of what was answered all is kept behind each later connection
   pub kept : (token : Text) (k : Contents) (earlier later : List Turn) → AreServed (Unit {0}) token k (earlier ++ later) → KeepAnswered earlier (kept_by k (earlier ++ later))
+
+-- what is written of connections: behind the lines of others, the number of the connection among all, and the status of its answer, or `cut`
+pub record EndsAreTold : Type 0 where
+  pub none : end_lines [] ≡ []
+  pub answered : (earlier : List Turn) (visit : Visit) (status : ℕ)
+      → end_lines (earlier ++ record { visit = visit; end = Answered status } ∷ []) ≡ end_lines earlier ++ (decimal (length earlier + 1) ++ 32 ∷ (decimal status ++ 10 ∷ []))
+  pub cut : (earlier : List Turn) (visit : Visit)
+      → end_lines (earlier ++ record { visit = visit; end = Cut } ∷ []) ≡ end_lines earlier ++ (decimal (length earlier + 1) ++ 32 ∷ (codes "cut" ++ 10 ∷ []))

@@ -1,5 +1,5 @@
 -- What a line does, by its command: one that talks to a server, and any other.
-use Rattle.std.specs.Prelude.{◌≡◌, ◌≢◌, ◌⊎◌, ℕ, ◌-◌, ◌/◌, ◌<◌, ◌≤◌, nat_lt, List, [], ◌∷◌, ◌++◌, length, map, Bool, true, false, ◌&&◌, if◌then◌else◌, Option, None, Some, Result, Ok, Err}
+use Rattle.std.specs.Prelude.{◌≡◌, ◌≢◌, ◌⊎◌, ℕ, ◌-◌, ◌/◌, ◌<◌, ◌≤◌, nat_lt, List, [], ◌++◌, length, map, Bool, true, false, ◌&&◌, if◌then◌else◌, Option, None, Some, Result, Ok}
 use Rattle.hybrid_clock.specs.Stamp.{stamp_text, window}
 use Rattle.hybrid_clock.specs.declared.clock.ClockFault.TheVariants.{Beyond}
 use Rattle.budget_ports.specs.Contents.{Text}

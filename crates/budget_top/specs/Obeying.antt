@@ -1,24 +1,26 @@
 -- What a device does at a line, for the law on lines.
-use Rattle.std.specs.Prelude.{◌≡◌, ◌≢◌, ◌⊎◌, ◌≤◌, ◌/◌, ◌-◌, ℕ, ℤ, true, false, List, [], ◌∷◌, ◌++◌, length, codes, Some, Ok, Err}
+use Rattle.std.specs.Prelude.{◌≡◌, ◌≢◌, ◌⊎◌, ◌≤◌, ◌/◌, ◌-◌, ℕ, ℤ, true, false, List, [], ◌∷◌, ◌++◌, length, map, codes, Some, Ok, Err}
 use Rattle.std.specs.Str.{is_utf8}
 use Rattle.std.specs.Fmt.{decimal, signed_decimal}
 use Rattle.hybrid_clock.specs.Stamp.{stamp_text, window}
 use Rattle.hybrid_clock.specs.declared.clock.ClockFault.TheVariants.{Beyond}
 use Rattle.field_values.specs.declared.value.Value.{Value}
 use Rattle.field_merge.specs.declared.message.Message.{Message}
+use Rattle.device_core.specs.declared.edit.Edit.{Edit as AnyEdit}
 use Rattle.device_core.specs.declared.edit.Edit.TheVariants.{Book}
 use Rattle.book_edits.specs.declared.edit.BookEdit.TheVariants.{Set}
 use Rattle.device_core.specs.declared.edit.LineRefusal.{LineRefusal}
 use Rattle.device_core.specs.declared.edit.LineRefusal.TheVariants.{Clock as OfClock}
 use Rattle.device_core.specs.Device.{State, Accepted, IsAhead, edited, undone, redone, received}
 use Rattle.device_core.specs.ReadBack.{IsReadBack, AreTakenIn}
+use Rattle.device_core.specs.Several.{IsMade}
 use Rattle.command_lines.specs.declared.command.Command.{Command}
 use Rattle.command_lines.specs.declared.command.Command.TheVariants.{Edit, Undo, Redo, Receive, Sync}
 use Rattle.command_lines.specs.declared.reply.Reply.{Reply}
 use Rattle.command_lines.specs.declared.reply.Reply.TheVariants.{Done, Refused}
 use Rattle.command_lines.specs.Commands.{command}
 use Rattle.command_lines.specs.Readings.{answer, IsReading}
-use Rattle.command_lines.specs.Replies.{wrote, refused}
+use Rattle.command_lines.specs.Replies.{refused}
 use Rattle.device_sync.specs.declared.target.Target.{Target}
 use Rattle.device_sync.specs.Talk.{Outcome, going_on, agreed, out_of_sync, not_taken, refused as refuses, bad_reply}
 use Rattle.budget_top.specs.Doing.{Given, Running, IsWithin, TalksTo}
@@ -44,10 +46,20 @@ pub record Writes (r : Running) (dataset row column : List ℕ) (value : Value) 
   pub read_back : IsReadBack r.state dataset row column value accepted
   pub told : reply ≡ Done ((codes "writes " ++ decimal 1) ∷ [])
 
+-- writes were made: the reply tells how many, and the ids that they made for rows
+abbrev pub TellsWrites : Accepted → Reply → Type 0
+TellsWrites accepted reply = reply ≡ Done ((codes "writes " ++ decimal accepted.count) ∷ map (λ id. codes "made " ++ id) accepted.made)
+
+-- an edit was accepted: it made its writes in the book of the messages
+pub record Makes (r : Running) (edit : AnyEdit) (accepted : Accepted) (after : Running) (reply : Reply) : Type 0 where
+  pub after_it : after ≡ record r { state = accepted.state }
+  pub made : IsMade r.state edit accepted
+  pub told : TellsWrites accepted reply
+
 -- an undo or a redo was accepted
 pub record TakesBack (r : Running) (accepted : Accepted) (after : Running) (reply : Reply) : Type 0 where
   pub after_it : after ≡ record r { state = accepted.state }
-  pub told : reply ≡ wrote accepted.count accepted.made
+  pub told : TellsWrites accepted reply
 
 -- a message was accepted
 pub record TakesIn (r : Running) (message : Message) (reading : ℕ) (accepted : Accepted) (after : Running) (reply : Reply) : Type 0 where
@@ -78,9 +90,11 @@ pub record LinesAreObeyed : Type 0 where
       Says i.line (Edit (Book (Set dataset row column value))) → IsAhead r.state.clock r.state.messages →
       edited r.state (Book (Set dataset row column value)) i.given.reading ≡ Ok accepted →
       Writes r dataset row column value accepted (step target r i).0 (step target r i).1
-  pub refused_writes : (target : Target) (r : Running) (i : Input) (dataset row column : List ℕ) (value : Value) (refusal : LineRefusal) →
-      Says i.line (Edit (Book (Set dataset row column value))) →
-      edited r.state (Book (Set dataset row column value)) i.given.reading ≡ Err refusal → Refuses r refusal (step target r i).0 (step target r i).1
+  -- and so any edit
+  pub edits : (target : Target) (r : Running) (i : Input) (edit : AnyEdit) (accepted : Accepted) → Says i.line (Edit edit) → IsAhead r.state.clock r.state.messages →
+      edited r.state edit i.given.reading ≡ Ok accepted → Makes r edit accepted (step target r i).0 (step target r i).1
+  pub refused_edits : (target : Target) (r : Running) (i : Input) (edit : AnyEdit) (refusal : LineRefusal) → Says i.line (Edit edit) →
+      edited r.state edit i.given.reading ≡ Err refusal → Refuses r refusal (step target r i).0 (step target r i).1
   -- an undo, and a redo
   pub undos : (target : Target) (r : Running) (i : Input) (accepted : Accepted) → Says i.line Undo → undone r.state i.given.reading ≡ Ok accepted →
       TakesBack r accepted (step target r i).0 (step target r i).1

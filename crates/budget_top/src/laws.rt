@@ -1,5 +1,5 @@
 //! What holds of all command lines, of what a merge makes of its lines, of what a device does at a line and
-//! replies, and of what a server answers.
+//! replies, and of what a server answers and what is written of its connections.
 ghost use Rattle.budget_top.specs.Written.{LinesAreWritten};
 ghost use Rattle.budget_top.specs.Replies.{RepliesAreCut};
 ghost use Rattle.budget_top.specs.Obeying.{LinesAreObeyed};
@@ -7,10 +7,10 @@ ghost use Rattle.budget_top.specs.Valid.{StatesStayValid};
 ghost use Rattle.budget_top.specs.CutLines.{LinesAreCut};
 ghost use Rattle.budget_top.specs.Merging.{MergesAgree};
 ghost use Rattle.budget_top.specs.Asking.{PlansAreAsked};
-ghost use Rattle.budget_top.specs.Answers.{AnswersStay};
+ghost use Rattle.budget_top.specs.Answers.{AnswersStay, EndsAreTold};
 
 use command_lines::{lines_write_back, replies_are_lines};
-use device_core::{accepted_are_joined, edits_read_back, received_are_joined};
+use device_core::{accepted_are_joined, edits_are_made, edits_read_back, received_are_joined};
 use device_sync::{talks_are_told, talks_are_valid};
 use field_merge::latest_message;
 use sync_server::answers_tell;
@@ -34,15 +34,17 @@ pub fn replies_are_cut()
 }
 
 /// What a device does at a line. A write that is accepted leaves one message more, with the value that was
-/// written, which is the latest of its field, and answers `writes 1`. A message that is accepted has joined
-/// the others, and the answer tells by how many the set has grown. A line that only reads leaves all as it
-/// is, and gets its answer. A sync leaves what its talk with the server has left, and the reply tells how that ended. A
-/// write, an undo, a redo or a message that is refused, and a line that is no command, leave all as it is; the reply tells
-/// the refusal, or the part of the line that is at fault.
+/// written, which is the latest of its field, and answers `writes 1`. Any edit that is accepted has made its
+/// writes in the book of the messages, and the answer tells how many they were and which ids they made. A
+/// message that is accepted has joined the others, and the answer tells by how many the set has grown. A line
+/// that only reads leaves all as it is, and gets its answer. A sync leaves what its talk with the server has
+/// left, and the reply tells how that ended. An edit, an undo, a redo or a message that is refused, and a line
+/// that is no command, leave all as it is; the reply tells the refusal, or the part of the line that is at fault.
 pub fn lines_are_obeyed()
     ensures { LinesAreObeyed }
 {
     edits_read_back();
+    edits_are_made();
     received_are_joined();
     talks_are_told();
 }
@@ -90,3 +92,9 @@ pub fn answers_stay()
 {
     answers_tell();
 }
+
+/// What is written of the connections of a server: a line for each, in their order, with its number among them, from 1 on, and the
+/// status of its answer, or `cut`.
+pub fn ends_are_told()
+    ensures { EndsAreTold }
+{}

@@ -26,7 +26,7 @@ mod write;
 pub use dispatch::{refusal_status, run};
 pub use in_memory::run_in_memory;
 pub use laws::{
-    answers_stay, lines_are_cut, lines_are_obeyed, lines_are_written, merges_agree,
+    answers_stay, ends_are_told, lines_are_cut, lines_are_obeyed, lines_are_written, merges_agree,
     plans_are_asked, replies_are_cut, states_stay_valid,
 };
 pub use planning::plan;
