@@ -1,0 +1,6 @@
+pub mod Requests
+pub mod Exchanges
+pub mod Outcome
+pub mod Serving
+pub mod Meetings
+pub mod Linked

@@ -1,0 +1,5 @@
+pub mod Place
+pub mod Peer
+pub mod Serving
+pub mod Meeting
+pub mod Asked

@@ -1,0 +1,12 @@
+//! A link whose far end is the server itself, in memory: so a device talks to what serves it, and both sides are proved together.
+#![tactic(auto)]
+
+mod asked;
+mod link;
+mod meeting;
+mod place;
+mod server;
+
+pub use link::PeerLink;
+pub use meeting::{Met, meet};
+pub use place::peer_target;
