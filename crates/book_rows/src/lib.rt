@@ -7,6 +7,7 @@
 
 mod book;
 mod column;
+mod digits;
 mod fault;
 mod ids;
 mod indexes;
@@ -21,6 +22,7 @@ mod txs;
 mod write;
 
 pub use book::Book;
+pub use digits::{four_digits_at, two_digits_at};
 pub use fault::{EditFault, RecurPart, RulePart};
 pub use ids::{budget_id, is_month, month_id};
 pub use kind::{Kind, is_day};

@@ -1,42 +1,9 @@
 //! Months, and the ids of rows that name them.
-ghost use Rattle.std.specs.Prelude.{◌≡◌, ◌<◌, ◌+◌, ◌*◌, ℕ, IfSome, length, slice_index};
-ghost use Rattle.book_rows.specs.Months.{is_month, digit_of, two_at, four_at, behind, month_in, budget_month, month_row_month, hull};
+ghost use Rattle.std.specs.Prelude.{◌≡◌, ◌<◌, ◌+◌, ◌*◌};
+ghost use Rattle.book_rows.specs.Months.{month_in, budget_month, month_row_month, hull};
 
+use crate::digits::{four_digits_at, two_digits_at};
 use field_values::Txt;
-
-/// The number that a digit writes.
-fn digit(byte: u8) -> Option<u32>
-    ensures value { result ≡ digit_of byte }
-    ensures small { IfSome result (λ n. n < 10) }
-{
-    if byte.is_ascii_digit() {
-        Some((byte - b'0') as u32)
-    } else {
-        None
-    }
-}
-
-/// The number that the two digits from a place on write.
-fn two_at(text: &[u8], at: usize) -> Option<u32>
-    requires { at + 1 < length text.now }
-    ensures value { result ≡ two_at text.now at }
-    ensures small { IfSome result (λ n. n < 100) }
-{
-    let high = digit(text[at])?;
-    let low = digit(text[at + 1])?;
-    Some(10 * high + low)
-}
-
-/// The number that the four digits from a place on write.
-fn four_at(text: &[u8], at: usize) -> Option<u32>
-    requires { at + 3 < length text.now }
-    ensures value { result ≡ four_at text.now at }
-    ensures small { IfSome result (λ n. n < 10000) }
-{
-    let high = two_at(text, at)?;
-    let low = two_at(text, at + 2)?;
-    Some(100 * high + low)
-}
 
 /// The month of this year, if there is one from January 1970 to December 2199.
 fn month_in(year: u32, month: u32) -> Option<u32>
@@ -59,8 +26,8 @@ pub(crate) fn budget_month(id: &Txt) -> Option<u32>
     if id.len() < 7 || id[6] != b'-' {
         return None;
     }
-    let year = four_at(id, 0)?;
-    let month = two_at(id, 4)?;
+    let year = four_digits_at(id, 0)?;
+    let month = two_digits_at(id, 4)?;
     month_in(year, month)
 }
 
@@ -73,8 +40,8 @@ pub(crate) fn month_row_month(id: &Txt) -> Option<u32>
     if id.len() != 7 || id[4] != b'-' {
         return None;
     }
-    let year = four_at(id, 0)?;
-    let month = two_at(id, 5)?;
+    let year = four_digits_at(id, 0)?;
+    let month = two_digits_at(id, 5)?;
     month_in(year, month)
 }
 

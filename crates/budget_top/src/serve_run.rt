@@ -1,5 +1,5 @@
 //! The mode `serve`: answers the requests of devices, one connection after the other.
-ghost use Rattle.std.specs.Prelude.{◌≡◌, ◌==◌, IfOk, OnOk, OnErr, false};
+ghost use Rattle.std.specs.Prelude.{◌≡◌, ◌==◌, OnOk, OnErr, false};
 ghost use Rattle.budget_ports.specs.Faults.{count_after};
 ghost use Rattle.budget_ports.specs.Contents.{with_text};
 ghost use Rattle.budget_ports.specs.Keeper.{has_failed, Commits, IsAlone};
@@ -11,18 +11,9 @@ use crate::dispatch::{DONE, DOOR_FAILED, KEEPER_FAILED, NO_MEMORY, SINK_FAILED};
 use crate::tally::tell_end;
 use crate::words::Plan;
 use budget_ports::{Door, Keeper, PortFault, Sink};
-use field_values::{NoMemory, Txt};
+use field_values::Txt;
 use std::alloc::Global;
-use sync_server::{ServerState, serve_one};
-
-/// The name under which the group of a file is kept.
-fn name_of(alloc: Global, file: &Txt) -> Result<Txt, NoMemory>
-    ensures { IfOk result (λ name. name ≡ file_name file.now) }
-{
-    let file = file.as_str();
-    let name = format!(in alloc; "file/{file}")?;
-    Ok(Txt::new(name))
-}
+use sync_server::{ServerState, file_name, serve_one};
 
 /// Gives a file its group.
 fn put_group<K: Keeper>(
@@ -38,7 +29,7 @@ fn put_group<K: Keeper>(
     ensures alone { OnOk result (IsAlone (K.tells keeper.new) (K.contents keeper.new) (K.left keeper.new)) }
     ensures count { K.faults keeper.new ≡ count_after (has_failed result) (K.faults keeper.old) }
 {
-    let name = name_of(alloc, file)?;
+    let name = file_name(alloc, file)?;
     keeper.put(&name, group)
 }
 

@@ -1,8 +1,8 @@
 //! The forms of words: amounts, flags, dates, months, and how a rule runs.
-ghost use Rattle.std.specs.Prelude.{◌≡◌, ◌<◌, ◌+◌, IfSome, length};
-ghost use Rattle.book_rows.specs.Months.{digit_of, two_at, four_at};
+ghost use Rattle.std.specs.Prelude.{◌≡◌};
 ghost use Rattle.command_lines.specs.Forms.{amount_of, flag_of, date_of, month_of, stage_of, op_of};
 
+use book_rows::{four_digits_at, two_digits_at};
 use device_core::{RuleOp, Stage};
 use itoa::Buffer;
 
@@ -63,40 +63,6 @@ pub(crate) fn op_in(text: &str) -> Option<RuleOp>
     None
 }
 
-/// The number that a digit writes.
-fn digit(byte: u8) -> Option<u32>
-    ensures value { result ≡ digit_of byte }
-    ensures small { IfSome result (λ n. n < 10) }
-{
-    if byte.is_ascii_digit() {
-        Some((byte - b'0') as u32)
-    } else {
-        None
-    }
-}
-
-/// The number that the two digits from a place on write.
-fn two_at(text: &[u8], at: usize) -> Option<u32>
-    requires { at + 1 < length text.now }
-    ensures value { result ≡ two_at text.now at }
-    ensures small { IfSome result (λ n. n < 100) }
-{
-    let high = digit(text[at])?;
-    let low = digit(text[at + 1])?;
-    Some(10 * high + low)
-}
-
-/// The number that the four digits from a place on write.
-fn four_at(text: &[u8], at: usize) -> Option<u32>
-    requires { at + 3 < length text.now }
-    ensures value { result ≡ four_at text.now at }
-    ensures small { IfSome result (λ n. n < 10000) }
-{
-    let high = two_at(text, at)?;
-    let low = two_at(text, at + 2)?;
-    Some(100 * high + low)
-}
-
 /// The number that eight digits write.
 #[tactic(auto, unfolding(crate::specs::Forms::date_of))]
 pub(crate) fn date_in(text: &str) -> Option<u32>
@@ -106,8 +72,8 @@ pub(crate) fn date_in(text: &str) -> Option<u32>
     if text.len() != 8 {
         return None;
     }
-    let year = four_at(text, 0)?;
-    let day = four_at(text, 4)?;
+    let year = four_digits_at(text, 0)?;
+    let day = four_digits_at(text, 4)?;
     Some(10_000 * year + day)
 }
 
@@ -120,7 +86,7 @@ pub(crate) fn month_in(text: &str) -> Option<u32>
     if text.len() != 7 || text[4] != b'-' {
         return None;
     }
-    let year = four_at(text, 0)?;
-    let month = two_at(text, 5)?;
+    let year = four_digits_at(text, 0)?;
+    let month = two_digits_at(text, 5)?;
     Some(100 * year + month)
 }

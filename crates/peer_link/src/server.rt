@@ -13,7 +13,9 @@ use device_sync::served_is_honest;
 use field_values::{Items, NoMemory, Txt};
 use std::alloc::Global;
 use std::marker::Model;
-use sync_server::{Served, ServerState, accepted_are_kept, requests_are_judged, serve_one};
+use sync_server::{
+    Served, ServerState, accepted_are_kept, file_name, requests_are_judged, serve_one,
+};
 use sync_wire::meanings_are_valid;
 
 /// The most bytes of a reply that find room.
@@ -47,11 +49,10 @@ fn keeper_of(alloc: Global) -> Result<MemoryKeeper, NoMemory>
     ensures { IfOk result (λ keeper. keeper.contents ≡ with_text nothing (file_name file) group) }
 {
     let mut keeper = MemoryKeeper::new(alloc);
-    let mut name = String::new(alloc);
-    name.push_str("file/")?;
-    name.push_str(FILE)?;
+    let file = Txt::from_text(alloc, FILE)?;
+    let name = file_name(alloc, &file)?;
     let group = Txt::from_text(alloc, GROUP)?;
-    match keeper.put(&Txt::new(name), &group) {
+    match keeper.put(&name, &group) {
         Ok(()) => Ok(keeper),
         Err(_) => Err(NoMemory),
     }

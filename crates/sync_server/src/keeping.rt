@@ -21,8 +21,8 @@ use kept_messages::{StartFault, read_log};
 use std::alloc::Global;
 use sync_wire::SyncRequest;
 
-/// The name of the text that tells the group of a file.
-fn file_name(alloc: Global, file: &Txt) -> Result<Txt, NoMemory>
+/// The name of the text in a keeper that tells the group of a file: `file/`, then the file.
+pub fn file_name(alloc: Global, file: &Txt) -> Result<Txt, NoMemory>
     ensures { IfOk result (λ t. t ≡ file_name file.now) }
 {
     let mut name = String::new(alloc);
