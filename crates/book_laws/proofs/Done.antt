@@ -56,11 +56,11 @@ use Rattle.split_transfer.proofs.Promise.{live_is}
 
 -- ---- values that are read back
 
-text_back : (t : Option Text) → text_of (text_or_null t) ≡ t
+pub text_back : (t : Option Text) → text_of (text_or_null t) ≡ t
 text_back None = refl
 text_back (Some t) = refl
 
-flag_back : (b : Bool) → flag_of (flag b) ≡ b
+pub flag_back : (b : Bool) → flag_of (flag b) ≡ b
 flag_back true = refl
 flag_back false = refl
 
@@ -76,7 +76,7 @@ added account date amount payee category notes base =
 
 -- ---- the row of a new id
 
-given_is : (ids : Ids) (there : Text → Bool) (id : Option Text) (row : RowName) → new_row there id ≡ Ok row → row_of ids row ≡ new_id ids id
+pub given_is : (ids : Ids) (there : Text → Bool) (id : Option Text) (row : RowName) → new_row there id ≡ Ok row → row_of ids row ≡ new_id ids id
 given_is ids there None row h = ap (row_of ids) (sym (inside (Made 0) row h))
 given_is ids there (Some id) row h =
     let a = passed (must (may_be_chosen id) (BadId id)) _ _ h in
@@ -86,10 +86,10 @@ given_is ids there (Some id) row h =
 -- ---- cells
 
 -- the write of a value into a column of a dataset
-abbrev into : Dataset → RowName → Column → WriteValue → Write
+abbrev pub into : Dataset → RowName → Column → WriteValue → Write
 into d row c v = record { dataset = dataset_name d; row = row; column = column_name c; value = v }
 
-cell : (ids : Ids) (r : Rows) (d : Dataset) (row : RowName) (c : Column) (v : WriteValue) → with_write ids r (into d row c v) ≡ with_cell d (row_of ids row) c (value_in ids v) r
+pub cell : (ids : Ids) (r : Rows) (d : Dataset) (row : RowName) (c : Column) (v : WriteValue) → with_write ids r (into d row c v) ≡ with_cell d (row_of ids row) c (value_in ids v) r
 cell ids r d row c v =
     ap (λ x. with_known x (column_of (column_name c)) (row_of ids row) (value_in ids v) r) (dataset_found d)
     ∙ ap (λ x. with_known (Some d) x (row_of ids row) (value_in ids v) r) (column_found c)
@@ -110,17 +110,17 @@ module _ {Row : Type 0} (T : Table Row) (id : Text) where
   got_two b c v w m h k = got c w (with_column T id b v m) k ∙ ap (λ o. Some (T.set c w (unwrap_or o (blank_row T id)))) (got b v m h)
 
 -- the id of a row, as a value that is written
-id_is : (ids : Ids) (row : RowName) → value_in ids (id_value row) ≡ IsText (row_of ids row)
+pub id_is : (ids : Ids) (row : RowName) → value_in ids (id_value row) ≡ IsText (row_of ids row)
 id_is ids (Given id) = refl
 id_is ids (Made at) = refl
 
 module _ (ids : Ids) (r : Rows) where
   -- ---- accounts and payees
 
-  abbrev accounts_set : Text → Text → Bool → Rows
+  abbrev pub accounts_set : Text → Text → Bool → Rows
   accounts_set k name off = with_cell Accounts k of.Offbudget (flag off) (with_cell Accounts k of.Name (IsText name) r)
 
-  accounts_after : (row : RowName) (name : Text) (off : Bool)
+  pub accounts_after : (row : RowName) (name : Text) (off : Bool)
       → with_writes ids r (account_writes row name off) ≡ with_cell Payees (ids 2) of.TransferAcct (value_in ids (id_value row)) (with_cell Payees (ids 2) of.Name (IsText []) (accounts_set (row_of ids row) name off))
   accounts_after row name off =
       ap (λ m. with_writes ids m (into Payees (Made 2) of.Name (Plain (IsText [])) ∷ into Payees (Made 2) of.TransferAcct (id_value row) ∷ []))

@@ -5,3 +5,9 @@ pub mod GoingBack
 pub mod Numbered
 pub mod Moved
 pub mod Done
+pub mod NoMore
+pub mod Asked
+pub mod Split
+pub mod OnSheets
+pub mod Unchanged
+pub mod AskedPairs

@@ -3,3 +3,9 @@ pub mod Histories
 pub mod Sheets
 pub mod Moving
 pub mod Doing
+pub mod Leaving
+pub mod Asking
+pub mod Splitting
+pub mod Showing
+pub mod Changing
+pub mod AskingPairs

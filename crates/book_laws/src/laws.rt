@@ -1,14 +1,22 @@
 //! Facts about all books, edits, histories and sheets, which a proof can call for.
-ghost use Rattle.std.specs.Prelude.{List};
+ghost use Rattle.std.specs.Prelude.{◌≡◌, List, Some};
+ghost use Rattle.std.specs.FinMap as map;
 ghost use Rattle.finite_sums.specs.Maps.{Text};
 ghost use Rattle.book_rows.specs.declared.rows.Rows.{Rows};
+ghost use Rattle.book_rows.specs.declared.rows.TxRow.{TxRow};
 ghost use Rattle.book_rows.specs.declared.write.Write.{Write};
 ghost use Rattle.split_transfer.specs.After.{Ids};
 ghost use Rattle.book_laws.specs.Books.{BalancesAreTold, KeptRowsAreTold, MonthsAreNamed, TransactionsAreListed, ValuesAreRead};
 ghost use Rattle.book_laws.specs.Moving.{TransfersMove};
+ghost use Rattle.book_laws.specs.Splitting.{SplitsMakeParts};
 ghost use Rattle.book_laws.specs.Doing.{ChangesDo, PlainEditsDo};
+ghost use Rattle.book_laws.specs.AskingPairs.{PairEditsAreJudged};
+ghost use Rattle.book_laws.specs.Asking.{PlainEditsAreJudged};
+ghost use Rattle.book_laws.specs.Changing.{ChangesDoNoMore};
+ghost use Rattle.book_laws.specs.Leaving.{PlainEditsDoNoMore};
 ghost use Rattle.book_laws.specs.Histories.{HistoriesGoBack};
 ghost use Rattle.envelope_cells.specs.Budget.{Budget};
+ghost use Rattle.book_laws.specs.Showing.{EditsShowOnSheets};
 ghost use Rattle.book_laws.specs.Sheets.{CellsAddUp, MonthsAreNumbered, SumsAreOfTransactions};
 
 /// A law: how a value is read in a column of each kind, and which numbers write a day.
@@ -59,10 +67,28 @@ pub fn cells_add_up()
     ensures { (b : Budget) → CellsAddUp b }
 {}
 
+/// A law: what an edit gives a category in a month is what the sheet of the month is made of, and so are what is carried over and what
+/// is held back.
+pub fn edits_show_on_sheets()
+    ensures { (ids : Ids) (rows : Rows) (ws : List Write) → EditsShowOnSheets ids rows ws }
+{}
+
 /// A law: a transfer that is accepted takes its amount out of the one account and brings it into the other one, by two transactions of
 /// one day that name each other, and changes no other transaction. It is asked before that the ids of both are new and differ.
 pub fn transfers_move()
     ensures { TransfersMove }
+{}
+
+/// A law: a split that is accepted makes a transaction for each part, with its amount and its category, and of the day, the account and
+/// the payee of what is split, which has no category then; earlier parts are deleted, and no other transaction changes. It is asked
+/// before that the ids of the rows that are made are new and differ.
+pub fn splits_make_parts()
+    ensures { SplitsMakeParts }
+{}
+
+/// A law: a plain edit is refused with the first fault of what it asks for, and accepted where there is none.
+pub fn plain_edits_are_judged()
+    ensures { PlainEditsAreJudged }
 {}
 
 /// A law: a plain edit that is accepted does what it is for: the row that it is about has then what the edit gives it.
@@ -70,7 +96,24 @@ pub fn plain_edits_do()
     ensures { (ids : Ids) (rows : Rows) (ws : List Write) → PlainEditsDo ids rows ws }
 {}
 
+/// A law: a plain edit that is accepted leaves the rows that were there, but for the fields that it is about: each other row stays, and
+/// so does each other field of these rows.
+pub fn plain_edits_do_no_more()
+    ensures { (ids : Ids) (rows : Rows) (ws : List Write) → PlainEditsDoNoMore ids rows ws }
+{}
+
 /// A law: a change of a transaction that is accepted does what it is for: the transaction has then what the change gives it.
 pub fn changes_do()
     ensures { (ids : Ids) (rows : Rows) (id : Text) (ws : List Write) → ChangesDo ids rows id ws }
+{}
+
+/// A law: a change of a transaction that is accepted changes nothing but that: a day is that of its parts and of its partner too, an
+/// account that of its parts, its partner has the opposite amount, and is deleted with it. Nothing else is written.
+pub fn changes_do_no_more()
+    ensures { (ids : Ids) (rows : Rows) (id : Text) (x : TxRow) (ws : List Write) → map.get rows.txs id ≡ Some x → ChangesDoNoMore ids rows id x ws }
+{}
+
+/// A law: an edit of transactions is refused with the first fault of what it asks for, and accepted where there is none.
+pub fn pair_edits_are_judged()
+    ensures { PairEditsAreJudged }
 {}
