@@ -3,3 +3,7 @@ pub mod Cutting
 pub mod TestLaws
 pub mod StageLaws
 pub mod RunLaws
+pub mod Written
+pub mod RuleRows
+pub mod ScheduleRows
+pub mod Actions

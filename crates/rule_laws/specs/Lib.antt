@@ -1,3 +1,5 @@
 pub mod Recurring
 pub mod Comparing
 pub mod Making
+pub mod Scheduling
+pub mod Acting

@@ -1,5 +1,5 @@
 -- In which order rules run, how they read back, and what running them on transactions leaves.
-use Rattle.std.specs.Prelude.{◌≡◌, ◌<◌, ◌++◌, ◌∷◌, true, false, List, [], Option, Some, option_map, Ok, Err, if◌then◌else◌, codes}
+use Rattle.std.specs.Prelude.{◌≡◌, ◌<◌, ℕ, ◌++◌, ◌∷◌, true, false, List, [], Option, None, Some, option_map, Ok, Err, if◌then◌else◌, codes}
 use Rattle.std.specs.List.{AllByRecursion, Contains}
 use Rattle.std.specs.declared.cmp.Ordering.TheVariants.{Less}
 use Rattle.std.specs.FinMap as map
@@ -23,7 +23,7 @@ use Rattle.rule_engine.specs.declared.rule.Stage.TheVariants.{Pre, Plain, Post}
 use Rattle.rule_engine.specs.Reading.{read_rule}
 use Rattle.rule_engine.specs.Running.{run, rules_of}
 use Rattle.rule_engine.specs.Scores.{score, rank_cmp}
-use Rattle.rule_engine.specs.Edits.{stage_value, op_text, rule_add, distinct, rules_run}
+use Rattle.rule_engine.specs.Edits.{stage_value, op_text, rule_add, rule_delete, distinct, rules_run}
 
 -- rules of the first stage come before those of none, and those of the last stage behind both
 abbrev pub ComesBefore : Stage → Stage → Type 0
@@ -49,6 +49,20 @@ added_row id stage op conditions actions = record {
   actions = Some actions;
   tombstone = false;
 }
+
+-- the id of a new row: the given one, or the one that the write at this place makes
+abbrev pub own_id : Ids → ℕ → Option Text → Text
+own_id ids at None = ids at
+own_id ids at (Some id) = id
+
+-- what edits of rules leave
+pub record RuleEditsDo (ids : Ids) (rows : Rows) (ws : List Write) : Type 0 where
+  -- a new rule has a row that says what was given, where there was none with its id, and nothing else changes
+  pub added : (given : Option Text) (stage : Stage) (op : RuleOp) (conditions actions : Text) → rule_add rows given stage op conditions actions ≡ Ok ws → map.get rows.rules (own_id ids 0 given) ≡ None
+      → with_writes ids rows ws ≡ record rows { rules = map.insert rows.rules (own_id ids 0 given) (added_row (own_id ids 0 given) stage op conditions actions) }
+  -- a rule that is deleted was there, stays as it was but for that, and nothing else changes
+  pub deleted : (id : Text) → rule_delete rows id ≡ Ok ws
+      → (r : RuleRow) × (map.get rows.rules id ≡ Some r) × (r.tombstone ≡ false) × (with_writes ids rows ws ≡ record rows { rules = map.insert rows.rules id (record r { tombstone = true }) })
 
 -- a rule that is accepted can be read, and says what was given
 pub record RulesReadBack : Type 0 where

@@ -1,9 +1,15 @@
 //! Facts about all recurrences and rules, which a proof can call for.
-ghost use Rattle.std.specs.Prelude.{ℕ, ◌≤◌};
+ghost use Rattle.std.specs.Prelude.{ℕ, ◌≤◌, List};
+ghost use Rattle.book_rows.specs.declared.rows.Rows.{Rows};
+ghost use Rattle.book_rows.specs.declared.rows.TxRow.{TxRow};
+ghost use Rattle.book_rows.specs.declared.write.Write.{Write};
+ghost use Rattle.split_transfer.specs.After.{Ids};
 ghost use Rattle.schedules.specs.Days.{Said};
 ghost use Rattle.rule_laws.specs.Recurring.{DaysMove, EndsCut, MiddlesAreRounded, RawDaysAreTold};
 ghost use Rattle.rule_laws.specs.Comparing.{ConditionsAreTold};
-ghost use Rattle.rule_laws.specs.Making.{IdsAreTakenOnce, RulesMakeRows, RulesReadBack, StagesComeInTurn};
+ghost use Rattle.rule_laws.specs.Making.{IdsAreTakenOnce, RuleEditsDo, RulesMakeRows, RulesReadBack, StagesComeInTurn};
+ghost use Rattle.rule_laws.specs.Scheduling.{ScheduleEditsDo};
+ghost use Rattle.rule_laws.specs.Acting.{ActionsAreTold};
 
 /// A law: raw days lie whole steps of days, weeks, months or years from the start on, and by months on a day that is meant.
 pub fn raw_days_are_told()
@@ -25,9 +31,21 @@ pub fn middles_are_rounded()
     ensures { MiddlesAreRounded }
 {}
 
+/// A law: a schedule that is added has the name, its rule and the first date; one that is posted makes the transaction of its next date
+/// as its rule says; one that is skipped goes on to the least date after that; one that is deleted is deleted. Nothing else changes.
+pub fn schedule_edits_do()
+    ensures { (ids : Ids) (rows : Rows) (ws : List Write) → ScheduleEditsDo ids rows ws }
+{}
+
 /// A law: what the tests of conditions say of ids, texts, amounts, days and flags.
 pub fn conditions_are_told()
     ensures { ConditionsAreTold }
+{}
+
+/// A law: what each action makes of a transaction. A payee or a category that isn't live changes nothing, nor does a category where the
+/// transaction is split or in a pair.
+pub fn actions_are_told()
+    ensures { (rows : Rows) (x : TxRow) → ActionsAreTold rows x }
 {}
 
 /// A law: rules run by stage, first, none and last, within a stage from the one that counts least, and of those that count the same by
@@ -39,6 +57,11 @@ pub fn stages_come_in_turn()
 /// A law: a rule that is accepted can be read, with the stage and the op that were given.
 pub fn rules_read_back()
     ensures { RulesReadBack }
+{}
+
+/// A law: a rule that is added has a row that says what was given, and one that is deleted is deleted; nothing else changes.
+pub fn rule_edits_do()
+    ensures { (ids : Ids) (rows : Rows) (ws : List Write) → RuleEditsDo ids rows ws }
 {}
 
 /// A law: after the rules were run on transactions each of them stands as the rules make it, and each other one as before; nothing is

@@ -7,6 +7,7 @@
 mod laws;
 
 pub use laws::{
-    conditions_are_told, days_move, ends_cut, ids_are_taken_once, middles_are_rounded,
-    raw_days_are_told, rules_make_rows, rules_read_back, stages_come_in_turn,
+    actions_are_told, conditions_are_told, days_move, ends_cut, ids_are_taken_once,
+    middles_are_rounded, raw_days_are_told, rule_edits_do, rules_make_rows, rules_read_back,
+    schedule_edits_do, stages_come_in_turn,
 };
