@@ -1,0 +1,8 @@
+//! What more holds of a keeper over a store.
+//!
+//! There is no code here but calls of the keeper: the laws say in the words of the store what each call of it does.
+#![tactic(auto)]
+
+mod laws;
+
+pub use laws::{append_to_store, ask_store, get_from_store, names_of_store, put_into_store};
