@@ -6,3 +6,9 @@ mod Bodies
 mod Replies
 mod Turning
 mod Whole
+mod Devices
+mod EditKinds
+mod Asking
+mod Lines
+mod Plans
+mod Equal

@@ -1,5 +1,10 @@
+pub mod Asking
 pub mod Contents
 pub mod Counting
+pub mod Devices
+pub mod Equal
+pub mod Lines
+pub mod Plans
 pub mod Server
 pub mod Turning
 pub mod Whole

@@ -1,11 +1,20 @@
-//! Facts about what a keeper holds, about the bytes of a sync, about the server and about conversations, which a proof can call for.
+//! Facts about what a keeper holds, about the bytes of a sync, about the server, about conversations, and about the lines of a device,
+//! which a proof can call for.
+ghost use Rattle.sync_laws.specs.Asking.{RequestsAsk, LastSyncsAreApart};
 ghost use Rattle.sync_laws.specs.Contents.{ContentsAreKept};
 ghost use Rattle.sync_laws.specs.Counting.{EnvelopesCount};
+ghost use Rattle.sync_laws.specs.Devices.{DevicesBeginAnew, EditsAreOfTheirKind, IdsAreMadeInOrder};
+ghost use Rattle.sync_laws.specs.Equal.{ServersAnswerEqually};
+ghost use Rattle.sync_laws.specs.Lines.{LinesAreTakenBack, EqualSetsAnswerEqually};
+ghost use Rattle.sync_laws.specs.Plans.{PlansMeet};
 ghost use Rattle.sync_laws.specs.Server.{BodiesDecide, FilesAreApart, PathsAreCut, StatusesAreWritten, TriesAreOfTimestamps};
 ghost use Rattle.sync_laws.specs.Turning.{TalksBegin, TalksEnd};
 ghost use Rattle.sync_laws.specs.Whole.{RepliesAreWhole};
 
-use sync_server::{answers_tell, connections_are_decided};
+use budget_top::lines_are_obeyed;
+use device_core::{entries_are_taken_back, lines_are_undone, writes_are_joined};
+use field_merge::joined_in_any_order;
+use sync_server::{accepted_are_kept, answers_tell, connections_are_decided};
 
 /// A law: what is given of a group are the records that it has above a key, each once, by key. After an append
 /// each record that was there is there as it was; under a key that the group lacked stands the first record of the
@@ -44,6 +53,15 @@ pub fn statuses_are_written()
     ensures { StatusesAreWritten }
 {}
 
+/// A law: servers whose files have the same groups, and whose groups have the same message sets, answer connections with equal bytes by
+/// equal bytes, where they answer with 200, however the messages came there.
+pub fn servers_answer_equally()
+    ensures { ServersAnswerEqually }
+{
+    connections_are_decided();
+    accepted_are_kept();
+}
+
 /// A law: the text of the trie in an answer is that of any trie of the timestamps of all messages that the group has then.
 pub fn tries_are_of_timestamps()
     ensures { TriesAreOfTimestamps }
@@ -69,3 +87,67 @@ pub fn talks_begin()
 pub fn talks_end()
     ensures { TalksEnd }
 {}
+
+/// A law: a device hands in exactly the messages that it has, whoever made them, whose timestamp's text is greater than the text from
+/// which it asks, from the oldest on. It asks for such, of the file and the group of its target.
+pub fn requests_ask()
+    ensures { RequestsAsk }
+{
+    answers_tell();
+}
+
+/// A law: the text of the last sync is kept under a name of its own for each file and group, where the files have no slash, as no file
+/// of a command line has.
+pub fn last_syncs_are_apart()
+    ensures { LastSyncsAreApart }
+{}
+
+/// A law: the device of a plan says the plan's token, file and group. A server of a plan with the same file and group has, from its first
+/// connection on, the group for which that device asks.
+pub fn plans_meet()
+    ensures { PlansMeet }
+{
+    contents_are_kept();
+}
+
+/// A law: a device that begins, as it does after each stop, has nothing to undo or to redo, and refuses both for that.
+pub fn devices_begin_anew()
+    ensures { DevicesBeginAnew }
+{}
+
+/// A law: each kind of edit is answered by the writes that its own crate makes of it in the book of the messages. It is refused for
+/// just the refusal of its checks, else for the fault of the clock where that draws no timestamps; what is accepted has made just
+/// these writes, and without any all stays.
+pub fn edits_are_of_their_kind()
+    ensures { EditsAreOfTheirKind }
+{
+    writes_are_joined();
+}
+
+/// A law: the ids that a line made for rows are told in the order of their timestamps, each once. Which they are `writes_are_joined`
+/// says.
+pub fn ids_are_made_in_order()
+    ensures { IdsAreMadeInOrder }
+{}
+
+/// A law: what a line `undo` or `redo` makes of a run. Where there is no entry, it is refused for that, and where the clock draws no
+/// timestamps, for its fault; all stays then. Else exactly the writes that undo the latest entry have joined, whatever has come since
+/// the entry was made, and the reply tells them. An `undo` right behind an edit with writes restores what the edit wrote over, and so
+/// does a `redo` behind an `undo`, and an `undo` behind a `redo`.
+pub fn lines_are_taken_back()
+    ensures { LinesAreTakenBack }
+{
+    lines_are_obeyed();
+    entries_are_taken_back();
+    lines_are_undone();
+}
+
+/// A law: equal sets answer equal bytes. Two runs with the same messages answer a line that only reads by the same bytes, wherever their
+/// clocks stand, whatever could be undone or redone, with whom they sync, in whatever order and number the messages have come, and
+/// whether one of them begins with what is kept of the other.
+pub fn equal_sets_answer_equally()
+    ensures { EqualSetsAnswerEqually }
+{
+    lines_are_obeyed();
+    joined_in_any_order();
+}
