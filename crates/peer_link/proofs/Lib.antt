@@ -4,3 +4,4 @@ pub mod Outcome
 pub mod Serving
 pub mod Meetings
 pub mod Linked
+pub mod Asking

@@ -3,3 +3,4 @@ pub mod Peer
 pub mod Serving
 pub mod Meeting
 pub mod Asked
+pub mod Laws

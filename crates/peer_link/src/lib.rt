@@ -2,11 +2,13 @@
 #![tactic(auto)]
 
 mod asked;
+mod laws;
 mod link;
 mod meeting;
 mod place;
 mod server;
 
+pub use laws::devices_ask;
 pub use link::PeerLink;
 pub use meeting::{Met, meet};
 pub use place::peer_target;
