@@ -4,6 +4,12 @@ import subprocess
 import sys
 
 
+def processor_time(process):
+    """The CPU time that a running process has taken, in nanoseconds."""
+    with open("/proc/%d/schedstat" % process.pid) as file:
+        return int(file.read().split()[0])
+
+
 class Device:
     """A running program, and the CPU time that it has taken."""
 
@@ -27,9 +33,17 @@ class Device:
                     self.process.stdout.readline()
             os.waitpid(writer, 0)
 
+    def ask(self, line):
+        """Tells one line, which must be accepted, and returns the lines of its reply."""
+        self.process.stdin.write(line.encode())
+        self.process.stdin.flush()
+        head = self.process.stdout.readline()
+        if not head.startswith(b"ok "):
+            sys.exit("%r was answered %r" % (line, head))
+        return [self.process.stdout.readline().decode().rstrip("\n") for _ in range(int(head[3:]))]
+
     def nanoseconds(self):
-        with open("/proc/%d/schedstat" % self.process.pid) as file:
-            return int(file.read().split()[0])
+        return processor_time(self.process)
 
     def cost(self, lines):
         before = self.nanoseconds()
