@@ -1,6 +1,7 @@
 //! The door of the program. It is the edge of what is proved: what the network gives and takes is not
 //! told, but each failure raises a count.
-ghost use Rattle.std.specs.Prelude.{◌≡◌, ◌<◌, length, None, IfOk, IsErr, OnOk};
+ghost use Rattle.std.specs.Prelude.{◌≡◌, ◌<◌, length, None, IfOk, IsErr, IsTrue, OnOk, false};
+ghost use Rattle.std.specs.Option.{is_some};
 ghost use Rattle.std.specs.Result.{is_err};
 ghost use Rattle.std.specs.Io.{ReadsAtMost, WritesAtMost};
 ghost use Rattle.budget_ports.specs.Faults.{risen, count_after};
@@ -70,6 +71,8 @@ impl<C: Clock> Door for TcpDoor<C> {
 
     ghost outs = { λ _. None };
 
+    ghost is_open = { λ d. is_some d.visit };
+
     ghost faults = { λ d. d.faults };
 
     /// Waits for the next connection, however long that is. A connection without a limit for its reads
@@ -98,6 +101,7 @@ impl<C: Clock> Door for TcpDoor<C> {
 
         // what each door promises
         ensures bound { ReadsAtMost result buffer.new }
+        ensures open { OnOk result (IsTrue (is_some self.old.visit)) × (IsTrue (is_some self.new.visit) → IsTrue (is_some self.old.visit)) }
         ensures count { self.new.faults ≡ count_after (is_err result) self.old.faults }
 
         // what this one does
@@ -118,6 +122,7 @@ impl<C: Clock> Door for TcpDoor<C> {
         // what each door promises
         ensures bound { WritesAtMost result bytes.now }
         ensures some { IfOk result (λ n. 0 < length bytes.now → 0 < n) }
+        ensures open { OnOk result (IsTrue (is_some self.old.visit)) × (IsTrue (is_some self.new.visit) → IsTrue (is_some self.old.visit)) }
         ensures count { self.new.faults ≡ count_after (is_err result) self.old.faults }
 
         // what this one does
@@ -137,11 +142,11 @@ impl<C: Clock> Door for TcpDoor<C> {
     /// open then.
     fn close(&mut self) -> Result<(), Failed>
         // what each door promises
+        ensures shut { is_some self.new.visit ≡ false }
         ensures count { self.new.faults ≡ count_after (is_err result) self.old.faults }
 
         // what this one does
         ensures closed { self.old.visit ≡ None → IsErr result }
-        ensures open { self.new.visit ≡ None }
         ensures listener { self.new.listener ≡ self.old.listener }
     {
         if let Some(visit) = self.visit.take() {

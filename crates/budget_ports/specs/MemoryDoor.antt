@@ -110,3 +110,7 @@ failed_door old = record old { calls = failed old.calls }
 -- a door after its connection was ended
 abbrev pub closed_door : DoorState → DoorState
 closed_door old = record old { is_open = false; calls = answered old.calls }
+
+-- a door after the end of its connection failed: none is open all the same
+abbrev pub unclosed_door : DoorState → DoorState
+unclosed_door old = record old { is_open = false; calls = failed old.calls }

@@ -1,5 +1,5 @@
 //! Where connections come from.
-ghost use Rattle.std.specs.Prelude.{◌≡◌, ◌⊎◌, ◌<◌, ℕ, List, length, take, IfOk, OnOk, OnErr, IsSome};
+ghost use Rattle.std.specs.Prelude.{◌≡◌, ◌⊎◌, ◌<◌, ℕ, Bool, false, List, length, take, IfOk, OnOk, OnErr, IsSome, IsTrue};
 ghost use Rattle.std.specs.declared.option.Option.{Option};
 ghost use Rattle.std.specs.Io.{ReadsAtMost, WritesAtMost};
 ghost use Rattle.std.specs.Io.KnownBytes.{ReadConsumes};
@@ -22,6 +22,9 @@ pub trait Door {
     /// What was written to each connection that was let in, the last one last, where the door tells.
     ghost outs: { Self → Option (List (List ℕ)) };
 
+    /// Whether a connection is open: bytes come and go by none but an open one.
+    ghost is_open: { Self → Bool };
+
     /// How often a call has failed: a call that fails counts once, and any other not.
     ghost faults: { Self → ℕ };
 
@@ -43,6 +46,7 @@ pub trait Door {
         ensures bound { ReadsAtMost result buffer.new }
         ensures bytes { ReadConsumes (left self.old) (left self.new) result buffer.new }
         ensures others { Stays (waiting self.old) (waiting self.new) × Stays (outs self.old) (outs self.new) }
+        ensures open { OnOk result (IsTrue (is_open self.old)) × (IsTrue (is_open self.new) → IsTrue (is_open self.old)) }
         ensures told { (IsSome (waiting self.new) → IsSome (waiting self.old)) × (IsSome (left self.new) → IsSome (left self.old)) × (IsSome (outs self.new) → IsSome (outs self.old)) }
         ensures count { faults self.new ≡ count_after (is_err result) (faults self.old) };
 
@@ -55,11 +59,13 @@ pub trait Door {
         ensures bytes { IfOk result (λ n. Writes (outs self.old) (outs self.new) (take n bytes.now)) }
         ensures err { OnErr result (Stays (outs self.old) (outs self.new)) }
         ensures others { Stays (waiting self.old) (waiting self.new) × Stays (left self.old) (left self.new) }
+        ensures open { OnOk result (IsTrue (is_open self.old)) × (IsTrue (is_open self.new) → IsTrue (is_open self.old)) }
         ensures told { (IsSome (waiting self.new) → IsSome (waiting self.old)) × (IsSome (left self.new) → IsSome (left self.old)) × (IsSome (outs self.new) → IsSome (outs self.old)) }
         ensures count { faults self.new ≡ count_after (is_err result) (faults self.old) };
 
-    /// Ends the connection. What came and what was written stays the same, whatever it answers.
+    /// Ends the connection. None is open then, and what came and what was written stays the same, whatever it answers.
     fn close(&mut self) -> Result<(), Failed>
+        ensures shut { is_open self.new ≡ false }
         ensures same { Stays (waiting self.old) (waiting self.new) × Stays (left self.old) (left self.new) × Stays (outs self.old) (outs self.new) }
         ensures told { (IsSome (waiting self.new) → IsSome (waiting self.old)) × (IsSome (left self.new) → IsSome (left self.old)) × (IsSome (outs self.new) → IsSome (outs self.old)) }
         ensures count { faults self.new ≡ count_after (is_err result) (faults self.old) };

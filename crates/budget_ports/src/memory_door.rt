@@ -1,5 +1,5 @@
 //! A door in memory, for tests.
-ghost use Rattle.std.specs.Prelude.{◌≡◌, ◌↔◌, ◌<◌, ◌≤◌, ◌+◌, ◌++◌, ◌∷◌, ◌||◌, ◌==◌, [], not, length, take, drop, map, min, vec_len, vec_capacity, slice_index_or, IsTrue, IsErr, IsSome, IfSome, IfOk, OnOk, OnErr, Some, true};
+ghost use Rattle.std.specs.Prelude.{◌≡◌, ◌↔◌, ◌<◌, ◌≤◌, ◌+◌, ◌++◌, ◌∷◌, ◌||◌, ◌==◌, [], not, length, take, drop, map, min, vec_len, vec_capacity, slice_index_or, IsTrue, IsErr, IsSome, IfSome, IfOk, OnOk, OnErr, Some, true, false};
 ghost use Rattle.std.specs.declared.option.Option.{Option};
 ghost use Rattle.std.specs.Io.{ReadsAtMost, WritesAtMost};
 ghost use Rattle.std.specs.Io.KnownBytes.{ReadConsumes};
@@ -7,7 +7,7 @@ ghost use Rattle.std.specs.Result.{is_err};
 ghost use Rattle.budget_ports.specs.Faults.{count_after, risen};
 ghost use Rattle.budget_ports.specs.Calls.{no_calls, is_listed, answered};
 ghost use Rattle.budget_ports.specs.Connections.{Stays, LetsIn, Opens, Begins, Writes, next_bytes};
-ghost use Rattle.budget_ports.specs.MemoryDoor.{RoomState, visitor, shut_door, to_come, outs, piece, has_space, can_write, opened, GivesPiece, PutsLast, WritesAll, failed_door, closed_door};
+ghost use Rattle.budget_ports.specs.MemoryDoor.{RoomState, visitor, shut_door, to_come, outs, piece, has_space, can_write, opened, GivesPiece, PutsLast, WritesAll, failed_door, closed_door, unclosed_door};
 
 use crate::calls::Calls;
 use crate::door::Door;
@@ -181,6 +181,8 @@ impl Door for MemoryDoor {
 
     ghost outs = { λ d. Some (outs d) };
 
+    ghost is_open = { λ d. d.is_open };
+
     ghost faults = { λ d. d.calls.faults };
 
     #[tactic(auto, using(crate::proofs::Visits::let_in, crate::proofs::Visits::past_in))]
@@ -223,6 +225,7 @@ impl Door for MemoryDoor {
         ensures bound { ReadsAtMost result buffer.new }
         ensures bytes { ReadConsumes (Some self.old.left) (Some self.new.left) result buffer.new }
         ensures others { Stays (Some (to_come self.old)) (Some (to_come self.new)) × Stays (Some (outs self.old)) (Some (outs self.new)) }
+        ensures open { OnOk result (IsTrue self.old.is_open) × (IsTrue self.new.is_open → IsTrue self.old.is_open) }
         ensures count { self.new.calls.faults ≡ count_after (is_err result) self.old.calls.faults }
 
         // what this one does
@@ -249,6 +252,7 @@ impl Door for MemoryDoor {
         ensures bytes { IfOk result (λ n. Writes (Some (outs self.old)) (Some (outs self.new)) (take n bytes.now)) }
         ensures err { OnErr result (Stays (Some (outs self.old)) (Some (outs self.new))) }
         ensures others { Stays (Some (to_come self.old)) (Some (to_come self.new)) × Stays (Some self.old.left) (Some self.new.left) }
+        ensures open { OnOk result (IsTrue self.old.is_open) × (IsTrue self.new.is_open → IsTrue self.old.is_open) }
         ensures count { self.new.calls.faults ≡ count_after (is_err result) self.old.calls.faults }
 
         // what this one does
@@ -263,19 +267,20 @@ impl Door for MemoryDoor {
         Ok(bytes.len())
     }
 
-    /// Fails exactly where the call is listed or no connection is open.
+    /// Fails exactly where the call is listed or no connection is open. No connection is open then.
     fn close(&mut self) -> Result<(), Failed>
         // what each door promises
+        ensures shut { self.new.is_open ≡ false }
         ensures same { Stays (Some (to_come self.old)) (Some (to_come self.new)) × Stays (Some self.old.left) (Some self.new.left) × Stays (Some (outs self.old)) (Some (outs self.new)) }
         ensures count { self.new.calls.faults ≡ count_after (is_err result) self.old.calls.faults }
 
         // what this one does
         ensures fails { IsErr result ↔ IsTrue (is_listed self.old.calls || not self.old.is_open) }
         ensures ok { OnOk result (self.new ≡ closed_door self.old) }
-        ensures failed { OnErr result (self.new ≡ failed_door self.old) }
+        ensures failed { OnErr result (self.new ≡ unclosed_door self.old) }
     {
-        self.calls.begin(self.is_open)?;
+        let was_open = self.is_open;
         self.is_open = false;
-        Ok(())
+        self.calls.begin(was_open)
     }
 }

@@ -1,5 +1,5 @@
 //! One connection.
-ghost use Rattle.std.specs.Prelude.{◌≡◌, IfOk, OnErr, true};
+ghost use Rattle.std.specs.Prelude.{◌≡◌, IfOk, OnOk, OnErr, true, false};
 ghost use Rattle.budget_ports.specs.Connections.{Stays};
 ghost use Rattle.budget_ports.specs.Faults.{count_after};
 ghost use Rattle.sync_server.specs.Serving.{Visit};
@@ -63,6 +63,7 @@ pub fn serve_one<K: Keeper, D: Door>(
     requires agrees { K.tells keeper.old → Agrees state.old (K.contents keeper.old) }
     ensures agrees { K.tells keeper.new → Agrees state.new (K.contents keeper.new) }
     ensures served { IfOk result (λ served. (visit : Visit) × Remembers state.old state.new visit.verdict × HasServed state.old.token visit served (D.waiting door.old) (D.waiting door.new) (D.outs door.old) (D.outs door.new) (D.faults door.old) (D.faults door.new) (K.tells keeper.old) (K.tells keeper.new) (K.contents keeper.old) (K.contents keeper.new) (K.left keeper.old) (K.left keeper.new) (K.faults keeper.old) (K.faults keeper.new)) }
+    ensures closed { OnOk result (D.is_open door.new ≡ false) }
     ensures shut { OnErr result ((state.new ≡ state.old) × (keeper.new ≡ keeper.old) × Stays (D.waiting door.old) (D.waiting door.new) × Stays (D.outs door.old) (D.outs door.new) × (D.faults door.new ≡ count_after true (D.faults door.old))) }
 {
     door.accept()?;
