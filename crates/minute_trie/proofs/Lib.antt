@@ -21,3 +21,4 @@ pub mod RoundsMade
 pub mod WayDown
 pub mod FirstMinute
 pub mod Placing
+pub mod FirstFault

@@ -11,3 +11,4 @@ pub mod Faults
 pub mod Rounds
 pub mod Steps
 pub mod Laws
+pub mod FirstFault

@@ -1,5 +1,6 @@
 //! Laws of the definitions that the contracts cite.
 ghost use Rattle.minute_trie.specs.Laws.{OrderIsFree, PrunedForGood, TriesAreMaps, TextsReadBack, DifferencesAreFound, RoundsEnd, RoundsAreMade, StampsArePlaced};
+ghost use Rattle.minute_trie.specs.FirstFault.{FaultsAreFirst};
 
 /// The trie of a list does not depend on the order of the list.
 pub fn order_free()
@@ -46,4 +47,10 @@ pub fn rounds_by_minute()
 /// other alone holds from there on.
 pub fn rounds_are_made()
     ensures { RoundsAreMade }
+{}
+
+/// Of a text that is no trie the first fault is told, a node before its children and they ascending: the value that is no
+/// node, by its depth, or that stands deeper than any key reaches; and where none is told each value is a node of a trie.
+pub fn faults_are_first()
+    ensures { FaultsAreFirst }
 {}

@@ -17,8 +17,8 @@ mod walk;
 pub use hash::hash32;
 pub use key::Digit;
 pub use laws::{
-    differences_are_found, order_free, pruned_for_good, reads_back, rounds_are_made,
-    rounds_by_minute, stamps_are_placed, tries_are_maps,
+    differences_are_found, faults_are_first, order_free, pruned_for_good, reads_back,
+    rounds_are_made, rounds_by_minute, stamps_are_placed, tries_are_maps,
 };
 pub use read::TrieFault;
 pub use trie::Trie;
