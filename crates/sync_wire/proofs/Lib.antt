@@ -15,3 +15,4 @@ pub mod Plain
 pub mod Causes
 pub mod Last
 pub mod Valid
+pub mod Fronts

@@ -1,10 +1,12 @@
--- Why no field is spelled at the front of bytes.
-use Rattle.std.specs.Prelude.{◌≡◌, ◌⊎◌, ℕ, ◌+◌, ◌-◌, ◌*◌, ◌^◌, ◌<◌, ◌≤◌, All, List, ◌++◌, length, true, false, Err}
+-- Why no field is spelled at the front of bytes, and where a text isn't UTF-8.
+use Rattle.std.specs.Prelude.{◌≡◌, ◌⊎◌, ℕ, ◌+◌, ◌-◌, ◌*◌, ◌^◌, ◌<◌, ◌≤◌, All, List, ◌++◌, length, true, false, None, Some, Err, IsUtf8}
+use Rattle.std.specs.Str.{IsValidUpTo}
 use Rattle.sync_wire.specs.declared.fault.WireFault.{WireFault}
-use Rattle.sync_wire.specs.declared.fault.WireFault.TheVariants.{Truncated, BadTag, LongVarint}
+use Rattle.sync_wire.specs.declared.fault.WireFault.TheVariants.{Truncated, BadTag, LongVarint, NotUtf8}
 use Rattle.sync_wire.specs.declared.layout.Layout.{Layout}
 use Rattle.sync_wire.specs.Layouts.{allows}
 use Rattle.sync_wire.specs.Fields.{field_at}
+use Rattle.sync_wire.specs.Meaning.{text_fault}
 use Rattle.sync_wire.specs.Spelling.{Spells, IsNumber}
 
 -- the bytes break off inside a number: fewer than ten, and after each one more has to come
@@ -69,3 +71,8 @@ IsFieldFault layout end bytes f = IsNumberFault end bytes f ⊎ IsTagged layout 
 -- a fault that is told of a field has its cause
 abbrev pub FaultsHaveCauses : Type 0
 FaultsHaveCauses = (layout : Layout) (end : ℕ) (bytes : List ℕ) (f : WireFault) → field_at layout end bytes ≡ Err f → IsFieldFault layout end bytes f
+
+-- bytes that end at a place are a text, and no fault is told; or the longest front of them that is one is followed by more, and where that begins is told
+abbrev pub TextsArePlaced : Type 0
+TextsArePlaced = (end : ℕ) (bytes : List ℕ) → (IsUtf8 bytes × (text_fault end bytes ≡ None))
+    ⊎ ((n : ℕ) × IsValidUpTo bytes n × (text_fault end bytes ≡ Some (NotUtf8 (end - (length bytes - n)))))

@@ -1,5 +1,5 @@
 //! Facts about all bytes and all messages, which a proof can call for.
-ghost use Rattle.sync_wire.specs.Causes.{FaultsHaveCauses};
+ghost use Rattle.sync_wire.specs.Causes.{FaultsHaveCauses, TextsArePlaced};
 ghost use Rattle.sync_wire.specs.Laws.{BytesAreRead, EnvelopesAreRead, MeaningsAreValid, WrittenReadBack, PlainWritesBack, NumbersAreShort, LastOnesCount};
 
 /// A law: any bytes mean one request or have one first fault as a request, and not both. The same holds of replies, and of
@@ -45,4 +45,9 @@ pub fn faults_have_causes()
 /// no number but 0, or no content.
 pub fn last_ones_count()
     ensures { LastOnesCount }
+{}
+
+/// A law: of a text that isn't UTF-8 the place is told behind its longest front that is, and of one that is none.
+pub fn texts_are_placed()
+    ensures { TextsArePlaced }
 {}

@@ -20,7 +20,7 @@ mod writing;
 pub use fault::WireFault;
 pub use laws::{
     bytes_are_read, envelopes_are_read, faults_have_causes, last_ones_count, meanings_are_valid,
-    numbers_are_short, plain_writes_back, written_read_back,
+    numbers_are_short, plain_writes_back, texts_are_placed, written_read_back,
 };
 pub use layout::Layout;
 pub use message::{read_message, write_message};

@@ -32,19 +32,6 @@ pub struct SyncResponse {
     pub merkle: Txt,
 }
 
-impl SyncResponse {
-    /// An equal reply, in memory of its own.
-    pub fn copy(&self, alloc: Global) -> Result<SyncResponse, NoMemory>
-        ensures { IfOk result (λ r. r ≡ self.now) }
-    {
-        Ok(SyncResponse {
-            messages: self.messages.copy(alloc)?,
-            encrypted: self.encrypted,
-            merkle: self.merkle.copy()?,
-        })
-    }
-}
-
 /// The reply with what the field says.
 fn take_field(
     alloc: Global,
