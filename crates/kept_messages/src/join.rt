@@ -1,5 +1,5 @@
 //! Messages that join a log and its trie, and the records of those that are new.
-ghost use Rattle.std.specs.Prelude.{◌≡◌, ◌≢◌, ◌++◌, ◌∷◌, ◌&&◌, [], Some, map, false, is_none, if◌then◌else◌, IfOk, IfErr, OnOk, OnErr, Err};
+ghost use Rattle.std.specs.Prelude.{◌≡◌, ◌≢◌, ◌↔◌, ◌++◌, ◌∷◌, ◌&&◌, [], None, Some, map, false, true, is_none, if◌then◌else◌, IfOk, IfErr, OnOk, OnErr, Err};
 ghost use Rattle.field_merge.specs.Log.{join, join_one};
 ghost use Rattle.field_merge.specs.Messages.{IsMessage, AreMessages};
 ghost use Rattle.field_merge.specs.Log.{at_stamp, has_field, latest};
@@ -48,6 +48,8 @@ pub fn enter(log: &mut Log, trie: &mut Trie, message: Message) -> Result<Entered
     ensures joined { OnOk result (log.new.messages ≡ join_one log.old.messages message) }
     ensures fresh { IfOk result (λ entered. entered.fresh ≡ is_none (at_stamp log.old.messages message.stamp)) }
     ensures latest { IfOk result (λ entered. (f : FieldNames) → latest log.new.messages f ≡ (if entered.latest && has_field f message then Some message else latest log.old.messages f)) }
+    ensures changed { IfOk result (λ entered. (entered.latest ≡ true) ↔ (latest log.old.messages message.field ≢ latest log.new.messages message.field)) }
+    ensures memory { OnErr result (at_stamp log.old.messages message.stamp ≡ None) }
 {
     // The log keeps its messages in another order than that in which they come.
     order_free();
@@ -105,6 +107,7 @@ pub fn join_message(
     ensures joined { OnOk result (log.new.messages ≡ join_one log.old.messages message.now) }
     ensures batch { OnOk result (batch.new.items ≡ batch.old.items ++ map record_of (new_in log.old.messages (message.now ∷ []))) }
     ensures latest { IfOk result (λ entered. (f : FieldNames) → latest log.new.messages f ≡ (if entered.latest && has_field f message.now then Some message.now else latest log.old.messages f)) }
+    ensures changed { IfOk result (λ entered. (entered.latest ≡ true) ↔ (latest log.old.messages message.now.field ≢ latest log.new.messages message.now.field)) }
 {
     let kept = write_record(alloc, message)?;
     let told = enter(log, trie, message.copy()?)?;
