@@ -121,7 +121,13 @@ pub unreadable : (k : Contents) (rows : List Row) (row : Row) (t : List ℕ) →
 unreadable k rows row t some is empty never shows =
     let at = shows.some row (has_at rows 0 row (omega arith) is) in
     record {
-      is = inr empty;
+      is = inr (
+        empty,
+        λ b has utf8.
+            let same : ◌≡◌ {A = Option (List ℕ)} (Some (bytes (column row 0))) (Some b) = sym at.1 ∙ has in
+            let one : bytes (column row 0) ≡ b = cc in
+            never (some_column row _ at.0) (b, at.0 ∙ ap Text one, utf8),
+      );
       other = λ not_one has.
           let same : ◌≡◌ {A = Option (List ℕ)} (Some (bytes (column row 0))) (Some version_one) = sym at.1 ∙ has in
           let one : bytes (column row 0) ≡ version_one = cc in

@@ -1,12 +1,21 @@
 -- What a store that is open and not broken keeps in order.
-use Rattle.std.proofs.Common.{◌≡◌, Bool, true, false, refl, sym, subst, ◌∙◌, true≢false, IsTrue}
-use Rattle.sqlite_trees.specs.View.{View, IsOrdered, IsShaped, IsClean, IsRolledBack}
+use Rattle.std.proofs.Common.{◌≡◌, ◌≤◌, ◌⊎◌, ℕ, Bool, true, false, inl, inr, refl, sym, subst, ◌∙◌, true≢false, IsTrue, arith}
+use Rattle.sqlite_disk.specs.Disk.{MoreFaults}
+use Rattle.sqlite_trees.specs.declared.error.StoreError.{StoreError}
+use Rattle.sqlite_trees.specs.declared.error.StoreError.TheVariants.{OutOfMemory, Io, Corrupt, Full, Broken, Unstorable}
+use Rattle.sqlite_trees.specs.View.{View, IsOrdered, IsShaped, IsClean, IsRolledBack, IsQuiet}
 use Rattle.sqlite_trees.specs.Objects.{catalog_tree, IsListed}
 use Rattle.sqlite_trees.specs.Tree.{Trees}
 use Rattle.sqlite_schema.specs.declared.schema.Schema.{Schema}
-use Rattle.sqlite_catalog.specs.Listing.{AreListed}
+use Rattle.sqlite_rules.specs.Calls.{Excuses}
+use Rattle.sqlite_catalog.specs.Listing.{AreListed, IsSound}
 use Rattle.sqlite_catalog.proofs.LayoutLemmas.{laid_out, objects_rise}
-use Rattle.sqlite.specs.Steps.{IsFresh}
+use Rattle.sqlite.specs.Store.{Ghosts}
+use Rattle.sqlite.specs.declared.error.ErrorCode.TheVariants as code
+use Rattle.sqlite.specs.declared.error.Error.{Error}
+use Rattle.sqlite.specs.declared.error.Error.TheVariants.{SqliteFailure}
+use Rattle.sqlite.specs.State.{store_error}
+use Rattle.sqlite.specs.Steps.{IsFresh, FailsToOpen}
 use Rattle.sqlite_keeper.specs.Tables.{keeper_schema}
 use Rattle.sqlite_keeper.specs.Contents.{Rises}
 
@@ -30,3 +39,37 @@ rows_rise v trees schema same listed ordered are is =
     let zero = subst (λ s. IsShaped s (v.trees 0)) laid.tables.0 (ordered 0) in
     let two = subst (λ s. IsShaped s (v.trees 2)) laid.tables.1.0 (ordered 2) in
     (subst (λ (t : Trees). Rises (t 0)) (sym same) (record { up = zero.0; ints = zero.1 }), subst (λ (t : Trees). Rises (t 2)) (sym same) (record { up = two.0; ints = two.1 }))
+
+-- a store that is broken after it was rolled back was shut before, or the disk has failed meanwhile
+pub lost : {More : Type 0} (was is broken : Bool) → (IsTrue was → IsTrue is ⊎ More) → (IsTrue is → broken ≡ false) → IsTrue broken → (was ≡ false) ⊎ More
+lost false is broken closes sound shut = inl refl
+lost true is broken closes sound shut = elim (closes refl) [
+  | inl is_open ↦ absurd (true≢false (sym shut ∙ sound is_open))
+  | inr more ↦ inr more
+]
+
+-- why a store with a database is not read again: memory was wanting, or the disk has failed meanwhile
+pub unread : (old mid new : ℕ) (db : Trees) (e : Error) → ((schema : Schema) × IsSound schema db) → old ≤ mid → FailsToOpen db (MoreFaults mid new) e → (e ≡ SqliteFailure code.OutOfMemory) ⊎ MoreFaults old new
+unread old mid new db e sound less (inl h) = absurd (h.1 sound.0 sound.1)
+unread old mid new db e sound less (inr h) = by h.0 h.1 h.2
+  where
+    by : (k : StoreError) → e ≡ store_error k → Excuses (MoreFaults mid new) ⊥ k → (e ≡ SqliteFailure code.OutOfMemory) ⊎ MoreFaults old new
+    by OutOfMemory is cause = inl is
+    by Io is cause = inr (omega (arith, cause, less))
+    by Corrupt is cause = inr (omega (arith, cause, less))
+    by Full is cause = inr (omega (arith, cause, less))
+    by Broken is cause = absurd cause
+    by Unstorable is cause = absurd cause
+
+-- of two quiet calls, one behind the other
+pub quiet_on : {S : Type 0} (g : Ghosts S) (old mid new : S) → IsQuiet g.view g.faults g.recovers g.is_shielded old mid → IsQuiet g.view g.faults g.recovers g.is_shielded mid new → IsQuiet g.view g.faults g.recovers g.is_shielded old new
+quiet_on g old mid new p q = record {
+  shield = λ s. q.shield (p.shield s);
+  clean = omega (arith, p.clean, q.clean);
+  counts = omega (arith, p.counts, q.counts);
+  closes = λ clean is_open. elim (p.closes (omega (arith, q.clean, clean)) is_open) [
+    | inl still ↦ elim (q.closes clean still) [ inl last ↦ inl last | inr more ↦ inr (omega (arith, more, p.counts)) ]
+    | inr more ↦ inr (omega (arith, more, q.counts))
+  ];
+  outcomes = λ db left. p.outcomes db (q.outcomes db left);
+}

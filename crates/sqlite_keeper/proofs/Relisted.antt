@@ -10,7 +10,7 @@ use Rattle.sqlite.specs.Table.{Table}
 use Rattle.sqlite_schema.specs.declared.schema.Index.{Index}
 use Rattle.sqlite.specs.Schema.{Schema}
 use Rattle.sqlite_catalog.specs.Listing.{AreListed, IsTableRow, IsIndexRow, IsViewRow, IsDefined, automatic, is_index_row}
-use Rattle.sqlite_keeper.specs.Tables.{keeper_schema}
+use Rattle.sqlite_keeper.specs.Tables.{keeper_schema, no_schema}
 
 zip_same : {X Y : Type 0} (P : X → Y → Type 0) → ((x : X) (y z : Y) → P x y → P x z → y ≡ z) → (xs : List X) (ys zs : List Y) → AllZip P xs ys → AllZip P xs zs → ys ≡ zs
 zip_same P same [] [] [] p q = refl
@@ -86,4 +86,12 @@ relisted objects schema ours are =
     let tables : schema.tables ≡ keeper_schema.tables = zip_same IsTableRow one_table _ schema.tables keeper_schema.tables are.tables ours.tables in
     let indexes : schema.indexes ≡ keeper_schema.indexes = zip_same (IsIndexRow keeper_schema.tables) one_index _ schema.indexes keeper_schema.indexes (subst (λ ts. AllZip (IsIndexRow ts) (filter is_index_row objects) schema.indexes) tables are.indexes) ours.indexes in
     let views : schema.views ≡ [] = zip_none IsViewRow IsViewRow _ schema.views ours.views are.views in
+    λ k. record { tables = tables k; indexes = indexes k; views = views k }
+
+-- and where nothing is listed, no schema that it lists has anything
+pub unlisted : (objects : List Row) (schema : Schema) → AreListed objects no_schema → AreListed objects schema → schema ≡ no_schema
+unlisted objects schema none are =
+    let tables : schema.tables ≡ [] = zip_none IsTableRow IsTableRow _ schema.tables none.tables are.tables in
+    let indexes : schema.indexes ≡ [] = zip_none (IsIndexRow []) (IsIndexRow schema.tables) _ schema.indexes none.indexes are.indexes in
+    let views : schema.views ≡ [] = zip_none IsViewRow IsViewRow _ schema.views none.views are.views in
     λ k. record { tables = tables k; indexes = indexes k; views = views k }

@@ -1,5 +1,5 @@
 -- A store that is taken by a keeper, or is not.
-use Rattle.std.specs.Prelude.{◌≡◌, ◌≢◌, ◌⊎◌, true, false, List, [], ◌∷◌, ℕ, Some, IsSome, codes, IsTrue, ⊤}
+use Rattle.std.specs.Prelude.{◌≡◌, ◌≢◌, ◌⊎◌, true, false, List, [], ◌∷◌, ℕ, Some, IsSome, codes, IsUtf8, IsTrue, ⊤}
 use Rattle.std.specs.FinMap.{get}
 use Rattle.sqlite.specs.Store.{Ghosts}
 use Rattle.sqlite_disk.specs.Disk.{MoreFaults}
@@ -27,9 +27,13 @@ version_one = codes "1"
 abbrev pub new_contents : Contents
 new_contents = with_text nothing version_name version_one
 
--- the text is the version of the contents, or is empty, and they are not of this version
+-- the contents tell no version: they have none, or bytes that are no text
+abbrev pub TellsNone : Contents → Type 0
+TellsNone k = (t : Text) → get k.texts version_name ≡ Some t → IsUtf8 t → ⊥
+
+-- the text is the version of the contents, or is empty where they tell none, and else they are not of this version
 pub record IsVersion (k : Contents) (t : Text) : Type 0 where
-  pub is : (get k.texts version_name ≡ Some t) ⊎ (t ≡ [])
+  pub is : (get k.texts version_name ≡ Some t) ⊎ ((t ≡ []) × TellsNone k)
   pub other : t ≢ version_one → get k.texts version_name ≢ Some version_one
 
 -- where the tables are the keeper's, the rows of each rise
@@ -87,7 +91,7 @@ LeavesOrMakes g old new = (k : Contents) → MayLeave g new k → MayLeave g old
 abbrev pub LeavesOrBegins : {S : Type 0} → Ghosts S → Held S → Held S → Type 0
 LeavesOrBegins g old new = (k : Contents) → MayLeave g new k → MayLeave g old k ⊎ ((old.schema ≡ no_schema) × (k ≡ new_contents))
 
--- the fault tells another version than this one
+-- the fault tells another version than this one, or that none is told
 abbrev pub TellsVersion : Contents → AdoptFault → Type 0
-TellsVersion k (Version found) = (get k.texts version_name ≢ Some version_one) × ((get k.texts version_name ≡ Some found) ⊎ (found ≡ []))
+TellsVersion k (Version found) = (get k.texts version_name ≢ Some version_one) × ((get k.texts version_name ≡ Some found) ⊎ ((found ≡ []) × TellsNone k))
 TellsVersion k NoMemory = ⊤

@@ -3,3 +3,4 @@ pub mod Contents
 pub mod Keeping
 pub mod Queries
 pub mod Adopting
+pub mod Taking

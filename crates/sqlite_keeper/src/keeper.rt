@@ -106,6 +106,7 @@ impl<S: Alter> SqliteKeeper<S> {
         ensures shut { IfOk result (λ k. k.is_shut ≡ true → (connection.schema ≡ keeper_schema) ⊎ (connection.schema ≡ no_schema) → HasCleanDisk (state S.Store k.conn) → IsTrue (state S.Store k.conn).is_open → contents_now S.Store k.conn ≡ contents_now S.Store connection) }
         ensures left { IfOk result (λ k. IsToTake S.Store connection k.conn → HasCleanDisk (state S.Store k.conn) → LeavesOrBegins S.Store connection k.conn) }
         ensures left_back { IfErr result (λ u. IsToTake S.Store connection u.connection → HasCleanDisk (state S.Store u.connection) → LeavesOrBegins S.Store connection u.connection) }
+        ensures clean_back { IfErr result (λ u. doubt (state S.Store connection).is_clean ≤ doubt (state S.Store u.connection).is_clean) }
         ensures idle { IfErr result (λ u. u.connection.in_transaction ≡ false) }
         ensures same { IfErr result (λ u. connection.schema ≡ keeper_schema ⊎ connection.schema ≡ no_schema → HasCleanDisk (state S.Store u.connection) → IsTrue (state S.Store u.connection).is_open → contents_now S.Store u.connection ≡ contents_now S.Store connection) }
     {

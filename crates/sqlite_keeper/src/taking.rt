@@ -1,5 +1,6 @@
 //! What the program does with a store that it has opened.
-ghost use Rattle.std.specs.Prelude.{◌≡◌, ◌⊎◌, false, if◌then◌else◌, IfOk};
+ghost use Rattle.std.specs.Prelude.{◌≡◌, ◌⊎◌, true, false, if◌then◌else◌, Some, IsTrue, IfOk, IfErr};
+ghost use Rattle.std.specs.FinMap.{get};
 ghost use Rattle.budget_ports.specs.Keeper.{IsAlone};
 ghost use Rattle.sqlite.specs.State.{HasCleanDisk};
 ghost use Rattle.sqlite.specs.Held.{state};
@@ -7,7 +8,8 @@ ghost use Rattle.sqlite_catalog.specs.Listing.{IsSound};
 ghost use Rattle.sqlite_keeper.specs.Tables.{keeper_schema, no_schema};
 ghost use Rattle.sqlite_keeper.specs.Contents.{contents_of, contents_now};
 ghost use Rattle.sqlite_keeper.specs.Keeping.{TellsAll, MayBeLeft};
-ghost use Rattle.sqlite_keeper.specs.Adopting.{new_contents};
+ghost use Rattle.sqlite_keeper.specs.Adopting.{new_contents, version_name, version_one};
+ghost use Rattle.sqlite_keeper.specs.Taking.{IsOursOrBlank, HasFailedSince, IsLetGo};
 
 use crate::adopting::is_memory;
 use crate::keeper::{AdoptFault, SqliteKeeper, Unadopted};
@@ -35,14 +37,23 @@ pub enum StoreFault {
 ///
 /// A keeper that tells has what was committed last, or, where nothing was listed, what a new store has;
 /// over the keeper's tables it tells, unless it is shut or the disk has returned something else.
+///
+/// Over the keeper's tables, or where nothing was listed, it is shut only if the disk has failed since the
+/// store was read again. The faults are told each for its reason: `Unopened` where the connection was shut
+/// or the disk failed meanwhile, `Version` where the store tells another version.
 pub fn take<S: Alter + Drop>(
     alloc: Global,
     connection: Connection<S>,
 ) -> Result<SqliteKeeper<S>, StoreFault>
     ensures again { IfOk result (λ k. TellsAll S.Store k → (contents_now S.Store k.conn ≡ contents_of (state S.Store connection).committed.trees) ⊎ ((contents_now S.Store k.conn ≡ new_contents) × IsSound no_schema (state S.Store connection).committed.trees)) }
-    ensures kept { IfOk result (λ k. IsSound keeper_schema (state S.Store connection).committed.trees → k.is_shut ≡ false → HasCleanDisk (state S.Store k.conn) → TellsAll S.Store k × (contents_now S.Store k.conn ≡ contents_of (state S.Store connection).committed.trees)) }
+    ensures kept { IfOk result (λ k. IsSound keeper_schema (state S.Store connection).committed.trees → k.is_shut ≡ false → HasCleanDisk (state S.Store k.conn) → TellsAll S.Store k × (contents_now S.Store k.conn ≡ contents_of (state S.Store connection).committed.trees) × (get (contents_now S.Store k.conn).texts version_name ≡ Some version_one)) }
+    ensures made { IfOk result (λ k. IsSound no_schema (state S.Store connection).committed.trees → k.is_shut ≡ false → HasCleanDisk (state S.Store k.conn) → TellsAll S.Store k × (contents_now S.Store k.conn ≡ new_contents)) }
     ensures alone { IfOk result (λ k. IsAlone (TellsAll S.Store k) (contents_now S.Store k.conn) (MayBeLeft S.Store k)) }
     ensures count { IfOk result (λ k. k.faults ≡ (if k.is_shut then 1 else 0)) }
+    ensures reason { IfOk result (λ k. k.is_shut ≡ true → IsOursOrBlank (state S.Store connection).committed.trees → HasCleanDisk (state S.Store k.conn) → HasFailedSince S.Store connection k.conn) }
+    ensures shut { IfOk result (λ k. k.is_shut ≡ true → IsOursOrBlank (state S.Store connection).committed.trees → HasCleanDisk (state S.Store k.conn) → IsTrue (state S.Store k.conn).is_open → contents_now S.Store k.conn ≡ contents_of (state S.Store connection).committed.trees) }
+    ensures opened { IfOk result (λ k. HasCleanDisk (state S.Store k.conn) → IsTrue (state S.Store connection).is_open) }
+    ensures let_go { IfErr result (λ e. (left : _) × IsLetGo S.Store connection left e) }
 {
     let ordered = match in_order(alloc, connection) {
         Ok(ordered) => ordered,

@@ -1,9 +1,9 @@
-use Rattle.std.proofs.Common.{◌≡◌, ◌∙◌, false, sym, subst, subst₂, arith}
+use Rattle.std.proofs.Common.{◌≡◌, ◌∙◌, false, inl, inr, sym, subst, subst₂, arith}
 use Rattle.sqlite.specs.Held.{state}
 use Rattle.sqlite_catalog.specs.Listing.{IsSound}
 use Rattle.sqlite_trees.specs.View.{IsClean}
-use Rattle.sqlite_keeper.proofs.Relisted.{relisted}
-use Rattle.sqlite_keeper.proofs.OrderLemmas.{fresh, rows_rise, open_of}
+use Rattle.sqlite_keeper.proofs.Relisted.{relisted, unlisted}
+use Rattle.sqlite_keeper.proofs.OrderLemmas.{fresh, rows_rise, open_of, lost, unread, quiet_on}
 use Rattle.sqlite_keeper.proofs.order.in_order.Goals as goal
 
 pub over-requires : goal.over-requires
@@ -45,3 +45,49 @@ returns-in-Ok-clause-ours g c clean listed =
     let rows = c.in-Ok.ensures.trees clean ∙ (c.into_store-store.ensures.undone.undone is_open).0 in
     let live = subst (IsSound c.in-Ok.again.schema) rows (c.schema-schema.ensures.live (c.in-Ok.ensures.opens clean).0.is_open).0 in
     relisted _ c.in-Ok.again.schema listed.lists.listed live.lists.listed
+
+pub returns-in-Ok-clause-unlisted : goal.returns-in-Ok-clause-unlisted
+returns-in-Ok-clause-unlisted g c clean listed =
+    let store = c.into_store-store.result in
+    let early : IsClean (g.S.Store.view store) = omega (arith, c.in-Ok.ensures.clean) in
+    let sound : (g.S.Store.view store).is_broken ≡ false = sym (c.if-is_broken.ensures early) in
+    let is_open = open_of (g.S.Store.view store) (g.met.S.Store.broken_if_shut store) sound in
+    let rows = c.in-Ok.ensures.trees clean ∙ (c.into_store-store.ensures.undone.undone is_open).0 in
+    let live = subst (IsSound c.in-Ok.again.schema) rows (c.schema-schema.ensures.live (c.in-Ok.ensures.opens clean).0.is_open).0 in
+    unlisted _ c.in-Ok.again.schema listed.lists.listed live.lists.listed
+
+pub returns-in-Ok-clause-opened : goal.returns-in-Ok-clause-opened
+returns-in-Ok-clause-opened g c clean =
+    let store = c.into_store-store.result in
+    let early : IsClean (g.S.Store.view store) = omega (arith, c.in-Ok.ensures.clean) in
+    let sound : (g.S.Store.view store).is_broken ≡ false = sym (c.if-is_broken.ensures early) in
+    let is_open = open_of (g.S.Store.view store) (g.met.S.Store.broken_if_shut store) sound in
+    (c.into_store-store.ensures.undone.kept early).was_open is_open
+
+pub returns-then-is_broken-clause-cause : goal.returns-then-is_broken-clause-cause
+returns-then-is_broken-clause-cause g c =
+    let store = c.into_store-store.result in (
+      store,
+      c.into_store-store.ensures.quiet,
+      λ clean. inr (lost (state g.S.Store c.args.connection).is_open (g.S.Store.view store).is_open (g.S.Store.view store).is_broken
+          (c.into_store-store.ensures.quiet.closes clean) (λ is_open. (c.into_store-store.ensures.undone.undone is_open).1) (sym (c.if-is_broken.ensures clean))),
+    )
+
+pub returns-in-Err-clause-cause : goal.returns-in-Err-clause-cause
+returns-in-Err-clause-cause g c =
+    let old = c.args.connection.store in
+    let store = c.into_store-store.result in
+    let left = c.in-Err._store in (
+      left,
+      quiet_on g.S.Store old store left c.into_store-store.ensures.quiet c.in-Err.ensures.unharmed,
+      λ clean.
+          let early : IsClean (g.S.Store.view store) = omega (arith, c.in-Err.ensures.unharmed.clean, clean) in
+          let sound : (g.S.Store.view store).is_broken ≡ false = sym (c.if-is_broken.ensures early) in
+          let is_open = open_of (g.S.Store.view store) (g.met.S.Store.broken_if_shut store) sound in
+          let same = (fresh (g.S.Store.view old) (g.S.Store.view store) (g.met.S.Store.broken_if_shut store) c.into_store-store.ensures.undone (c.into_store-store.ensures.numbered early) sound early).clean in
+          let listed = c.into_store-store.ensures.sound early (g.S.Store.view store).committed (g.met.S.Store.stays store is_open) in
+          elim (unread (g.S.Store.faults old) (g.S.Store.faults store) (g.S.Store.faults left) (g.S.Store.view store).trees c.in-Err.error (listed.0, subst (IsSound listed.0) (sym same) listed.1) c.into_store-store.ensures.quiet.counts (c.in-Err.ensures.err clean)) [
+            | inl memory ↦ inl memory
+            | inr more ↦ inr (inr more)
+          ],
+    )

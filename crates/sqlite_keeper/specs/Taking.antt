@@ -1,0 +1,50 @@
+-- A store that was opened, and is read again to be taken.
+use Rattle.std.specs.Prelude.{◌≡◌, ◌≤◌, ◌⊎◌, false, List, ℕ, None, IsTrue, ⊤}
+use Rattle.sqlite.specs.Store.{Ghosts}
+use Rattle.sqlite.specs.Held.{Held, state}
+use Rattle.sqlite_catalog.specs.Listing.{IsSound}
+use Rattle.sqlite_disk.specs.Disk.{MoreFaults}
+use Rattle.sqlite_trees.specs.Tree.{Trees}
+use Rattle.sqlite_trees.specs.View.{doubt, IsClean}
+use Rattle.sqlite_keeper.specs.Tables.{keeper_schema, no_schema}
+use Rattle.sqlite_keeper.specs.Contents.{contents_of}
+use Rattle.sqlite_keeper.specs.Adopting.{TellsVersion}
+use Rattle.sqlite_keeper.specs.declared.keeper.AdoptFault.TheVariants as adopt
+use Rattle.sqlite_keeper.specs.declared.taking.StoreFault.{StoreFault}
+use Rattle.sqlite_keeper.specs.declared.taking.StoreFault.TheVariants.{Unopened, Version, NoMemory}
+
+-- the rows list the keeper's tables, or nothing
+abbrev pub IsOursOrBlank : Trees → Type 0
+IsOursOrBlank db = IsSound keeper_schema db ⊎ IsSound no_schema db
+
+-- a connection over the rows that were committed, where no limit is set on the steps of a query
+pub record IsReadAgain {S : Type 0} (g : Ghosts S) (old again : Held S) : Type 0 where
+  pub is_open : IsTrue (state g again).is_open
+  pub idle : again.in_transaction ≡ false
+  pub rows : (state g again).now.trees ≡ (state g old).committed.trees
+  pub unlimited : again.step_limit ≡ None
+
+-- the disk has failed since the store was read again
+abbrev pub HasFailedSince : {S : Type 0} → Ghosts S → Held S → Held S → Type 0
+HasFailedSince {S} g old new = (again : Held S) × IsReadAgain g old again × MoreFaults (state g again).faults (state g new).faults
+
+-- the connection was shut, or the disk has failed until the store was let go
+abbrev pub IsLost : {S : Type 0} → Ghosts S → Held S → S → Type 0
+IsLost g old left = ((state g old).is_open ≡ false) ⊎ MoreFaults (state g old).faults (g.faults left)
+
+-- a connection that was open has rows of another version, and something is listed
+pub record IsOther {S : Type 0} (g : Ghosts S) (old : Held S) (found : List ℕ) : Type 0 where
+  pub was_open : IsTrue (state g old).is_open
+  pub tells : IsSound keeper_schema (state g old).committed.trees → TellsVersion (contents_of (state g old).committed.trees) (adopt.Version found)
+  pub listed : ¬ IsSound no_schema (state g old).committed.trees
+
+-- want of memory alone needs no reason
+abbrev pub HasCause : {S : Type 0} → Ghosts S → Held S → S → StoreFault → Type 0
+HasCause g old left Unopened = IsLost g old left
+HasCause g old left (Version found) = IsOther g old found
+HasCause g old left NoMemory = ⊤
+
+-- what is known of a store when it is let go, and why it was: a disk that returned something else says nothing
+pub record IsLetGo {S : Type 0} (g : Ghosts S) (old : Held S) (left : S) (fault : StoreFault) : Type 0 where
+  pub clean : doubt (g.view old.store).is_clean ≤ doubt (g.view left).is_clean
+  pub cause : IsClean (g.view left) → HasCause g old left fault
