@@ -1,11 +1,7 @@
 -- What a device sends is a request for the group.
-use Rattle.std.proofs.Common.{◌≡◌, ◌≢◌, ℕ, List, [], codes, refl, subst}
-use Rattle.field_merge.specs.declared.message.Message.{Message}
-use Rattle.field_merge.specs.Messages.{AreMessages}
+use Rattle.std.proofs.Common.{ℕ, List, refl, subst}
 use Rattle.field_merge.proofs.LastOnes.{later_valid}
-use Rattle.device_sync.specs.declared.target.Target.{Target}
 use Rattle.device_sync.specs.Requests.{request_of, IsAsked}
-use Rattle.peer_link.specs.Peer.{AsksGroup}
 use Rattle.peer_link.specs.Laws.{DevicesAsk}
 
 pub devices_ask : DevicesAsk

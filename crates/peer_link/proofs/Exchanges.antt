@@ -1,12 +1,12 @@
 -- Exchanges, one behind the other.
-use Rattle.std.proofs.Common.{◌≡◌, ◌≤◌, ℕ, List, [], ◌∷◌, ◌++◌, length, Bool, true, false, Option, None, Some, map, refl, sym, ap, ◌∙◌, subst, append-nil, append_assoc}
+use Rattle.std.proofs.Common.{◌≡◌, ◌≤◌, ℕ, List, [], ◌∷◌, ◌++◌, length, Bool, Option, None, Some, refl, ap, ◌∙◌, subst, append-nil}
 use Rattle.std.specs.Option.{is_some}
 use Rattle.std.specs.List.{AllByRecursion}
 use Rattle.std.proofs.lemmas.List.Elements.{filter-append}
 use Rattle.budget_ports.specs.Exchanges.{Exchange, begun, ended}
 use Rattle.budget_ports.specs.Script.{open_one}
 use Rattle.field_merge.specs.declared.message.Message.{Message}
-use Rattle.device_sync.specs.Honest.{Served, Honest, AreWithin}
+use Rattle.device_sync.specs.Honest.{Honest, AreWithin}
 use Rattle.device_sync.specs.Replies.{most_bytes}
 use Rattle.peer_link.specs.Peer.{answered}
 

@@ -1,13 +1,12 @@
 -- What a link is after a reply.
-use Rattle.std.proofs.Common.{◌≡◌, ℕ, List, [], ◌∷◌, ◌++◌, Bool, true, false, Option, None, Some, refl, sym, ap, ◌∙◌, subst, append-nil}
-use Rattle.std.specs.Option.{is_some}
+use Rattle.std.proofs.Common.{◌≡◌, ℕ, ◌+◌, List, [], ◌∷◌, ◌++◌, length, true, false, Option, None, Some, refl, sym, ap, ◌∙◌, subst, append-nil, length-append, arith}
 use Rattle.std.specs.List.{AllByRecursion}
 use Rattle.budget_ports.specs.Exchanges.{Exchange, begun, ended, IsOpen}
 use Rattle.budget_ports.specs.Script.{open_one}
 use Rattle.field_merge.specs.declared.message.Message.{Message}
 use Rattle.device_sync.specs.Honest.{Honest, AreWithin}
 use Rattle.peer_link.specs.Place.{token}
-use Rattle.peer_link.specs.Peer.{PeerState, IsPeer, AsksGroup, Answers, IsForeign, answered, peer_of, IsLinked}
+use Rattle.peer_link.specs.Peer.{PeerState, IsPeer, HasEnded, AsksGroup, Answers, IsForeign, answered, peer_of, IsLinked}
 use Rattle.peer_link.proofs.Exchanges.{all_both, answered_begun, answered_ended, honest_both, within_ended, last_from, last_both}
 
 same_some : {A : Type 0} {a b : A} → Some a ≡ Some b → a ≡ b
@@ -57,3 +56,18 @@ none_last done asked p is none closed = λ sent last asks. closed (last.0, sent,
 pub none_of : {A : Type 0} (o : Option A) → ((x : A) → o ≡ Some x → ⊥) → o ≡ None
 none_of None h = refl
 none_of (Some x) h = absurd (h x refl)
+
+-- all exchanges but an open one are at an end
+pub all_ended : (done : List Exchange) (asked : Option (List ℕ)) (p : PeerState) (n : ℕ) → done ++ open_one asked ≡ p.exchanges → (asked ≡ None → IsOpen (Some done) → ⊥) → n ≡ length done → HasEnded p n
+all_ended done None p n is closed count =
+    let same : done ≡ p.exchanges = sym (append-nil done) ∙ is in
+    record {
+      one_open = λ open_. absurd (closed refl (subst (λ (xs : List Exchange). IsOpen (Some xs)) (sym same) open_));
+      none_open = λ shut. sym (ap length same) ∙ sym count;
+    }
+all_ended done (Some sent) p n is closed count =
+    let long : length done + 1 ≡ length p.exchanges = sym (length-append done (begun sent ∷ [])) ∙ ap length is in
+    record {
+      one_open = λ open_. omega (arith, long, count);
+      none_open = λ shut. absurd (shut (done, sent, sym is));
+    }

@@ -1,14 +1,13 @@
 -- What two devices have that synced with one server.
-use Rattle.std.proofs.Common.{◌≡◌, ◌⊎◌, inl, inr, ◌<◌, ◌≤◌, ◌/◌, nat_lt, ℕ, zero, suc, List, [], ◌∷◌, ◌++◌, length, map, Bool, true, false, Option, None, Some, Result, Ok, Err, refl, sym, ap, ◌∙◌, subst, append-nil}
+use Rattle.std.proofs.Common.{◌≡◌, ◌⊎◌, inl, inr, ◌<◌, ◌≤◌, ◌/◌, ◌-◌, nat_lt, ℕ, zero, suc, List, [], ◌∷◌, ◌++◌, length, map, true, false, Option, None, Some, Result, Ok, Err, refl, sym, ap, ◌∙◌, subst, append-nil}
 use Rattle.std.specs.Prelude.{IfOk, IsSome}
-use Rattle.std.specs.Option.{is_some, option_or}
+use Rattle.std.specs.Option.{option_or}
 use Rattle.std.proofs.lemmas.Bool.{cases_Bool, ltb-true, ltb-false}
 use Rattle.hybrid_clock.specs.Stamp.{window}
 use Rattle.budget_ports.specs.Exchanges.{Exchange, begun, Adds, IsOpen}
 use Rattle.hybrid_clock.specs.declared.stamp.Stamp.{Stamp}
 use Rattle.hybrid_clock.specs.Order.{stamp_cmp}
 use Rattle.field_merge.specs.declared.message.Message.{Message}
-use Rattle.field_merge.specs.Messages.{AreMessages}
 use Rattle.field_merge.specs.Log.{IsRising, at_stamp, join}
 use Rattle.field_merge.proofs.Joining.{found, rising, stamp_of}
 use Rattle.field_merge.proofs.Ordered.{same, in_order_nil}
@@ -24,13 +23,14 @@ use Rattle.device_sync.specs.declared.fault.SyncFault.TheVariants.{Link, BadRepl
 use Rattle.device_sync.specs.declared.fault.Synced.{Synced}
 use Rattle.device_sync.specs.declared.target.Target.{Target}
 use Rattle.device_sync.specs.Honest.{Honest, AreWithin}
-use Rattle.device_sync.specs.Laws.{Converges, HaveOneEach}
+use Rattle.device_sync.specs.Laws.{HaveOneEach}
 use Rattle.device_sync.specs.Replies.{Got, answer, refusal, bad}
 use Rattle.device_sync.specs.Talk.{Outcome, going_on, agreed, trie_in, Next, ends, asks, compared, taken, next, Turn, exchange_of, Follows, Talk, most_requests}
-use Rattle.device_sync.specs.Sync.{Told, reached, IsAnswered, HasTalked, IsCounted, AreAdded, MeetsHonest, IfUsable}
+use Rattle.device_sync.specs.Sync.{Told, reached, IsAnswered, HasTalked, IsCounted, MeetsHonest, IfUsable}
 use Rattle.peer_link.specs.Place.{token}
 use Rattle.peer_link.specs.Peer.{PeerState, IsPeer, answered}
-use Rattle.peer_link.specs.Meeting.{AgreesWith, Grows, RootsTell, Meet}
+use Rattle.peer_link.specs.Meeting.{AgreesWith, Grows, Meet, Talks, peer}
+use Rattle.device_sync.specs.Requests.{first_since}
 use Rattle.peer_link.proofs.Exchanges.{answered_both, all_parts, honest_parts, last_from, last_both}
 use Rattle.peer_link.proofs.Outcome.{one_end, stays_well}
 
@@ -83,15 +83,21 @@ agrees_over m n p q r x turns synced old new had are meets (Some s) told =
       converges = meets added r s (p.exchanges, (refl, ap Some are)) well.0 well.1 honest within;
     }
 
+-- the exchanges of the turns alone were added, where none stands behind them
+added_turns : (p q : PeerState) (old new : Told) (turns : List Turn) (late : List Exchange) → late ≡ [] → old.exchanges ≡ Some p.exchanges → new.exchanges ≡ Some q.exchanges
+    → Adds old.exchanges new.exchanges (map exchange_of turns ++ late) → q.exchanges ≡ p.exchanges ++ map exchange_of turns
+added_turns p q old new turns late none before after adds =
+    let so : Adds (Some p.exchanges) (Some q.exchanges) (map exchange_of turns ++ late) =
+    subst (λ (z : Option (List Exchange)). Adds (Some p.exchanges) z (map exchange_of turns ++ late)) after (subst (λ (z : Option (List Exchange)). Adds z new.exchanges (map exchange_of turns ++ late)) before adds) in
+    so ∙ ap (λ (l : List Exchange). p.exchanges ++ l) (ap (λ (l : List Exchange). map exchange_of turns ++ l) none ∙ append-nil (map exchange_of turns))
+
 pub agrees : (target : Target) (group : List ℕ) (reading : ℕ) (s : State) (old new : Told) (now : State) (p q : PeerState) (synced : Synced) → target.token ≡ token → IsPeer p → IsPeer q
     → ((r : List Message) × (p.messages ≡ Some r)) → old.exchanges ≡ Some p.exchanges → new.exchanges ≡ Some q.exchanges → HasTalked target group reading s old new now (Ok synced)
     → MeetsHonest target.token s.messages (Some p.exchanges) (Some q.exchanges) now.messages (Ok synced) → AgreesWith s.messages p q now.messages
 agrees target group reading s old new now p q synced same was is had before after talked meets =
     let h = talked.conversed in
     let none = h.answered.1.0 in
-    let adds : Adds (Some p.exchanges) (Some q.exchanges) (map exchange_of h.turns ++ h.late) =
-    subst (λ (z : Option (List Exchange)). Adds (Some p.exchanges) z (map exchange_of h.turns ++ h.late)) after (subst (λ (z : Option (List Exchange)). Adds z new.exchanges (map exchange_of h.turns ++ h.late)) before h.adds) in
-    let are : q.exchanges ≡ p.exchanges ++ map exchange_of h.turns = adds ∙ ap (λ (l : List Exchange). p.exchanges ++ l) (ap (λ (l : List Exchange). map exchange_of h.turns ++ l) none ∙ append-nil (map exchange_of h.turns)) in
+    let are = added_turns p q old new h.turns h.late none before after h.adds in
     let meets_so = subst (λ (t : List ℕ). MeetsHonest t s.messages (Some p.exchanges) (Some q.exchanges) now.messages (Ok synced)) same meets in
     by h.turns are (some_turn target reading _ s h.end h.turns h.outcome h.talk h.answered.0) meets_so
   where
@@ -259,6 +265,34 @@ agrees_if target group reading fault s old new now p q (Ok synced) same was is h
     by : ((reading / 60_000 < window) ⊎ (window ≤ reading / 60_000)) → AgreesWith s.messages p q now.messages
     by (inl below) = agrees target group reading s old new now p q synced same was is (some_of p.messages had) before after (talked below) (meets below)
     by (inr above) = absurd (let h : ◌≡◌ {A = Result Synced SyncFault} (Ok synced) (Err fault) = beyond above in cc)
+
+pub talks_if : (target : Target) (group : List ℕ) (reading : ℕ) (fault : SyncFault) (s : State) (old new : Told) (now : State) (p q : PeerState) (result : Result Synced SyncFault) → target ≡ peer
+    → old.exchanges ≡ Some p.exchanges → new.exchanges ≡ Some q.exchanges → (window ≤ reading / 60_000 → result ≡ Err fault)
+    → (reading / 60_000 < window → HasTalked target group reading s old new now result)
+    → IfOk result (λ synced. Talks reading s now p.exchanges q.exchanges synced)
+talks_if target group reading fault s old new now p q (Err other) same before after beyond talked = tt
+talks_if target group reading fault s old new now p q (Ok synced) same before after beyond talked = by (within_or reading)
+  where
+    by : ((reading / 60_000 < window) ⊎ (window ≤ reading / 60_000)) → Talks reading s now p.exchanges q.exchanges synced
+    by (inr above) = absurd (let h : ◌≡◌ {A = Result Synced SyncFault} (Ok synced) (Err fault) = beyond above in cc)
+    by (inl below) =
+        let told = talked below in
+        let h = told.conversed in
+        let none = h.answered.1.0 in
+        let is_now = h.answered.1.1.0 in
+        let count = h.answered.1.1.1 in
+        let talk : Talk peer reading most_requests (first_since told.since reading) s h.turns now agreed =
+        subst (λ (t : Target). Talk t reading most_requests (first_since told.since reading) s h.turns now agreed) same
+        (subst (λ (z : State). Talk target reading most_requests (first_since told.since reading) s h.turns z agreed) (sym is_now)
+        (subst (λ (o : Outcome). Talk target reading most_requests (first_since told.since reading) s h.turns h.end o) h.answered.0 h.talk)) in
+        record {
+          last = told.since;
+          turns = h.turns;
+          talk = talk;
+          added = added_turns p q old new h.turns h.late none before after h.adds;
+          requests = count.0;
+          received = count.1 ∙ ap (λ (z : State). length z.messages - length s.messages) (sym is_now);
+        }
 
 pub grows_if : ReceivedAreJoined → (target : Target) (group : List ℕ) (reading : ℕ) (s : State) (old new : Told) (now : State) (result : Result Synced SyncFault) → (window ≤ reading / 60_000 → now ≡ s)
     → (reading / 60_000 < window → HasTalked target group reading s old new now result) → IfUsable result (Grows s.messages now.messages)

@@ -1,15 +1,14 @@
 -- What a server has is told by what it has said.
-use Rattle.std.proofs.Common.{◌≡◌, ◌≢◌, ◌⊎◌, inl, inr, ◌≤◌, ◌<◌, ℕ, List, [], ◌∷◌, length, take, Bool, true, false, cond, Option, None, Some, refl, sym, ap, ◌∙◌, subst, arith}
+use Rattle.std.proofs.Common.{◌≡◌, inl, inr, ◌≤◌, ℕ, List, [], ◌∷◌, length, Some, sym, ◌∙◌, subst, arith}
 use Rattle.std.specs.List.{AllByRecursion}
 use Rattle.std.proofs.lemmas.List.{take_all, length-take}
 use Rattle.budget_ports.specs.Exchanges.{Exchange}
 use Rattle.field_merge.specs.declared.message.Message.{Message}
-use Rattle.field_merge.specs.Log.{join, IsRising}
+use Rattle.field_merge.specs.Log.{IsRising}
 use Rattle.field_merge.specs.Messages.{AreMessages}
 use Rattle.field_merge.proofs.Joining.{rising}
 use Rattle.device_sync.specs.Replies.{IsReply, most_bytes}
-use Rattle.device_sync.specs.Honest.{front_of, Answers, IsFairStatus, Served, answers, declines, Honest, AreWithin}
-use Rattle.device_sync.specs.Requests.{IsAsked}
+use Rattle.device_sync.specs.Honest.{front_of, IsFairStatus, Served, answers, declines, Honest, AreWithin}
 use Rattle.device_sync.proofs.Judging.{one_reply}
 use Rattle.device_sync.proofs.Sets.{join_valid}
 use Rattle.peer_link.specs.Place.{token}

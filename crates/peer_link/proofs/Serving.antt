@@ -1,5 +1,5 @@
 -- What the server has after a connection.
-use Rattle.std.proofs.Common.{◌≡◌, ◌≢◌, ◌⊎◌, inl, inr, ◌≤◌, ◌<◌, ◌^◌, ℕ, List, [], ◌∷◌, ◌++◌, length, map, filter, take, replicate, zero, suc, Bool, true, false, cond, Ordering, Option, None, Some, Result, Ok, Err, refl, sym, ap, ◌∙◌, subst, arith}
+use Rattle.std.proofs.Common.{◌≡◌, ◌≢◌, ◌≤◌, ◌<◌, ◌^◌, ℕ, List, [], ◌∷◌, ◌++◌, length, map, filter, replicate, zero, suc, Bool, true, false, cond, Ordering, Option, None, Some, Result, Ok, refl, sym, ap, ◌∙◌, subst, arith}
 use Rattle.std.specs.Ordering.{is_eq}
 use Rattle.std.specs.Cmp.{tied_itself}
 use Rattle.std.specs.FinMap.{FinMap, entries, get, insert, get-insert, len-entries, len-empty}
@@ -23,7 +23,7 @@ use Rattle.sync_server.specs.State.{Agrees}
 use Rattle.sync_server.specs.declared.served.Served.TheVariants as served
 use Rattle.sync_server.specs.Laws.{AcceptedAreKept, RequestsAreJudged, IsDecided, encrypted, no_since, no_file, other_group, bad_record, accepted}
 use Rattle.sync_server.specs.Outside.{HasFound}
-use Rattle.sync_server.specs.Serving.{Found, found_in, file_name, Verdict, Ends, Accepts, Refuses, judge_request, DecidesBody, no_request, request, DecidesRest, refused, short, whole, Decides, by_head, too_large, no_head, bytes_end, Means, decided, keeper_fault, no_memory, kept_after, Visit, IsServed, IsMeant, answered}
+use Rattle.sync_server.specs.Serving.{Found, found_in, file_name, Verdict, Ends, Accepts, Refuses, DecidesBody, no_request, request, DecidesRest, refused, short, whole, Decides, by_head, too_large, no_head, bytes_end, Means, decided, keeper_fault, no_memory, kept_after, Visit, IsServed, IsMeant, answered}
 use Rattle.device_sync.specs.Honest.{front_of, Served}
 use Rattle.device_sync.specs.Requests.{IsAsked}
 use Rattle.device_sync.specs.Served.{FitsHead, HasGroup, ServedIsHonest}

@@ -1,5 +1,5 @@
 -- A link whose far end is a server.
-use Rattle.std.specs.Prelude.{◌≡◌, ◌≤◌, ℕ, List, [], ◌∷◌, ◌++◌, length, filter, Option, None, Some}
+use Rattle.std.specs.Prelude.{◌≡◌, ◌≤◌, ℕ, suc, List, [], ◌∷◌, ◌++◌, length, filter, Option, None, Some}
 use Rattle.std.specs.Option.{is_some}
 use Rattle.std.specs.List.{AllByRecursion}
 use Rattle.budget_ports.specs.Exchanges.{Exchange, begun, ended, IsOpen}
@@ -81,3 +81,8 @@ pub record Receives (old new : PeerState) (reply : List ℕ) : Type 0 where
   pub before : old.exchanges ≡ front ++ begun sent ∷ []
   pub after : new.exchanges ≡ front ++ ended sent reply ∷ []
   pub answers : Answers old.messages new.messages sent reply
+
+-- so many exchanges are at an end: all, but for one for which nothing has come back yet
+pub record HasEnded (p : PeerState) (count : ℕ) : Type 0 where
+  pub one_open : IsOpen (Some p.exchanges) → length p.exchanges ≡ suc count
+  pub none_open : (IsOpen (Some p.exchanges) → ⊥) → length p.exchanges ≡ count

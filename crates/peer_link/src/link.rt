@@ -4,7 +4,7 @@ ghost use Rattle.budget_ports.specs.Faults.{count_after};
 ghost use Rattle.budget_ports.specs.Exchanges.{Adds, Gets, begun};
 ghost use Rattle.budget_ports.specs.Keeper.{has_failed};
 ghost use Rattle.budget_ports.specs.declared.keeper.PortFault.TheVariants.{Failed as HasFailed};
-ghost use Rattle.peer_link.specs.Peer.{IsPeer, AsksGroup, Answers, Receives, IsForeign};
+ghost use Rattle.peer_link.specs.Peer.{IsPeer, HasEnded, AsksGroup, Answers, Receives, IsForeign};
 
 use crate::asked::asks_group;
 use crate::server::Server;
@@ -67,6 +67,7 @@ impl PeerLink {
     /// How many exchanges there are whose bytes came back, or were given up.
     pub fn count(&self) -> usize
         ensures peer { IsPeer self.now }
+        ensures ended { HasEnded self.now result }
     {
         self.ended.len()
     }

@@ -1,8 +1,7 @@
 //! Two devices that sync with one server.
 ghost use Rattle.std.specs.Prelude.{◌≡◌, [], None, Some, IfOk, IsSome, false};
 ghost use Rattle.device_sync.specs.Sync.{IfUsable};
-ghost use Rattle.peer_link.specs.Meeting.{AgreesWith, Grows, Meet};
-ghost use Rattle.peer_link.specs.Place.{token};
+ghost use Rattle.peer_link.specs.Meeting.{AgreesWith, Grows, Meet, Talks, TalkInTurn, peer};
 
 use crate::link::PeerLink;
 use crate::place::peer_target;
@@ -34,9 +33,10 @@ fn sync_peer<K: Keeper, G: Ledger>(
 ) -> Result<Synced, SyncFault>
     requires live { device.old.spent ≡ false }
     requires idle { device.old.batch ≡ [] }
-    requires token { target.now.token ≡ token }
+    requires target { target.now ≡ peer }
     requires told { IsSome link.old.messages }
     ensures agrees { IfOk result (λ _. AgreesWith device.old.state.messages link.old link.new device.new.state.messages) }
+    ensures talks { IfOk result (λ synced. Talks reading device.old.state device.new.state link.old.exchanges link.new.exchanges synced) }
     ensures grows { IfUsable result (Grows device.old.state.messages device.new.state.messages) }
     ensures usable { IfUsable result ((device.new.spent ≡ false) × (device.new.batch ≡ [])) }
 {
@@ -70,6 +70,7 @@ pub fn meet<K: Keeper, N: Keeper, G: Ledger>(
     requires idle { (one.old.batch ≡ []) × (other.old.batch ≡ []) }
     requires empty { link.old.messages ≡ Some [] }
     ensures meet { IfOk result (λ _. Meet one.old.state.messages other.old.state.messages one.new.state.messages other.new.state.messages link.new) }
+    ensures talk { IfOk result (λ met. TalkInTurn readings one.old.state other.old.state one.new.state other.new.state link.old.exchanges link.new.exchanges met) }
     ensures grow { IfUsable result (Grows one.old.state.messages one.new.state.messages × Grows other.old.state.messages other.new.state.messages) }
     ensures usable { IfUsable result ((one.new.spent ≡ false) × (one.new.batch ≡ []) × (other.new.spent ≡ false) × (other.new.batch ≡ [])) }
 {

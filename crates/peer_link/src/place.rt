@@ -1,6 +1,6 @@
 //! Which group the server has.
 ghost use Rattle.std.specs.Prelude.{◌≡◌, IfOk};
-ghost use Rattle.peer_link.specs.Place.{token, file, group};
+ghost use Rattle.peer_link.specs.Meeting.{peer};
 
 use device_sync::Target;
 use field_values::{NoMemory, Txt};
@@ -17,9 +17,7 @@ pub(crate) const GROUP: &str = "home";
 
 /// What a device says of itself to the server behind a link of this crate.
 pub fn peer_target(alloc: Global) -> Result<Target, NoMemory>
-    ensures token { IfOk result (λ target. target.token ≡ token) }
-    ensures file { IfOk result (λ target. target.file ≡ file) }
-    ensures group { IfOk result (λ target. target.group ≡ group) }
+    ensures { IfOk result (λ target. target ≡ peer) }
 {
     Ok(Target {
         token: Txt::from_text(alloc, TOKEN)?,

@@ -1,5 +1,4 @@
 use Rattle.std.proofs.Common.{◌≡◌, ◌∙◌, List, ℕ, refl, sym, subst, inl}
-use Rattle.field_merge.specs.declared.message.Message.{Message}
 use Rattle.peer_link.specs.Peer.{IsAnswered}
 use Rattle.peer_link.proofs.link.answer.Goals as goal
 

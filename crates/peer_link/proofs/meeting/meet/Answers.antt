@@ -9,3 +9,13 @@ returns-in-Ok-sync_peer-3-clause-meet g c =
     c.args.link.now c.sync_peer.new.link c.sync_peer-2.new.link c.sync_peer-3.new.link
     (subst IsRising (ap (λ (l : LogState). l.messages) c.log.ensures.log) c.len-one.ensures.rising) (subst IsRising (ap (λ (l : LogState). l.messages) c.log-2.ensures.log) c.len-other.ensures.rising)
     c.requires.empty c.in-Ok-sync_peer.ensures.agrees c.in-Ok-sync_peer-2.ensures.agrees c.in-Ok-sync_peer-3.ensures.agrees
+
+pub returns-in-Ok-sync_peer-3-clause-talk : goal.returns-in-Ok-sync_peer-3-clause-talk
+returns-in-Ok-sync_peer-3-clause-talk g c = record {
+  between = c.sync_peer.new.device.state;
+  then = c.sync_peer.new.link.exchanges;
+  later = c.sync_peer-2.new.link.exchanges;
+  first = c.in-Ok-sync_peer.ensures.talks;
+  second = c.in-Ok-sync_peer-2.ensures.talks;
+  third = c.in-Ok-sync_peer-3.ensures.talks;
+}

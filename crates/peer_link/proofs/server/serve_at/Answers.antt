@@ -1,5 +1,4 @@
-use Rattle.std.proofs.Common.{◌≡◌, ◌≤◌, ◌∙◌, ◌∷◌, [], ◌++◌, sym, ap, subst, map, replicate, length, List, ℕ, arith}
-use Rattle.std.specs.Prelude.{slice_index_or}
+use Rattle.std.proofs.Common.{◌≡◌, ◌≤◌, ◌∙◌, ◌∷◌, [], ◌++◌, sym, ap, subst, length, arith}
 use Rattle.budget_ports.specs.Connections.{next_bytes}
 use Rattle.budget_ports.specs.MemoryDoor.{DoorState, to_come, outs}
 use Rattle.sync_server.specs.declared.served.Served.{Served}

@@ -1,4 +1,4 @@
-use Rattle.std.proofs.Common.{rules, ◌≡◌, ◌∙◌, ◌++◌, ◌∷◌, [], List, ℕ, Option, None, Some, map, refl, sym, ap, subst, inl}
+use Rattle.std.proofs.Common.{rules, ◌≡◌, ◌∙◌, ◌++◌, ◌∷◌, [], List, ℕ, None, Some, map, sym, ap, subst, inl}
 use Rattle.std.proofs.lemmas.List.{map-append}
 use Rattle.budget_ports.specs.Exchanges.{Exchange, ended}
 use Rattle.peer_link.specs.declared.link.Ended.{Ended}
