@@ -11,3 +11,4 @@ pub mod Split
 pub mod OnSheets
 pub mod Unchanged
 pub mod AskedPairs
+pub mod InOrder

@@ -9,3 +9,4 @@ pub mod Splitting
 pub mod Showing
 pub mod Changing
 pub mod AskingPairs
+pub mod Ordered

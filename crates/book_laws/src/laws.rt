@@ -16,6 +16,7 @@ ghost use Rattle.book_laws.specs.Changing.{ChangesDoNoMore};
 ghost use Rattle.book_laws.specs.Leaving.{PlainEditsDoNoMore};
 ghost use Rattle.book_laws.specs.Histories.{HistoriesGoBack};
 ghost use Rattle.envelope_cells.specs.Budget.{Budget};
+ghost use Rattle.book_laws.specs.Ordered.{SheetsAreInOrder};
 ghost use Rattle.book_laws.specs.Showing.{EditsShowOnSheets};
 ghost use Rattle.book_laws.specs.Sheets.{CellsAddUp, MonthsAreNumbered, SumsAreOfTransactions};
 
@@ -60,6 +61,13 @@ pub fn months_are_numbered()
 /// each once.
 pub fn sums_are_of_transactions()
     ensures { SumsAreOfTransactions }
+{}
+
+/// A law: on a sheet the cells of the whole month stand first, then those of each group, followed by those of its categories. Groups
+/// stand in the order of their numbers, and of those with one number in that of their ids; and so do the categories of a group, which
+/// are all that name it and were not deleted.
+pub fn sheets_are_in_order()
+    ensures { (rows : Rows) → SheetsAreInOrder rows }
 {}
 
 /// A law: the cells of a group add up those of its categories, and what came in and what went out is all that was moved.
