@@ -7,3 +7,7 @@ pub mod Written
 pub mod RuleRows
 pub mod ScheduleRows
 pub mod Actions
+pub mod Asked
+pub mod JsonBack
+pub mod NewConditions
+pub mod ReadBack

@@ -73,7 +73,7 @@ reads : {A : Type 0} (o : Result (List A) EditFault) → readable o ≡ Ok tt �
 reads (Ok xs) h = (xs, refl)
 reads (Err f) h = cc
 
-read_so : (id : Text) (row : RuleRow) (r : Rule) → (read_part Conditions condition_of row.conditions ≡ Ok r.conditions) → (read_part Actions action_of row.actions ≡ Ok r.actions)
+pub read_so : (id : Text) (row : RuleRow) (r : Rule) → (read_part Conditions condition_of row.conditions ≡ Ok r.conditions) → (read_part Actions action_of row.actions ≡ Ok r.actions)
     → r.id ≡ id → stage_of row.stage ≡ r.stage → op_of row.conditions_op ≡ r.op → read_rule id row ≡ Ok r
 unfolding read_rule
 read_so id row r c a i s o =

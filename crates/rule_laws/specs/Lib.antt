@@ -3,3 +3,5 @@ pub mod Comparing
 pub mod Making
 pub mod Scheduling
 pub mod Acting
+pub mod Asking
+pub mod Saying

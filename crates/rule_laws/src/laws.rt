@@ -10,6 +10,8 @@ ghost use Rattle.rule_laws.specs.Comparing.{ConditionsAreTold};
 ghost use Rattle.rule_laws.specs.Making.{IdsAreTakenOnce, RuleEditsDo, RulesMakeRows, RulesReadBack, StagesComeInTurn};
 ghost use Rattle.rule_laws.specs.Scheduling.{ScheduleEditsDo};
 ghost use Rattle.rule_laws.specs.Acting.{ActionsAreTold};
+ghost use Rattle.rule_laws.specs.Saying.{SchedulesReadBack};
+ghost use Rattle.rule_laws.specs.Asking.{RuleEditsAreJudged, ScheduleEditsAreJudged};
 
 /// A law: raw days lie whole steps of days, weeks, months or years from the start on, and by months on a day that is meant.
 pub fn raw_days_are_told()
@@ -73,4 +75,21 @@ pub fn rules_make_rows()
 /// A law: of ids that are named several times each is taken once, at its first place.
 pub fn ids_are_taken_once()
     ensures { IdsAreTakenOnce }
+{}
+
+/// A law: an edit of rules, or of transactions by rules, is refused with the first fault of what it asks for, and accepted where there is
+/// none.
+pub fn rule_edits_are_judged()
+    ensures { RuleEditsAreJudged }
+{}
+
+/// A law: an edit of a schedule is refused with the first fault of what it asks for, and accepted where there is none.
+pub fn schedule_edits_are_judged()
+    ensures { ScheduleEditsAreJudged }
+{}
+
+/// A law: a schedule that is added says the account, the payee, the amount and the days that were given, and its rule tests for them. It
+/// is asked that the recurrence has no fractions, and isn't nested deeper than 125.
+pub fn schedules_read_back()
+    ensures { (ids : Ids) (rows : Rows) (ws : List Write) → SchedulesReadBack ids rows ws }
 {}
