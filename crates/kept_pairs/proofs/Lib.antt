@@ -3,3 +3,7 @@ pub mod Written
 pub mod ByRules
 pub mod BySchedules
 pub mod ByStatements
+pub mod Judging
+pub mod Nothing
+pub mod Importing
+pub mod Meaning

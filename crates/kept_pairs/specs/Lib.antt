@@ -1,1 +1,4 @@
 pub mod Kept
+pub mod Judged
+pub mod Imports
+pub mod Meant

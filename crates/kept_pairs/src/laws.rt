@@ -1,4 +1,10 @@
 //! Facts about all edits of rules, of schedules and of statements, which a proof can call for.
+ghost use Rattle.book_rows.specs.declared.rows.Rows.{Rows};
+ghost use Rattle.bank_import.specs.declared.edit.ImportEdit.{ImportEdit};
+ghost use Rattle.bank_import.specs.declared.entry.Entry.{Entry};
+ghost use Rattle.kept_pairs.specs.Imports.{ImportsWrite};
+ghost use Rattle.kept_pairs.specs.Judged.{ImportsAreJudged};
+ghost use Rattle.kept_pairs.specs.Meant.{PayeesAreFound};
 ghost use Rattle.kept_pairs.specs.Kept.{
   RulesKeepPairsAndSplits,
   SchedulesKeepPairsAndSplits,
@@ -21,4 +27,28 @@ pub fn schedules_keep_pairs_and_splits()
 /// A law: so it is after an import of a statement that is accepted, and the same is asked before.
 pub fn statements_keep_pairs_and_splits()
     ensures { StatementsKeepPairsAndSplits }
+{}
+
+/// A law: an import that is accepted fills in what is missing in the transaction that a record matches: the payee, the notes, the payee as
+/// the statement has it, the id there and the schedule; and the category, unless it is split or in a pair. What is there stays. A record
+/// that matches none makes a transaction of the account, with all of these, its day and its amount; and the bank has either. The category,
+/// the notes and the schedule are those that the rules of the book leave a transaction that has what the statement says. The payee is the
+/// one that they leave it, or, where the book has none of the name and rules gave none, one of the name that the import makes. Nothing else
+/// changes. It is asked before that the ids of the rows that the import makes are new and differ.
+pub fn imports_write()
+    ensures { ImportsWrite }
+{}
+
+/// A law: the payee of the book that a record means is the one of the least id of those that were not deleted, stand for no account, and have
+/// its payee's name, whatever the case of letters; where there is none, or the record names none, it means none.
+pub fn imports_find_payees()
+    ensures { (rows : Rows) (e : Entry) → PayeesAreFound rows e }
+{}
+
+/// A law: an import is refused where its account isn't live, whatever the statement, and else where the text is no statement, with the
+/// first bad place: without a header at row 0 and column 0, of a header that lacks the days or the amounts with the number of its fields,
+/// and else at the first bad record and there at its first bad field, or with the number of its fields where it has more or fewer than
+/// the header. Any other import is accepted, also into an account that is closed.
+pub fn imports_are_judged()
+    ensures { (rows : Rows) (edit : ImportEdit) → ImportsAreJudged rows edit }
 {}
