@@ -1,5 +1,5 @@
 -- A line that doesn't talk.
-use Rattle.std.proofs.Common.{false, ◌≡◌, ◌≢◌, ◌⊎◌, inl, inr, ℕ, List, [], refl, sym, ap, ◌∙◌, subst, Bool, true, cond, Option, None, Result, Ok, Err, OnOk, OnErr}
+use Rattle.std.proofs.Common.{false, ◌≡◌, ◌≢◌, ◌⊎◌, inl, inr, ℕ, List, [], refl, sym, ap, ◌∙◌, subst, Bool, cond, Option, None, Result, Ok, Err, OnOk, OnErr}
 use Rattle.std.specs.Prelude.{◌&&◌, IfOk, IfErr, IsErrOf}
 use Rattle.budget_top.specs.declared.answer.Answer.{Answer}
 use Rattle.std.specs.FinMap.{FinMap, get}

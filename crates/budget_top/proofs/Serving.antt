@@ -25,7 +25,7 @@ use Rattle.budget_top.specs.Fronts.{AppendsFront}
 use Rattle.budget_top.specs.Session.{asked, asked_kept_line}
 use Rattle.device_sync.specs.declared.target.Target.{Target}
 use Rattle.budget_top.specs.Doing.{Given, Running, said, done, Finds, fails_link, HasStayed}
-use Rattle.budget_top.specs.Course.{Input, step, replies, some_refused, talks, AreFound}
+use Rattle.budget_top.specs.Course.{Input, replies, some_refused, talks, AreFound}
 use Rattle.budget_top.specs.Seen.{Seen, Holds}
 use Rattle.budget_top.specs.Handling.{IsAnswered, IsUnanswered}
 use Rattle.budget_top.specs.Stops.{stop_of}

@@ -12,9 +12,8 @@ use Rattle.budget_ports.specs.Contents.{Contents, Text, text_cmp}
 use Rattle.budget_ports.specs.Exchanges.{Exchange}
 use Rattle.budget_ports.specs.Keeper.{has_failed, IsAlone}
 use Rattle.budget_ports.specs.declared.keeper.PortFault.{PortFault}
-use Rattle.budget_ports.specs.declared.keeper.PortFault.TheVariants.{Failed, NoMemory as NoRoom}
+use Rattle.budget_ports.specs.declared.keeper.PortFault.TheVariants.{NoMemory as NoRoom}
 use Rattle.budget_ports.proofs.Places.{text_total, text_same}
-use Rattle.field_merge.specs.declared.message.Message.{Message}
 use Rattle.device_core.specs.declared.edit.LineRefusal.TheVariants.{Clock as OfClock}
 use Rattle.device_core.specs.Device.{State}
 use Rattle.device_sync.specs.declared.target.Target.{Target}
@@ -22,19 +21,18 @@ use Rattle.device_sync.specs.declared.fault.SyncFault.{SyncFault}
 use Rattle.device_sync.specs.declared.fault.SyncFault.TheVariants.{Link, BadReply, Refused, OutOfSync, Clock, Keeper, NoMemory}
 use Rattle.device_sync.specs.declared.fault.Synced.{Synced}
 use Rattle.device_sync.specs.Requests.{first_since}
-use Rattle.device_sync.specs.Talk.{Outcome, going_on, agreed, out_of_sync, not_taken, refused, bad_reply, Turn, exchange_of, Talk, talked, most_requests}
+use Rattle.device_sync.specs.Talk.{Outcome, going_on, agreed, out_of_sync, not_taken, refused, bad_reply, Turn, exchange_of, talked, most_requests}
 use Rattle.device_sync.specs.Laws.{TalksAreTold}
-use Rattle.device_sync.specs.Sync.{synced_name, told, IsCutOff, IsCounted, MayBeLeft, HasConversed, HasTalked, fails_keeper, IfUsable}
+use Rattle.device_sync.specs.Sync.{synced_name, told, IsCutOff, IsCounted, MayBeLeft, HasTalked, fails_keeper, IfUsable}
 use Rattle.device_sync.specs.Sync.{IsAnswered as IsAnsweredSo, Carries as CarriesOn, fails_link as loses_link}
 use Rattle.command_lines.specs.declared.command.Command.{Command}
 use Rattle.command_lines.specs.declared.command.Command.TheVariants.{Sync}
-use Rattle.command_lines.specs.declared.reply.Reply.{Reply}
 use Rattle.command_lines.specs.Replies.{synced, reply_text_of}
 use Rattle.budget_top.specs.declared.answer.Answer.{Answer}
 use Rattle.budget_top.specs.Session.{is_refused}
-use Rattle.budget_top.specs.Doing.{Given, Running, syncs, IsWithin, TalksTo, conversed, sync_reply, last_synced, goes_on, IsRest, made, done, IsSilent, IsWholeTalk, FindsIf, HasStayedIf, IsCutOffSync, IsUntold, MayLeave, MayLeaveIf, MayLeaveTurns, HasMadeNewIf}
+use Rattle.budget_top.specs.Doing.{Given, Running, syncs, IsWithin, TalksTo, conversed, sync_reply, last_synced, goes_on, IsRest, made, done, IsWholeTalk, FindsIf, HasStayedIf, MayLeave, MayLeaveIf, HasMadeNewIf}
 use Rattle.budget_top.specs.Seen.{device_group, HoldsSet, Holds}
-use Rattle.budget_top.specs.Handling.{IsAnswered, IsUnanswered, HoldsSome, HoldsEither}
+use Rattle.budget_top.specs.Handling.{IsAnswered, IsUnanswered, HoldsSome}
 use Rattle.budget_top.specs.SyncSteps.{HasReply, reply_of, IsTold}
 use Rattle.budget_top.proofs.Folding.{adds_none}
 use Rattle.budget_top.proofs.Plain.{alone_at, silent, moved, set_as, plain_unanswered}

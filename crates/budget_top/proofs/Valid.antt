@@ -5,9 +5,9 @@ use Rattle.std.specs.List.{AllByRecursion, slice_get}
 use Rattle.std.specs.Str.{is_utf8}
 use Rattle.std.proofs.lemmas.Bool.{ltb-true, ltb-false}
 use Rattle.hybrid_clock.specs.declared.clock.ClockFault.{ClockFault}
-use Rattle.hybrid_clock.specs.declared.clock.ClockFault.TheVariants.{Drift, Overflow, Beyond}
+use Rattle.hybrid_clock.specs.declared.clock.ClockFault.TheVariants.{Drift, Beyond}
 use Rattle.hybrid_clock.specs.declared.stamp.Stamp.{Stamp}
-use Rattle.hybrid_clock.specs.Clock.{stands_at, clock_after, moved, first_counter, draw, next_counter, new_time, receive}
+use Rattle.hybrid_clock.specs.Clock.{clock_after, moved, draw, next_counter, new_time, receive}
 use Rattle.hybrid_clock.specs.Node.{IsNode}
 use Rattle.hybrid_clock.specs.Stamp.{IsStamp, window}
 use Rattle.field_merge.specs.declared.message.Message.{Message}

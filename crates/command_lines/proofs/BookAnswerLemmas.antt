@@ -16,7 +16,6 @@ use Rattle.envelope_cells.specs.CellOf.{cell_of, is_of_category}
 use Rattle.envelope_cells.specs.SheetOf.{sheet_of}
 use Rattle.envelope_cells.specs.Text.{kind_text, cell_line, sheet_text}
 use Rattle.device_core.specs.Books.{rows_of}
-use Rattle.command_lines.specs.declared.reply.Reply.{Reply}
 use Rattle.command_lines.specs.declared.reply.Reply.TheVariants.{Done}
 use Rattle.command_lines.specs.Answers.{MayHaveId, name_text, BooksAreTold}
 use Rattle.split_transfer.specs.Broken.{broken}

@@ -1,8 +1,8 @@
 -- No line that is answered of the books has a line feed.
-use Rattle.std.proofs.Common.{◌≡◌, ℕ, Bool, true, false, cond, List, [], ◌∷◌, ◌++◌, map, Option, None, Some, refl, ap, sym, ◌∙◌}
-use Rattle.std.specs.Prelude.{codes, ℤ, ◌||◌}
+use Rattle.std.proofs.Common.{◌≡◌, ℕ, Bool, true, false, cond, List, [], ◌∷◌, ◌++◌, map, Option, None, Some, refl, sym, ◌∙◌}
+use Rattle.std.specs.Prelude.{codes, ℤ}
 use Rattle.std.specs.List.{flat_map, AllByRecursion}
-use Rattle.std.specs.Fmt.{decimal, signed_decimal}
+use Rattle.std.specs.Fmt.{signed_decimal}
 use Rattle.std.specs.FinMap as fin
 use Rattle.std.specs.BTreeMap.{insert_entry}
 use Rattle.std.specs.Ordering.{eq_by_cmp, match_ordering}
@@ -12,7 +12,7 @@ use Rattle.field_merge.proofs.EscapeLemmas.{escaped-no_feed}
 use Rattle.finite_sums.specs.Maps.{Text, text_cmp, is_among}
 use Rattle.book_rows.specs.declared.rows.Rows.{Rows}
 use Rattle.book_rows.specs.declared.rows.TxRow.{TxRow}
-use Rattle.book_rows.specs.Live.{is_live_tx, is_live_group, is_live_category, is_live_category_row, category_of, payee_of}
+use Rattle.book_rows.specs.Live.{is_live_tx, category_of, payee_of}
 use Rattle.book_rows.specs.Parts.{account_txs}
 use Rattle.book_rows.specs.Named.{HasNames}
 use Rattle.book_rows.specs.Book.{dated_cmp}

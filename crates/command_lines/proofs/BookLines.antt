@@ -1,14 +1,14 @@
 -- Of each line that budgets a month or asks of the books: its words can be given, and its command is told by them.
-use Rattle.std.proofs.Common.{◌≡◌, ℕ, List, [], ◌∷◌, Some, ◌⊎◌, inl, refl}
+use Rattle.std.proofs.Common.{◌≡◌, ℕ, List, [], ◌∷◌, ◌⊎◌, refl}
 use Rattle.std.specs.Prelude.{codes}
 use Rattle.device_core.specs.declared.edit.Edit.TheVariants.{Book}
 use Rattle.book_edits.specs.declared.edit.BookEdit.TheVariants.{Budget, Carryover, Hold, Move}
-use Rattle.command_lines.specs.declared.command.Command.TheVariants.{Balance, Register, Cell, Sheet, Broken, Edit}
-use Rattle.command_lines.specs.Forms.{misfit, no_more, word, amount_of, flag_of, month_of, amount_word, flag_word, month_word}
+use Rattle.command_lines.specs.declared.command.Command.TheVariants.{Cell, Sheet, Edit}
+use Rattle.command_lines.specs.Forms.{misfit, no_more, word, amount_of, flag_of, month_of, amount_word, flag_word}
 use Rattle.command_lines.specs.Commands.{balance_words, register_words, cell_words, sheet_words, book_lines, words_of_book_lines, words_of_pair_lines, budget_words, carryover_words, hold_words, move_amount_words, month_lines, words_of_month_lines}
-use Rattle.command_lines.proofs.Amounts.{amount_written, id_told}
-use Rattle.command_lines.proofs.FormTexts.{flag_written, date_written, month_written}
-use Rattle.command_lines.proofs.Opening.{Opens, open_end, open_word, open_id, open_amount, open_flag, open_date, open_month}
+use Rattle.command_lines.proofs.Amounts.{amount_written}
+use Rattle.command_lines.proofs.FormTexts.{flag_written, month_written}
+use Rattle.command_lines.proofs.Opening.{Opens, open_end, open_word, open_amount, open_flag, open_month}
 use Rattle.command_lines.proofs.Telling.{Tells, tells_form}
 use Rattle.command_lines.proofs.Known.{IsKnown, AreKnown, known_in}
 use Rattle.command_lines.proofs.PairLines.{pair_lines_known}

@@ -1,14 +1,14 @@
 -- Of each line that edits the rows of the books: its words can be given, and its command is told by them.
-use Rattle.std.proofs.Common.{◌≡◌, ℕ, List, [], ◌∷◌, Some, ◌⊎◌, inl, refl}
+use Rattle.std.proofs.Common.{◌≡◌, ℕ, List, [], ◌∷◌, ◌⊎◌, refl}
 use Rattle.std.specs.Prelude.{codes}
 use Rattle.device_core.specs.declared.edit.Edit.TheVariants.{Book}
-use Rattle.book_edits.specs.declared.edit.BookEdit.TheVariants.{AccountAdd, GroupAdd, CategoryAdd, PayeeAdd, TxAdd, AccountReopen, AccountClose, AccountOffbudget, GroupDelete, CategoryDelete, PayeeDelete, AccountRename, GroupRename, CategoryRename, PayeeRename, CategoryMove, Note}
+use Rattle.book_edits.specs.declared.edit.BookEdit.TheVariants.{AccountAdd, GroupAdd, CategoryAdd, PayeeAdd, TxAdd, AccountOffbudget}
 use Rattle.command_lines.specs.declared.command.Command.TheVariants.{Edit}
 use Rattle.command_lines.specs.Forms.{misfit, no_more, word, amount_of, flag_of, date_of, amount_word, flag_word, date_word, id_word, id_of}
 use Rattle.command_lines.specs.Commands.{account_add_words, group_add_words, category_add_words, payee_add_words, tx_add_words, add_lines, words_of_add_lines, account_reopen_words, account_close_words, account_offbudget_words, group_delete_words, category_delete_words, payee_delete_words, state_lines, words_of_state_lines, account_rename_words, group_rename_words, category_rename_words, payee_rename_words, category_move_words, note_words, row_lines, words_of_row_lines, words_of_month_lines}
 use Rattle.command_lines.proofs.Amounts.{amount_written, id_told}
-use Rattle.command_lines.proofs.FormTexts.{flag_written, date_written, month_written}
-use Rattle.command_lines.proofs.Opening.{Opens, open_end, open_word, open_id, open_amount, open_flag, open_date, open_month}
+use Rattle.command_lines.proofs.FormTexts.{flag_written, date_written}
+use Rattle.command_lines.proofs.Opening.{Opens, open_end, open_word, open_id, open_amount, open_flag, open_date}
 use Rattle.command_lines.proofs.Telling.{Tells, tells_form}
 use Rattle.command_lines.proofs.Known.{IsKnown, AreKnown, known_in}
 use Rattle.command_lines.proofs.BookLines.{month_lines_known}

@@ -1,21 +1,16 @@
 -- Of each line that there is: its words can be given, and its command is told by them.
-use Rattle.std.proofs.Common.{◌≡◌, ℕ, Bool, true, false, cond, List, [], ◌∷◌, ◌⊎◌, inl, inr, refl, ap, sym, subst, ◌∙◌}
+use Rattle.std.proofs.Common.{◌≡◌, ℕ, List, [], ◌∷◌, ◌⊎◌, refl, ap, ◌∙◌}
 use Rattle.std.specs.Prelude.{codes}
-use Rattle.std.specs.List.{AllByRecursion}
-use Rattle.std.specs.Str.{bytes_eq}
-use Rattle.std.proofs.lemmas.Slice.Eq.{bytes_eq-Decides}
 use Rattle.field_values.specs.Names.{field_of}
 use Rattle.field_values.specs.Value.{value_text, value_of}
 use Rattle.field_values.proofs.Values.{texts_write_back_lem}
 use Rattle.hybrid_clock.specs.declared.stamp.Stamp.{Stamp}
 use Rattle.hybrid_clock.specs.Reading.{read_stamp}
 use Rattle.hybrid_clock.proofs.Texts.{read_text, read_valid}
-use Rattle.field_merge.specs.Escapes.{unescaped}
 use Rattle.field_merge.specs.Messages.{message_of}
-use Rattle.field_merge.proofs.RawLines.{IsGood}
 use Rattle.command_lines.specs.declared.command.Command.TheVariants.{Receive}
 use Rattle.command_lines.specs.Forms.{Wanted, word, no_more, name_word, misfit}
-use Rattle.command_lines.specs.Commands.{LineForm, set_words, receive_words, messages_words, value_words, field_lines, words_of_row_lines, line_words}
+use Rattle.command_lines.specs.Commands.{set_words, receive_words, messages_words, value_words, field_lines, words_of_row_lines, line_words}
 use Rattle.command_lines.proofs.Known.{IsKnown, AreKnown, known_in}
 use Rattle.command_lines.proofs.EditLines.{row_lines_known}
 use Rattle.command_lines.proofs.Opening.{Opens, open_end, open_word, open_name, open_stamp}

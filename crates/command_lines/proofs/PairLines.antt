@@ -1,18 +1,13 @@
 -- Of each line that edits a transaction and those that hang together with it: its words can be given, and its command is told by them.
-use Rattle.std.proofs.Common.{◌≡◌, ◌≢◌, ℕ, Bool, true, false, cond, List, [], ◌∷◌, ◌++◌, map, ◌⊎◌, inl, refl, ap, sym, subst}
+use Rattle.std.proofs.Common.{◌≡◌, ◌≢◌, ℕ, Bool, true, false, cond, List, [], ◌∷◌, ◌++◌, map, ◌⊎◌, refl, ap, sym, subst}
 use Rattle.std.specs.Prelude.{codes}
-use Rattle.std.specs.Fmt.{signed_decimal}
 use Rattle.std.specs.List.{AllByRecursion, flat_map}
 use Rattle.std.specs.Str.{bytes_eq}
 use Rattle.std.proofs.lemmas.Slice.Eq.{bytes_eq-Decides}
-use Rattle.device_core.specs.declared.edit.Edit.TheVariants.{Pair}
 use Rattle.split_transfer.specs.declared.edit.PairEdit.TheVariants.{TxSet, Split, Transfer}
-use Rattle.split_transfer.specs.declared.edit.TxChange.TheVariants.{Date, Amount, Account, Payee, Category, Notes, Cleared, Schedule}
-use Rattle.split_transfer.specs.declared.edit.SplitPart.{SplitPart}
-use Rattle.command_lines.specs.declared.command.Command.{Command}
-use Rattle.command_lines.specs.declared.command.Command.TheVariants.{Edit}
-use Rattle.command_lines.specs.Forms.{Share, Wanted, misfit, no_more, word, some_shares, amount_of, flag_of, date_of, id_of, amount_word}
-use Rattle.command_lines.specs.FormLaws.{IsShare, id_text, share_texts}
+use Rattle.split_transfer.specs.declared.edit.TxChange.TheVariants.{Date, Amount, Payee, Category, Notes, Cleared, Schedule}
+use Rattle.command_lines.specs.Forms.{Share, misfit, no_more, word, some_shares, amount_of, flag_of, date_of, id_of, amount_word}
+use Rattle.command_lines.specs.FormLaws.{IsShare, share_texts}
 use Rattle.command_lines.specs.Written.{part_texts, CanWritePart}
 use Rattle.command_lines.specs.Commands.{LineForm, words_in, pair, part_of, change, change_forms, change_words, tx_set_words, tx_delete_words, split_words, transfer_words, pair_lines, words_of_pair_lines, words_of_rule_lines}
 use Rattle.command_lines.proofs.Amounts.{amount_written, id_told}

@@ -1,20 +1,18 @@
 -- The line of an edit of a transaction and of those that hang together with it is read as the edit.
-use Rattle.std.proofs.Common.{◌≡◌, ◌≢◌, ℕ, List, [], ◌∷◌, ◌++◌, map, Ok, refl, ap, sym, subst, ◌∙◌}
+use Rattle.std.proofs.Common.{◌≡◌, ◌≢◌, ℕ, List, [], ◌∷◌, ◌++◌, map, Ok, refl, ap, subst}
 use Rattle.std.specs.Prelude.{codes}
 use Rattle.std.specs.Fmt.{signed_decimal}
 use Rattle.std.specs.List.{AllByRecursion, flat_map}
 use Rattle.field_merge.specs.Lines.{parts}
-use Rattle.device_core.specs.declared.edit.Edit.TheVariants.{Pair}
 use Rattle.split_transfer.specs.declared.edit.PairEdit.{PairEdit}
 use Rattle.split_transfer.specs.declared.edit.PairEdit.TheVariants.{TxSet, TxDelete, Split, Transfer}
 use Rattle.split_transfer.specs.declared.edit.TxChange.{TxChange}
 use Rattle.split_transfer.specs.declared.edit.TxChange.TheVariants.{Date, Amount, Account, Payee, Category, Notes, Cleared, Schedule}
 use Rattle.split_transfer.specs.declared.edit.SplitPart.{SplitPart}
 use Rattle.command_lines.specs.declared.command.Command.{Command}
-use Rattle.command_lines.specs.declared.command.Command.TheVariants.{Edit}
-use Rattle.command_lines.specs.Forms.{Share, Wanted, word, no_more, some_shares, amount_of, flag_of, date_of, id_of, amount_word}
+use Rattle.command_lines.specs.Forms.{Share, word, no_more, some_shares, amount_of, flag_of, date_of, id_of, amount_word}
 use Rattle.command_lines.specs.FormLaws.{id_text, share_texts, IsShare}
-use Rattle.command_lines.specs.Commands.{pair, part_of, share_of, change, change_words, words_of_row_lines, words_of_state_lines, words_of_add_lines, words_of_month_lines, words_of_book_lines, words_of_pair_lines, line_words, of_words}
+use Rattle.command_lines.specs.Commands.{pair, part_of, share_of, change, change_words, words_of_row_lines, words_of_state_lines, words_of_add_lines, words_of_month_lines, words_of_book_lines, words_of_pair_lines, of_words}
 use Rattle.command_lines.specs.Written.{flag_text, date_text, part_texts, CanWriteChange, CanWritePart, CanWritePair, change_texts, command_line}
 use Rattle.command_lines.proofs.Amounts.{amount_back, id_of_back}
 use Rattle.command_lines.proofs.FormTexts.{flag_back, date_back}

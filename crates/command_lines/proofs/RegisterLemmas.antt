@@ -1,6 +1,6 @@
 -- A register tells exactly the live transactions of its account, each once, in order.
 use Rattle.std.proofs.Common.{◌≡◌, ℕ, Bool, true, false, cond, List, [], ◌∷◌, ◌++◌, map, Option, None, Some, refl, ap, sym, subst, ◌∙◌}
-use Rattle.std.specs.Prelude.{◌||◌, ◌↔◌}
+use Rattle.std.specs.Prelude.{◌||◌}
 use Rattle.std.specs.List.{flat_map, AllByRecursion, Contains}
 use Rattle.std.specs.List.Sorted.{IsStrictlySortedBy}
 use Rattle.std.specs.FinMap as fin

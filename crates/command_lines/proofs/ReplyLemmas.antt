@@ -1,10 +1,9 @@
 -- The texts of replies have no line feed.
-use Rattle.std.proofs.Common.{◌≡◌, ℕ, zero, suc, ◌+◌, ◌/◌, ◌%◌, Bool, true, false, cond, ◌==◌, eqb, nat_lt, List, [], ◌∷◌, ◌++◌, length, map, Option, None, Some, refl, ap, subst, ◌∙◌, arith, append_assoc}
-use Rattle.std.specs.Prelude.{codes, ℤ, pos, negsuc}
+use Rattle.std.proofs.Common.{◌≡◌, ℕ, zero, suc, ◌+◌, Bool, true, false, cond, ◌==◌, List, [], ◌∷◌, ◌++◌, length, map, Option, None, Some, refl, ap, subst, ◌∙◌, append_assoc}
+use Rattle.std.specs.Prelude.{codes, ℤ}
 use Rattle.std.specs.List.{flat_map, list_any}
 use Rattle.std.specs.Int.{w32, cast_signed}
-use Rattle.std.specs.Fmt.{digit_glyph, digits_onto, digits, decimal, signed_decimal}
-use Rattle.std.proofs.lemmas.Bool.{ne_eqb, eqb-false, or_parts}
+use Rattle.std.specs.Fmt.{decimal, signed_decimal}
 use Rattle.field_values.specs.declared.value.Value.{Value as AnyValue}
 use Rattle.field_values.specs.Value.{value_text}
 use Rattle.field_values.specs.Names.{field_of}
@@ -14,7 +13,7 @@ use Rattle.field_merge.specs.declared.message.Message.{Message}
 use Rattle.field_merge.specs.Messages.{message_line, AreMessages}
 use Rattle.field_merge.specs.Lines.{ended}
 use Rattle.field_merge.specs.Log.{fields, messages_after, value_in}
-use Rattle.field_merge.proofs.EscapeLemmas.{Lacks, Fails-append, escaped-no_feed}
+use Rattle.field_merge.proofs.EscapeLemmas.{escaped-no_feed}
 use Rattle.minute_trie.specs.declared.key.Digit.{Digit}
 use Rattle.minute_trie.specs.declared.key.Digit.TheVariants.{Zero, One, Two}
 use Rattle.minute_trie.specs.Held.{Held, after, or_zero}
@@ -29,7 +28,6 @@ use Rattle.command_lines.specs.declared.command.Command.{Command}
 use Rattle.command_lines.specs.declared.command.Command.TheVariants.{Edit, Undo, Redo, Receive, Fields, Messages, Value, Trie, Balance, Register, Cell, Sheet, Broken, ScheduleStatus, Sync}
 use Rattle.command_lines.specs.declared.reply.Reply.{Reply}
 use Rattle.command_lines.specs.declared.reply.Reply.TheVariants.{Done, Refused}
-use Rattle.finite_sums.specs.Maps.{Text}
 use Rattle.book_rows.specs.declared.rows.Rows.{Rows}
 use Rattle.book_rows.specs.Kinds.{is_day}
 use Rattle.book_rows.specs.Live.{is_live_account, is_live_schedule}

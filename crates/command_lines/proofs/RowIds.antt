@@ -1,5 +1,5 @@
 -- The ids of rows are names, so they have no line feed.
-use Rattle.std.proofs.Common.{◌≡◌, ℕ, ◌≤◌, Bool, true, false, cond, List, [], ◌∷◌, Option, None, Some, refl, arith}
+use Rattle.std.proofs.Common.{◌≡◌, ◌≤◌, Bool, true, Option, None, Some, refl, arith}
 use Rattle.std.specs.FinMap as map
 use Rattle.field_values.specs.Names.{IsName}
 use Rattle.finite_sums.specs.Maps.{Text, Texts, some_and}

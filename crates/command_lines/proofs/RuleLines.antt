@@ -1,8 +1,8 @@
 -- Of each line that edits rules, and transactions by rules: its words can be given, and its command is told by them.
-use Rattle.std.proofs.Common.{◌≡◌, ◌≢◌, ℕ, List, [], ◌∷◌, ◌⊎◌, refl}
+use Rattle.std.proofs.Common.{◌≡◌, ℕ, List, [], ◌∷◌, ◌⊎◌, refl}
 use Rattle.std.specs.Prelude.{codes}
-use Rattle.rule_engine.specs.declared.edit.RuleEdit.TheVariants.{RuleAdd, RulesRun}
-use Rattle.command_lines.specs.Forms.{misfit, no_more, word, some_texts, id_of, stage_of, op_of, stage_word, op_word}
+use Rattle.rule_engine.specs.declared.edit.RuleEdit.TheVariants.{RuleAdd}
+use Rattle.command_lines.specs.Forms.{misfit, no_more, word, id_of, stage_of, op_of, stage_word, op_word}
 use Rattle.command_lines.specs.Commands.{rule, rule_add_words, rule_delete_words, rules_run_words, rule_lines, words_of_rule_lines, words_of_schedule_lines}
 use Rattle.command_lines.proofs.Amounts.{id_told}
 use Rattle.command_lines.proofs.FormTexts.{stage_written, op_written}

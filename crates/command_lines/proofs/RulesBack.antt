@@ -1,5 +1,5 @@
 -- The line of an edit of rules, of transactions by rules, or of a schedule is read as the edit.
-use Rattle.std.proofs.Common.{◌≡◌, ℕ, List, [], ◌∷◌, Ok, refl}
+use Rattle.std.proofs.Common.{◌≡◌, [], ◌∷◌, Ok, refl}
 use Rattle.std.specs.Prelude.{codes}
 use Rattle.std.specs.Fmt.{signed_decimal}
 use Rattle.field_merge.specs.Lines.{parts}

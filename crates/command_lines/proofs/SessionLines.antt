@@ -1,5 +1,5 @@
 -- Of each line of a session: its words can be given, and its command is told by them.
-use Rattle.std.proofs.Common.{◌≡◌, ℕ, List, [], ◌∷◌, ◌⊎◌, inl, refl}
+use Rattle.std.proofs.Common.{◌≡◌, ℕ, List, ◌⊎◌, inl, refl}
 use Rattle.command_lines.specs.Forms.{misfit}
 use Rattle.command_lines.specs.Commands.{session_lines, words_of_session_lines}
 use Rattle.command_lines.proofs.Known.{IsKnown, AreKnown, known_in}

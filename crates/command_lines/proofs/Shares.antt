@@ -1,5 +1,5 @@
 -- The shares of a line, one after the other.
-use Rattle.std.proofs.Common.{◌≡◌, ◌≢◌, ℕ, List, [], ◌∷◌, ◌++◌, map, Option, Ok, refl, ap, sym, ◌∙◌, ℤ}
+use Rattle.std.proofs.Common.{◌≡◌, ◌≢◌, ℕ, List, [], ◌∷◌, ◌++◌, map, Option, Ok, refl, ap, ℤ}
 use Rattle.split_transfer.specs.declared.edit.SplitPart.{SplitPart}
 use Rattle.command_lines.specs.declared.command.Command.{Command}
 use Rattle.command_lines.specs.Forms.{Share, Wanted, some_shares, amount_word, id_word, id_of, command_of}

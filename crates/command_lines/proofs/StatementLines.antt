@@ -1,5 +1,5 @@
 -- Of the line about statements: its words can be given, and its command is told by them.
-use Rattle.std.proofs.Common.{◌≡◌, ℕ, List, [], ◌∷◌, ◌⊎◌, refl}
+use Rattle.std.proofs.Common.{◌≡◌, ℕ, List, ◌⊎◌, refl}
 use Rattle.command_lines.specs.Forms.{misfit}
 use Rattle.command_lines.specs.Commands.{import_words, statement_lines, words_of_statement_lines, words_of_session_lines}
 use Rattle.command_lines.proofs.Opening.{Opens, open_end, open_word}

@@ -1,6 +1,6 @@
 -- How a schedule stands is told of each live one and each day.
-use Rattle.std.proofs.Common.{◌≡◌, ℕ, ◌+◌, ◌-◌, ◌%◌, Bool, true, false, cond, not, List, [], ◌∷◌, Option, None, Some, refl, ap, sym, ◌∙◌}
-use Rattle.std.specs.Prelude.{codes, option_and_then, option_map}
+use Rattle.std.proofs.Common.{◌≡◌, ℕ, ◌+◌, ◌-◌, ◌%◌, Bool, true, false, cond, not, Option, None, Some, refl, ap, sym, ◌∙◌}
+use Rattle.std.specs.Prelude.{option_and_then, option_map}
 use Rattle.std.specs.FinMap as map
 use Rattle.finite_sums.specs.Maps.{Text, some_and}
 use Rattle.book_rows.specs.declared.rows.Rows.{Rows}
@@ -9,7 +9,7 @@ use Rattle.book_rows.specs.Kinds.{is_day}
 use Rattle.book_rows.specs.Live.{is_live_schedule}
 use Rattle.schedules.specs.declared.standing.ScheduleStatus.{ScheduleStatus as Standing}
 use Rattle.schedules.specs.Months.{month_start, month_in, day_in}
-use Rattle.schedules.specs.Status.{next_day, status_by, live_row, status_of, status_in}
+use Rattle.schedules.specs.Status.{next_day, status_by, status_of, status_in}
 
 live_there : (o : Option ScheduleRow) → some_and (λ s. not s.tombstone) o ≡ true → (row : ScheduleRow) × (option_and_then (λ (row : ScheduleRow). cond row.tombstone None (Some row)) o ≡ Some row)
 live_there None h = absurd (cc)

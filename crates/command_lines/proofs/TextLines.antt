@@ -1,12 +1,12 @@
 -- The lines of a text of which each has its end.
-use Rattle.std.proofs.Common.{◌≡◌, ℕ, zero, suc, ◌+◌, ◌-◌, Bool, true, false, cond, eqb, List, [], ◌∷◌, ◌++◌, append_assoc, append-nil, length, take, map, ◌⊎◌, inl, inr, Option, None, Some, refl, ap, sym, subst, ◌∙◌, arith}
+use Rattle.std.proofs.Common.{◌≡◌, ℕ, zero, suc, ◌+◌, ◌-◌, Bool, true, false, cond, eqb, List, [], ◌∷◌, ◌++◌, append_assoc, append-nil, length, take, map, ◌⊎◌, inl, inr, refl, ap, sym, subst, ◌∙◌, arith}
 use Rattle.std.specs.Prelude.{◌==◌, ◌&&◌, not, is_some, pos, ◌-ℤ◌, codes}
 use Rattle.std.specs.Fmt.{signed_decimal}
 use Rattle.std.specs.Ordering.{int_eq}
 use Rattle.std.specs.FinMap as map
-use Rattle.std.specs.List.{AllByRecursion, flat_map, slice_split, onto_first}
+use Rattle.std.specs.List.{AllByRecursion, flat_map, onto_first}
 use Rattle.std.proofs.lemmas.Bool.{eqb-true}
-use Rattle.std.proofs.lemmas.List.{length-append, take_all}
+use Rattle.std.proofs.lemmas.List.{length-append}
 use Rattle.field_merge.specs.Lines.{ended}
 use Rattle.finite_sums.specs.Maps.{Text}
 use Rattle.book_rows.specs.declared.rows.Rows.{Rows}
@@ -15,7 +15,7 @@ use Rattle.book_rows.specs.Live.{is_live_tx}
 use Rattle.split_transfer.specs.Pairs.{parts_sum}
 use Rattle.split_transfer.specs.Broken.{is_paired, transfer_line, split_line, told_transfer, told_split, told_of, broken}
 use Rattle.command_lines.specs.BookAnswers.{pieces, lines_of}
-use Rattle.command_lines.specs.ReplyLines.{IsLine, AreLines}
+use Rattle.command_lines.specs.ReplyLines.{AreLines}
 use Rattle.command_lines.proofs.PlainTexts.{Plain, is_line}
 
 -- ---- the pieces of a text

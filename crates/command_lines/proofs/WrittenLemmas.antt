@@ -1,7 +1,6 @@
 -- The line of a command is read as the command.
-use Rattle.std.proofs.Common.{◌≡◌, ℕ, List, [], ◌∷◌, length, map, is_none, Option, Some, Ok, Err, refl, ap, sym, subst, ◌∙◌}
+use Rattle.std.proofs.Common.{◌≡◌, ℕ, List, [], ◌∷◌, length, is_none, Some, Ok, Err, refl, ap, sym, subst, ◌∙◌}
 use Rattle.std.specs.Prelude.{codes, if◌then◌else◌}
-use Rattle.std.specs.List.{join_with_byte}
 use Rattle.std.proofs.lemmas.Bool.{le-ltb}
 use Rattle.field_values.specs.declared.name.NamePart.TheVariants.{Dataset}
 use Rattle.field_values.specs.Names.{IsName, field_of}
@@ -12,17 +11,14 @@ use Rattle.hybrid_clock.specs.declared.stamp.Stamp.{Stamp}
 use Rattle.hybrid_clock.specs.Stamp.{IsStamp, stamp_text}
 use Rattle.hybrid_clock.proofs.Writing.{text_reads}
 use Rattle.field_merge.specs.declared.message.Message.{Message}
-use Rattle.field_merge.specs.Escapes.{escaped}
 use Rattle.field_merge.specs.Lines.{parts}
-use Rattle.field_merge.specs.Messages.{IsMessage, message_of, message_texts, line_of_texts}
-use Rattle.field_merge.proofs.EscapeLemmas.{escaped-no_tab}
-use Rattle.field_merge.proofs.LineLemmas.{parts-none, parts-at}
+use Rattle.field_merge.specs.Messages.{IsMessage, message_of, message_texts}
 use Rattle.device_core.specs.declared.edit.Edit.TheVariants.{Book, Pair, Rule, Schedule as OfSchedule, Import}
 use Rattle.book_edits.specs.declared.edit.BookEdit.TheVariants.{Set, AccountAdd, AccountRename, AccountOffbudget, AccountReopen, AccountClose, GroupAdd, GroupRename, GroupDelete, CategoryAdd, CategoryRename, CategoryMove, CategoryDelete, PayeeAdd, PayeeRename, PayeeDelete, TxAdd, Budget, Carryover, Hold, Move, Note}
 use Rattle.command_lines.specs.declared.command.Command.{Command}
 use Rattle.command_lines.specs.declared.command.Command.TheVariants.{Edit, Undo, Redo, Receive, Fields, Messages, Value, Trie, Balance, Register, Cell, Sheet, Broken, ScheduleStatus, Sync}
 use Rattle.std.specs.Fmt.{signed_decimal}
-use Rattle.command_lines.specs.Forms.{Wanted, word, no_more, misfit, of_stamp, stamp_word, name_word, amount_of, id_of, flag_of, date_of, month_of, if_read, form_word, amount_word, flag_word, date_word, month_word, id_word}
+use Rattle.command_lines.specs.Forms.{Wanted, word, no_more, misfit, of_stamp, stamp_word, name_word, amount_of, id_of, flag_of, date_of, month_of, amount_word, flag_word, date_word, id_word}
 use Rattle.command_lines.specs.FormLaws.{id_text}
 use Rattle.command_lines.specs.Commands.{words_of_row_lines, words_of_state_lines, words_of_add_lines, words_of_month_lines, words_of_book_lines, words_of_pair_lines, words_of_rule_lines, words_of_schedule_lines, words_of_statement_lines, words_of_session_lines, line_words, of_words, longest_line, IsCommand}
 use Rattle.command_lines.specs.Written.{flag_text, date_text, month_text, CanBeWritten, command_line, CommandsReadBack}

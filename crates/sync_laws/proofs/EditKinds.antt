@@ -5,7 +5,7 @@ use Rattle.book_rows.specs.declared.write.Write.{Write}
 use Rattle.edit_history.specs.declared.history.Turn.TheVariants.{New}
 use Rattle.device_core.specs.declared.edit.Edit.{Edit}
 use Rattle.device_core.specs.declared.edit.Edit.TheVariants.{Book, Pair, Rule, Schedule, Import}
-use Rattle.device_core.specs.Device.{State, Accepted, writing, edited}
+use Rattle.device_core.specs.Device.{State, writing, edited}
 use Rattle.device_core.specs.Several.{WritesAreJoined}
 use Rattle.sync_laws.specs.Devices.{IsAnsweredBy, EditsAreOfTheirKind}
 

@@ -1,6 +1,5 @@
 -- Servers with equal groups answer equally.
-use Rattle.std.proofs.Common.{◌≡◌, ◌∙◌, ℕ, List, [], take, Result, refl, sym, ap, subst}
-use Rattle.httparse.specs.Grammar.{RequestHead}
+use Rattle.std.proofs.Common.{◌≡◌, ◌∙◌, ℕ, List, [], take, Result, sym, ap, subst}
 use Rattle.budget_ports.specs.Contents.{Contents, Text}
 use Rattle.field_merge.specs.declared.message.Message.{Message}
 use Rattle.sync_wire.specs.declared.request.SyncRequest.{SyncRequest}
@@ -8,11 +7,10 @@ use Rattle.sync_wire.specs.Canon.{response_bytes}
 use Rattle.sync_server.specs.declared.refusal.Refusal.{Refusal}
 use Rattle.sync_server.specs.declared.served.Served.TheVariants as served
 use Rattle.sync_server.specs.Answer.{answer_of}
-use Rattle.sync_server.specs.Heads.{HasHead}
 use Rattle.sync_server.specs.Laws.{ConnectionsAreDecided, AcceptedAreKept}
 use Rattle.sync_server.specs.Outside.{HasFound}
 use Rattle.sync_server.specs.Replies.{accepted_bytes}
-use Rattle.sync_server.specs.Serving.{Verdict, Ends, Refuses, Accepts, Decides, by_head, too_large, no_head, bytes_end, DecidesRest, refused, short, whole, DecidesBody, no_request, request, Visit, IsServed}
+use Rattle.sync_server.specs.Serving.{Verdict, Ends, Refuses, Accepts, Decides, by_head, too_large, no_head, bytes_end, DecidesRest, refused, short, whole, DecidesBody, no_request, request}
 use Rattle.sync_laws.specs.Equal.{HaveEqualGroups, ServersAnswerEqually}
 
 module _ (k c : Contents) (same : HaveEqualGroups k c) where

@@ -1,32 +1,26 @@
 -- Lines of a run that take something back, and lines that only read.
-use Rattle.std.proofs.Common.{◌≡◌, ℕ, ◌<◌, List, [], Result, Ok, Err, refl, sym, ap, ◌∙◌, subst}
-use Rattle.hybrid_clock.specs.declared.stamp.Stamp.{Stamp}
-use Rattle.budget_ports.specs.Contents.{Contents}
+use Rattle.std.proofs.Common.{◌≡◌, ℕ, List, Result, Ok, Err, sym, ap, ◌∙◌, subst}
 use Rattle.field_merge.specs.declared.message.Message.{Message}
-use Rattle.field_merge.specs.Log.{IsRising, join}
-use Rattle.field_merge.specs.Joining.{HasOneEach, HaveSame}
 use Rattle.field_merge.specs.Laws.{JoinsInAnyOrder}
 use Rattle.kept_messages.specs.Records.{kept_set}
 use Rattle.book_rows.specs.declared.fault.EditFault.{EditFault}
 use Rattle.book_rows.specs.declared.fault.EditFault.TheVariants.{NothingToUndo, NothingToRedo}
 use Rattle.edit_history.specs.declared.before.Before.{Before}
 use Rattle.edit_history.specs.declared.history.Turn.{Turn}
-use Rattle.edit_history.specs.History.{AreEntries}
 use Rattle.device_core.specs.declared.edit.LineRefusal.{LineRefusal}
 use Rattle.device_core.specs.declared.edit.LineRefusal.TheVariants.{Edit as OfEdit, Clock as OfClock}
-use Rattle.device_core.specs.Device.{State, Accepted, IsAhead, edited, undone, redone}
+use Rattle.device_core.specs.Device.{State, Accepted, IsAhead, undone, redone}
 use Rattle.device_core.specs.Undoing.{IsTakenBack, IsRestored, EntriesAreTakenBack, LinesAreUndone}
-use Rattle.command_lines.specs.declared.command.Command.{Command}
 use Rattle.command_lines.specs.declared.reply.Reply.{Reply}
-use Rattle.command_lines.specs.Readings.{answer, IsReading}
+use Rattle.command_lines.specs.Readings.{answer}
 use Rattle.command_lines.specs.Replies.{reply_text_of}
 use Rattle.device_sync.specs.declared.target.Target.{Target}
 use Rattle.budget_top.specs.Doing.{Running}
 use Rattle.budget_top.specs.Course.{Input, step}
 use Rattle.budget_top.specs.DeviceRun.{beginning}
-use Rattle.budget_top.specs.Obeying.{Says, Refuses, TakesBack, LinesAreObeyed}
-use Rattle.budget_top.specs.Seen.{Holds, device_records}
-use Rattle.sync_laws.specs.Lines.{HasTakenBack, TakesLatest, Restores, LinesAreTakenBack, AnswerEqually, EqualSetsAnswerEqually}
+use Rattle.budget_top.specs.Obeying.{Refuses, TakesBack, LinesAreObeyed}
+use Rattle.budget_top.specs.Seen.{device_records}
+use Rattle.sync_laws.specs.Lines.{TakesLatest, LinesAreTakenBack, AnswerEqually, EqualSetsAnswerEqually}
 
 -- a line that takes back by what it is answered, and by what a run says of such a line
 taking : (target : Target) (r : Running) (turn : Turn) (entries : List (List Before)) (fault : EditFault) (i : Input) (meant : Result Accepted LineRefusal)

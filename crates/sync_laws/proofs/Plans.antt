@@ -1,9 +1,8 @@
 -- A device and a server of plans with one file and group.
-use Rattle.std.proofs.Common.{◌≡◌, List, ℕ, Some, refl, sym, ap, ◌∙◌}
+use Rattle.std.proofs.Common.{List, ℕ, Some, refl, sym, ap, ◌∙◌}
 use Rattle.std.specs.FinMap.{get}
-use Rattle.budget_ports.specs.Contents.{Contents, with_text}
+use Rattle.budget_ports.specs.Contents.{with_text}
 use Rattle.sync_server.specs.Serving.{file_name}
-use Rattle.budget_top.specs.declared.words.Plan.{Plan}
 use Rattle.sync_laws.specs.Contents.{ContentsAreKept}
 use Rattle.sync_laws.specs.Plans.{PlansMeet}
 

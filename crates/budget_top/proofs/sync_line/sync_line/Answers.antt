@@ -1,6 +1,5 @@
-use Rattle.std.proofs.Common.{◌≡◌, ◌⊎◌, inl, inr, ap, sym, ◌∙◌, subst, Bool}
+use Rattle.std.proofs.Common.{inl, inr, ap, ◌∙◌, Bool}
 use Rattle.budget_ports.specs.Faults.{count_after}
-use Rattle.budget_ports.specs.Keeper.{IsAlone}
 use Rattle.budget_top.proofs.Syncing.{sync_oks, sync_errs, beyond_oks, beyond_errs, when_told, told_count, within_or, live_of, idle_of}
 use Rattle.budget_top.proofs.sync_line.sync_line.Goals as goal
 

@@ -1,4 +1,4 @@
-use Rattle.std.proofs.Common.{◌≡◌, ℕ, List, Result, ap, sym}
+use Rattle.std.proofs.Common.{ap, sym}
 use Rattle.split_transfer.specs.declared.edit.TxChange.TheVariants.{Date, Amount, Account, Payee, Category, Notes, Cleared, Schedule}
 use Rattle.command_lines.specs.Commands.{change, change_words}
 use Rattle.command_lines.specs.Forms.{word, date_word, amount_word, flag_word, id_word}

@@ -1,6 +1,5 @@
 use Rattle.std.proofs.Common.{List, ℕ, ℤ, Option, Result, sym, subst}
 use Rattle.command_lines.specs.declared.command.Command.{Command}
-use Rattle.command_lines.specs.declared.command.CommandFault.{CommandFault}
 use Rattle.command_lines.specs.Commands.{IsCommandFault}
 use Rattle.command_lines.specs.Forms.{Wanted, amount_word, id_word}
 use Rattle.command_lines.specs.Unread.{command_of_unread}

@@ -1,7 +1,6 @@
-use Rattle.std.proofs.Common.{◌≡◌, ℕ, List, [], Result, map, ap, sym, subst}
+use Rattle.std.proofs.Common.{ℕ, List, [], Result, map, sym, subst}
 use Rattle.split_transfer.specs.declared.edit.SplitPart.{SplitPart}
 use Rattle.command_lines.specs.declared.command.Command.{Command}
-use Rattle.command_lines.specs.declared.command.CommandFault.{CommandFault}
 use Rattle.command_lines.specs.Commands.{IsCommandFault, share_of}
 use Rattle.command_lines.specs.Forms.{Share, some_shares}
 use Rattle.command_lines.specs.Unread.{command_of_unread}

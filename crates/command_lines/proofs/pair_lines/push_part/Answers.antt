@@ -1,6 +1,5 @@
-use Rattle.std.proofs.Common.{◌≡◌, ◌∙◌, ℕ, List, Result, map, ap, sym, subst}
+use Rattle.std.proofs.Common.{◌∙◌, ℕ, List, Result, map, ap, sym, subst}
 use Rattle.command_lines.specs.declared.command.Command.{Command}
-use Rattle.command_lines.specs.declared.command.CommandFault.{CommandFault}
 use Rattle.command_lines.specs.Commands.{IsCommandFault, share_of}
 use Rattle.command_lines.specs.Forms.{Share, some_shares}
 use Rattle.command_lines.specs.Unread.{command_of_unread}
