@@ -1,5 +1,6 @@
 //! A keeper over no store.
-ghost use Rattle.std.specs.Prelude.{◌≡◌, true};
+ghost use Rattle.std.specs.Prelude.{◌≡◌, true, IsErrOf};
+ghost use Rattle.budget_ports.specs.declared.keeper.PortFault.TheVariants.{Failed as HasFailed};
 ghost use Rattle.budget_ports.specs.Faults.{count_after};
 ghost use Rattle.budget_ports.specs.Contents.{nothing};
 
@@ -49,23 +50,38 @@ impl Keeper for ShutKeeper {
 
     ghost faults = { λ k. k };
 
-    fn append(&mut self, _group: &Txt, _batch: &[Record]) -> Result<(), PortFault> {
+    fn append(&mut self, _group: &Txt, _batch: &[Record]) -> Result<(), PortFault>
+        ensures fails { IsErrOf result HasFailed }
+        ensures count { self.new ≡ count_after true self.old }
+    {
         Err(self.fail())
     }
 
-    fn since(&mut self, _group: &Txt, _after: &Txt) -> Result<Items<Record>, PortFault> {
+    fn since(&mut self, _group: &Txt, _after: &Txt) -> Result<Items<Record>, PortFault>
+        ensures fails { IsErrOf result HasFailed }
+        ensures count { self.new ≡ count_after true self.old }
+    {
         Err(self.fail())
     }
 
-    fn put(&mut self, _name: &Txt, _text: &Txt) -> Result<(), PortFault> {
+    fn put(&mut self, _name: &Txt, _text: &Txt) -> Result<(), PortFault>
+        ensures fails { IsErrOf result HasFailed }
+        ensures count { self.new ≡ count_after true self.old }
+    {
         Err(self.fail())
     }
 
-    fn get(&mut self, _name: &Txt) -> Result<Option<Txt>, PortFault> {
+    fn get(&mut self, _name: &Txt) -> Result<Option<Txt>, PortFault>
+        ensures fails { IsErrOf result HasFailed }
+        ensures count { self.new ≡ count_after true self.old }
+    {
         Err(self.fail())
     }
 
-    fn names(&mut self) -> Result<Items<Txt>, PortFault> {
+    fn names(&mut self) -> Result<Items<Txt>, PortFault>
+        ensures fails { IsErrOf result HasFailed }
+        ensures count { self.new ≡ count_after true self.old }
+    {
         Err(self.fail())
     }
 }
