@@ -106,6 +106,7 @@ pub fn join_message(
     ensures right { OnOk result (IsTrieOf (pairs_of log.new.messages) trie.new) }
     ensures joined { OnOk result (log.new.messages ≡ join_one log.old.messages message.now) }
     ensures batch { OnOk result (batch.new.items ≡ batch.old.items ++ map record_of (new_in log.old.messages (message.now ∷ []))) }
+    ensures fresh { IfOk result (λ entered. entered.fresh ≡ is_none (at_stamp log.old.messages message.now.stamp)) }
     ensures latest { IfOk result (λ entered. (f : FieldNames) → latest log.new.messages f ≡ (if entered.latest && has_field f message.now then Some message.now else latest log.old.messages f)) }
     ensures changed { IfOk result (λ entered. (entered.latest ≡ true) ↔ (latest log.old.messages message.now.field ≢ latest log.new.messages message.now.field)) }
 {

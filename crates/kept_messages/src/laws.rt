@@ -22,7 +22,7 @@ pub fn groups_are_read()
     ensures { GroupsAreRead }
 {}
 
-/// A law: a group that keeps a message set keeps, with the records of the new ones of other messages
+/// A law: a group that keeps a message set keeps, with the records of the new ones of other valid messages
 /// appended, that set joined with these messages. It loses none of the records that it had at entry
 /// and changes none, each other one is just the record of a message of the set, and all else that is
 /// kept stays.
