@@ -356,7 +356,8 @@ module _ (ids : Ids) (r : Rows) where
 
   tx_done : (ws : List Write) (id : Option Text) (account : Text) (date : ℕ) (amount : ℤ) (payee category : Option Text) (notes : Text) → tx_add r id account date amount payee category notes ≡ Ok ws
       → get r.txs (new_id ids id) ≡ None → (x : TxRow) × (get (with_writes ids r ws).txs (new_id ids id) ≡ Some x) × (x.acct ≡ Some account) × (x.date ≡ Some date)
-      × (x.amount ≡ amount) × (x.description ≡ payee) × (x.category ≡ category) × (x.tombstone ≡ false) × (x.is_parent ≡ false) × (x.is_child ≡ false) × (x.transferred_id ≡ None)
+      × (x.amount ≡ amount) × (x.description ≡ payee) × (x.category ≡ category) × (notes ≢ [] → x.notes ≡ Some notes) × (notes ≡ [] → x.notes ≡ None)
+      × (x.tombstone ≡ false) × (x.is_parent ≡ false) × (x.is_child ≡ false) × (x.transferred_id ≡ None)
   tx_done ws id account date amount payee category notes h none =
       let p = passed (new_row (is_tx r) id) _ _ h in
       let a = passed (live_account r account) _ _ p.2 in
@@ -375,6 +376,8 @@ module _ (ids : Ids) (r : Rows) where
         refl,
         text_back payee,
         text_back category,
+        (notes_back notes).0,
+        (notes_back notes).1,
         refl,
         refl,
         refl,

@@ -1,6 +1,6 @@
 -- Which transactions changes change, and that they change nothing else.
 use Rattle.std.proofs.Common.{◌≡◌, ℕ, Bool, true, false, cond, List, [], ◌∷◌, ◌++◌, Option, None, Some, Ok, refl, ap, sym, ◌∙◌, subst}
-use Rattle.std.specs.Prelude.{unwrap_or, option_to_list, not}
+use Rattle.std.specs.Prelude.{unwrap_or, option_to_list}
 use Rattle.std.specs.Option.{option_map}
 use lib.IntN.{ℤ, pos, neg_ℤ}
 use Rattle.std.specs.FinMap.{get}

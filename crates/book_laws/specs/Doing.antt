@@ -25,7 +25,8 @@ abbrev pub new_id : Ids → Option Text → Text
 new_id ids None = ids 0
 new_id ids (Some id) = id
 
--- what plain edits do that are accepted. A row of which nothing was there before is live
+-- what plain edits do that are accepted, but for those that set a field, move an amount or note a text, of which Leaving says it. A row of
+-- which nothing was there before is live
 pub record PlainEditsDo (ids : Ids) (rows : Rows) (ws : List Write) : Type 0 where
   -- an account has its name, and stands in the budget or outside, and its payee stands for it
   pub account : (id : Option Text) (name : Text) (off : Bool) → account_add rows id name off ≡ Ok ws
@@ -56,11 +57,13 @@ pub record PlainEditsDo (ids : Ids) (rows : Rows) (ws : List Write) : Type 0 whe
   pub category_renamed : (id name : Text) → category_rename rows id name ≡ Ok ws → (c : CategoryRow) × (map.get (with_writes ids rows ws).categories id ≡ Some c) × (c.name ≡ Some name)
   pub moved : (id group : Text) → category_move rows id group ≡ Ok ws → (c : CategoryRow) × (map.get (with_writes ids rows ws).categories id ≡ Some c) × (c.cat_group ≡ Some group)
   pub category_gone : (id : Text) → category_delete rows id ≡ Ok ws → (c : CategoryRow) × (map.get (with_writes ids rows ws).categories id ≡ Some c) × (c.tombstone ≡ true)
-  -- a transaction that was not there has all that is given, and is neither split nor part of a split or a pair
+  -- a transaction that was not there has all that is given, where empty notes are none, and is live and neither split nor part of a split or
+  -- a pair
   pub tx : (id : Option Text) (account : Text) (date : ℕ) (amount : ℤ) (payee category : Option Text) (notes : Text) → tx_add rows id account date amount payee category notes ≡ Ok ws
       → map.get rows.txs (new_id ids id) ≡ None → (x : TxRow) × (map.get (with_writes ids rows ws).txs (new_id ids id) ≡ Some x) × (x.acct ≡ Some account) × (x.date ≡ Some date)
-      × (x.amount ≡ amount) × (x.description ≡ payee) × (x.category ≡ category) × (x.tombstone ≡ false) × (x.is_parent ≡ false) × (x.is_child ≡ false) × (x.transferred_id ≡ None)
-  -- a category has what it is given in the month, and carries over what it is to
+      × (x.amount ≡ amount) × (x.description ≡ payee) × (x.category ≡ category) × (notes ≢ [] → x.notes ≡ Some notes) × (notes ≡ [] → x.notes ≡ None)
+      × (x.tombstone ≡ false) × (x.is_parent ≡ false) × (x.is_child ≡ false) × (x.transferred_id ≡ None)
+  -- a category has what it is given in the month, and carries over where it is to
   pub given : (month : ℕ) (category : Text) (amount : ℤ) → budget rows month category amount ≡ Ok ws
       → (b : BudgetRow) × (map.get (with_writes ids rows ws).budgets (budget_id category month) ≡ Some b) × (b.amount ≡ amount)
   pub carries : (month : ℕ) (category : Text) (flag : Bool) → carryover rows month category flag ≡ Ok ws

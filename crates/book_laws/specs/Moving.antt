@@ -23,7 +23,7 @@ pub record IsHalf (rows : Rows) (id account : Text) (amount : ℤ) (day : ℕ) (
   pub whole : tx.is_parent ≡ false
   pub single : tx.is_child ≡ false
 
--- rows are those before a transfer, and two more
+-- the transactions are those before a transfer, and two more
 pub record IsTransferred (ids : Ids) (before after : Rows) (from to : Text) (day : ℕ) (amount : ℤ) : Type 0 where
   -- the account from which the amount goes has that much less, and the one to which it goes has it more
   pub out_of : IsHalf after (ids 0) from (neg_ℤ amount) day (payee_for before to) (ids 6)

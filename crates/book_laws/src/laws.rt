@@ -70,13 +70,14 @@ pub fn sheets_are_in_order()
     ensures { (rows : Rows) → SheetsAreInOrder rows }
 {}
 
-/// A law: the cells of a group add up those of its categories, and what came in and what went out is all that was moved.
+/// A law: the cells of a group add up those of its categories, and what came in and what went out is all that was moved in live
+/// categories.
 pub fn cells_add_up()
     ensures { (b : Budget) → CellsAddUp b }
 {}
 
-/// A law: what an edit gives a category in a month is what the sheet of the month is made of, and so are what is carried over and what
-/// is held back.
+/// A law: what an edit that is accepted gives a category in a month is what the sheet of the month is made of, and so are whether it
+/// carries over and what is held back.
 pub fn edits_show_on_sheets()
     ensures { (ids : Ids) (rows : Rows) (ws : List Write) → EditsShowOnSheets ids rows ws }
 {}
@@ -88,8 +89,9 @@ pub fn transfers_move()
 {}
 
 /// A law: a split that is accepted makes a transaction for each part, with its amount and its category, and of the day, the account and
-/// the payee of what is split, which has no category then; earlier parts are deleted, and no other transaction changes. It is asked
-/// before that the ids of the rows that are made are new and differ.
+/// the payee of what is split, which has no category then; earlier parts are deleted, and no other transaction changes. It is asked before
+/// that no transaction has the id of a row that is made, that these ids differ, and that the day of what is split, if it has one, is one
+/// of the calendar.
 pub fn splits_make_parts()
     ensures { SplitsMakeParts }
 {}
@@ -99,7 +101,8 @@ pub fn plain_edits_are_judged()
     ensures { PlainEditsAreJudged }
 {}
 
-/// A law: a plain edit that is accepted does what it is for: the row that it is about has then what the edit gives it.
+/// A law: a plain edit that is accepted does what it is for: the row that it is about has then what the edit gives it, where empty
+/// notes are none. What an edit does that sets a field, moves an amount or notes a text, `plain_edits_do_no_more` says.
 pub fn plain_edits_do()
     ensures { (ids : Ids) (rows : Rows) (ws : List Write) → PlainEditsDo ids rows ws }
 {}
@@ -116,7 +119,7 @@ pub fn changes_do()
 {}
 
 /// A law: a change of a transaction that is accepted changes nothing but that: a day is that of its parts and of its partner too, an
-/// account that of its parts, its partner has the opposite amount, and is deleted with it. Nothing else is written.
+/// account that of its parts, its partner has the opposite amount, and is deleted with it. Nothing else changes.
 pub fn changes_do_no_more()
     ensures { (ids : Ids) (rows : Rows) (id : Text) (x : TxRow) (ws : List Write) → map.get rows.txs id ≡ Some x → ChangesDoNoMore ids rows id x ws }
 {}

@@ -109,7 +109,7 @@ pub record AreImported (ids : Ids) (rows : Rows) (ws : List Write) (account : Te
   -- no other payee changes, or is made
   pub other_payees : (q : Text) → ((k : ℕ) (name : Text) → slice_get (names rows account es) k ≡ Some name → q ≡ ids k → ⊥)
       → map.get (with_writes ids rows ws).payees q ≡ map.get rows.payees q
-  -- nothing else is written
+  -- nothing else changes
   pub rest : with_writes ids rows ws ≡ record rows { txs = (with_writes ids rows ws).txs; payees = (with_writes ids rows ws).payees }
 
 -- the ids of the rows that writes make

@@ -13,7 +13,7 @@ use Rattle.bank_import.specs.declared.edit.ImportEdit.{ImportEdit}
 use Rattle.bank_import.specs.Edits.{import_writes}
 
 -- after these writes each pair and each split that was right is right if it is still there, and so is each that they make, where the ids
--- of made rows are new, and no transaction says that it is part of one that they add
+-- of made rows are new, and no transaction names one that they add as what it is a part of
 abbrev pub AreKept : Rows → List Write → Type 0
 AreKept rows ws = (ids : Ids) → IsAdded ids rows ws → StayRight rows (with_writes ids rows ws)
 

@@ -1,5 +1,5 @@
 -- What actions make of a transaction.
-use Rattle.std.proofs.Common.{◌≡◌, ◌++◌, Bool, true, false, cond, [], ◌∷◌, Option, None, Some, refl, ap, ◌∙◌}
+use Rattle.std.proofs.Common.{◌≡◌, ◌++◌, Bool, true, false, cond, [], ◌∷◌, Option, None, Some, refl, ap, ◌∙◌, append-nil}
 use Rattle.std.specs.Prelude.{◌&&◌, ◌||◌, not, is_none}
 use Rattle.finite_sums.specs.Maps.{Text}
 use Rattle.book_rows.specs.declared.rows.Rows.{Rows}
@@ -44,6 +44,12 @@ module _ (rows : Rows) (x : TxRow) where
   unfolding acted
   first text own h = ap (λ o. record x { notes = noted (text ++ or_empty o) }) h ∙ ap (λ n. record x { notes = n }) (noted_is (text ++ own))
 
+  only : (text : Text) → x.notes ≡ None → acted rows x (PrependNotes text) ≡ record x { notes = or_none text }
+  unfolding acted
+  only text h =
+      ap (λ o. record x { notes = noted (text ++ or_empty o) }) h
+      ∙ ap (λ n. record x { notes = n }) (noted_is (text ++ []) ∙ ap or_none (append-nil text))
+
   last : (text : Text) (o : Option Text) → x.notes ≡ o → acted rows x (AppendNotes text) ≡ record x { notes = or_none (or_empty o ++ text) }
   unfolding acted
   last text o h = ap (λ p. record x { notes = noted (or_empty p ++ text) }) h ∙ ap (λ n. record x { notes = n }) (noted_is (or_empty o ++ text))
@@ -73,7 +79,8 @@ actions_told rows x = record {
   notes = written rows x;
   before = first rows x;
   behind = λ text own h. last rows x text (Some own) h;
-  alone = λ text h. last rows x text None h;
+  before_none = only rows x;
+  behind_none = λ text h. last rows x text None h;
   cleared = flagged rows x;
   schedule = linked rows x;
 }

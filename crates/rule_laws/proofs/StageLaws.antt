@@ -85,6 +85,7 @@ read_so id row r c a i s o =
 
 added : (rows : Rows) (given : Option Text) (id : Text) (stage : Stage) (op : RuleOp) (conditions actions : Text) (ws : List Write) → rule_add rows given stage op conditions actions ≡ Ok ws
     → (r : Rule) × (read_rule id (added_row id stage op conditions actions) ≡ Ok r) × (r.id ≡ id) × (r.stage ≡ stage) × (r.op ≡ op)
+    × (read_part Conditions condition_of (Some conditions) ≡ Ok r.conditions) × (read_part Actions action_of (Some actions) ≡ Ok r.actions)
 added rows given id stage op conditions actions ws h =
     let p = passed (new_row (is_rule rows) given) _ _ h in
     let c = passed (readable (read_part Conditions condition_of (Some conditions))) _ _ p.2 in
@@ -92,7 +93,7 @@ added rows given id stage op conditions actions ws h =
     let cs = reads (read_part Conditions condition_of (Some conditions)) c.1 in
     let xs = reads (read_part Actions action_of (Some actions)) a.1 in
     let r : Rule = record { id = id; stage = stage; op = op; conditions = cs.0; actions = xs.0 } in
-    (r, read_so id (added_row id stage op conditions actions) r cs.1 xs.1 refl (stage_back stage) (op_back op), refl, refl, refl)
+    (r, read_so id (added_row id stage op conditions actions) r cs.1 xs.1 refl (stage_back stage) (op_back op), refl, refl, refl, cs.1, xs.1)
 
 pub read_back : RulesReadBack
 read_back = record { added = added }

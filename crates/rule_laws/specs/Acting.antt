@@ -29,6 +29,8 @@ pub record ActionsAreTold (rows : Rows) (x : TxRow) : Type 0 where
   pub notes : (text : Text) → acted rows x (SetNotes text) ≡ record x { notes = or_none text }
   pub before : (text own : Text) → x.notes ≡ Some own → acted rows x (PrependNotes text) ≡ record x { notes = or_none (text ++ own) }
   pub behind : (text own : Text) → x.notes ≡ Some own → acted rows x (AppendNotes text) ≡ record x { notes = or_none (own ++ text) }
-  pub alone : (text : Text) → x.notes ≡ None → acted rows x (AppendNotes text) ≡ record x { notes = or_none text }
+  -- where there are none, they stand alone
+  pub before_none : (text : Text) → x.notes ≡ None → acted rows x (PrependNotes text) ≡ record x { notes = or_none text }
+  pub behind_none : (text : Text) → x.notes ≡ None → acted rows x (AppendNotes text) ≡ record x { notes = or_none text }
   pub cleared : (set : Bool) → acted rows x (SetCleared set) ≡ record x { cleared = set }
   pub schedule : (id : Text) → acted rows x (LinkSchedule id) ≡ record x { schedule = Some id }

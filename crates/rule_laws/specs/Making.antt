@@ -11,6 +11,7 @@ use Rattle.book_rows.specs.declared.rows.RuleRow.{RuleRow}
 use Rattle.book_rows.specs.declared.write.RowName.TheVariants.{Given}
 use Rattle.book_rows.specs.declared.write.Write.{Write}
 use Rattle.book_rows.specs.declared.fault.EditFault.TheVariants.{NoSuchTransaction}
+use Rattle.book_rows.specs.declared.fault.RulePart.TheVariants.{Conditions, Actions}
 use Rattle.book_rows.specs.Kinds.{text_of}
 use Rattle.book_rows.specs.Live.{is_alive}
 use Rattle.book_edits.specs.Writing.{flag, text_or_null}
@@ -20,7 +21,7 @@ use Rattle.rule_engine.specs.declared.rule.Rule.{Rule}
 use Rattle.rule_engine.specs.declared.rule.RuleOp.{RuleOp}
 use Rattle.rule_engine.specs.declared.rule.Stage.{Stage}
 use Rattle.rule_engine.specs.declared.rule.Stage.TheVariants.{Pre, Plain, Post}
-use Rattle.rule_engine.specs.Reading.{read_rule}
+use Rattle.rule_engine.specs.Reading.{read_part, condition_of, action_of, read_rule}
 use Rattle.rule_engine.specs.Running.{run, rules_of}
 use Rattle.rule_engine.specs.Scores.{score, rank_cmp}
 use Rattle.rule_engine.specs.Edits.{stage_value, op_text, rule_add, rule_delete, distinct, rules_run}
@@ -64,10 +65,11 @@ pub record RuleEditsDo (ids : Ids) (rows : Rows) (ws : List Write) : Type 0 wher
   pub deleted : (id : Text) → rule_delete rows id ≡ Ok ws
       → (r : RuleRow) × (map.get rows.rules id ≡ Some r) × (r.tombstone ≡ false) × (with_writes ids rows ws ≡ record rows { rules = map.insert rows.rules id (record r { tombstone = true }) })
 
--- a rule that is accepted can be read, and says what was given
+-- a rule that is accepted can be read, with the id, the stage and the op that were given, and what the given texts are read as
 pub record RulesReadBack : Type 0 where
   pub added : (rows : Rows) (given : Option Text) (id : Text) (stage : Stage) (op : RuleOp) (conditions actions : Text) (ws : List Write) → rule_add rows given stage op conditions actions ≡ Ok ws
       → (r : Rule) × (read_rule id (added_row id stage op conditions actions) ≡ Ok r) × (r.id ≡ id) × (r.stage ≡ stage) × (r.op ≡ op)
+      × (read_part Conditions condition_of (Some conditions) ≡ Ok r.conditions) × (read_part Actions action_of (Some actions) ≡ Ok r.actions)
 
 -- a transaction with the columns of another one that rules change
 abbrev pub with_changed : TxRow → TxRow → TxRow

@@ -65,7 +65,8 @@ pub record SchedulesReadBack (ids : Ids) (rows : Rows) (ws : List Write) : Type 
       → IsAdded ids rows ws id account payee amount recur → IsPlain recur d
       → (row : ScheduleRow) × (days : Said) × IsThere (with_writes ids rows ws) (own_id ids 4 id) row × (recurrence_of recur ≡ Ok days)
       × (terms_of (with_writes ids rows ws) row ≡ Ok (given account payee amount days))
-  -- and its rule tests for that: it has no stage, all its conditions have to hold, and it has no actions
+  -- and its rule tests for the account, the payee, the amount and a recurrence, of which it does not tell the days: it has no stage, all its
+  -- conditions have to hold, and it has no actions
   pub tests : (id : Option Text) (account : Text) (payee : Option Text) (amount : ℤ) (recur : Text) (d : Data)
       → IsAdded ids rows ws id account payee amount recur → IsPlain recur d
       → (row : RuleRow) × (map.get (with_writes ids rows ws).rules (ids 0) ≡ Some row)

@@ -60,7 +60,7 @@ pub record ScheduleEditsDo (ids : Ids) (rows : Rows) (ws : List Write) : Type 0 
   pub posted : (id : Text) → schedule_post rows id ≡ Ok ws → map.get rows.txs (ids 0) ≡ None
       → (row : ScheduleRow) × (date : ℕ) × (t : Terms) × IsGoing rows id row date t × (is_live_account rows t.account ≡ true)
       × (with_writes ids rows ws ≡ record rows { txs = map.insert rows.txs (ids 0) (posted_row (ids 0) id date t) })
-  -- one that is skipped goes on to the least date after its next one; nothing else changes
+  -- one that is skipped goes on to the least date after its next one, or has ended where there is none; nothing else changes
   pub skipped : (id : Text) → schedule_skip rows id ≡ Ok ws
       → (row : ScheduleRow) × (date : ℕ) × (t : Terms) × (next : Option ℕ) × IsGoing rows id row date t × IsNext t.days date next
       × (with_writes ids rows ws ≡ record rows { schedules = map.insert rows.schedules id (gone_on next row) })

@@ -23,7 +23,8 @@ pub fn ends_cut()
     ensures { (r : Said) → EndsCut r }
 {}
 
-/// A law: a Saturday and a Sunday move to the last day before that is none, or to the first one behind, and no other day moves.
+/// A law: a Saturday and a Sunday move to the last day before that is none, or to the first one behind, or stay where no day is to move,
+/// and no other day moves.
 pub fn days_move()
     ensures { (d : ℕ) → DaysMove d }
 {}
@@ -34,7 +35,8 @@ pub fn middles_are_rounded()
 {}
 
 /// A law: a schedule that is added has the name, its rule and the first date; one that is posted makes the transaction of its next date
-/// as its rule says; one that is skipped goes on to the least date after that; one that is deleted is deleted. Nothing else changes.
+/// as its rule says; one that is skipped goes on to the least date after that, or has ended where there is none; one that is deleted is
+/// deleted. Nothing else changes. It is asked before that the rows that are made are new.
 pub fn schedule_edits_do()
     ensures { (ids : Ids) (rows : Rows) (ws : List Write) → ScheduleEditsDo ids rows ws }
 {}
@@ -61,7 +63,8 @@ pub fn rules_read_back()
     ensures { RulesReadBack }
 {}
 
-/// A law: a rule that is added has a row that says what was given, and one that is deleted is deleted; nothing else changes.
+/// A law: a rule that is added, where there was no row of its id, has a row that says what was given, and one that is deleted is deleted;
+/// nothing else changes.
 pub fn rule_edits_do()
     ensures { (ids : Ids) (rows : Rows) (ws : List Write) → RuleEditsDo ids rows ws }
 {}
@@ -88,8 +91,9 @@ pub fn schedule_edits_are_judged()
     ensures { ScheduleEditsAreJudged }
 {}
 
-/// A law: a schedule that is added says the account, the payee, the amount and the days that were given, and its rule tests for them. It
-/// is asked that the recurrence has no fractions, and isn't nested deeper than 125.
+/// A law: a schedule that is added says the account, the payee, the amount and the days that were given, and its rule tests for them but
+/// for the days, of which its test has only that there is a recurrence. It is asked before that both rows are new, and that the recurrence
+/// has whole numbers alone, and isn't nested deeper than 125.
 pub fn schedules_read_back()
     ensures { (ids : Ids) (rows : Rows) (ws : List Write) → SchedulesReadBack ids rows ws }
 {}

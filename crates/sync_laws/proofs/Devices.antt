@@ -17,6 +17,7 @@ begin_anew node ms = record { no_undo = refl; no_redo = refl; undo = λ reading.
 record AreFrom (first : Stamp) (n : ℕ) (ws : List Write) : Type 0 where
   places : List ℕ
   later : AllByRecursion (λ m. n ≤ m) places
+  within : AllByRecursion (λ m. m < n + length ws) places
   climb : Climb places
   made : ids_from first n ws ≡ map (id_at first) places
 
@@ -28,20 +29,30 @@ behind_it : (n : ℕ) (places : List ℕ) → AllByRecursion (λ m. n + 1 ≤ m)
 behind_it n [] h = tt
 behind_it n (m ∷ places) h = ((let x = h.0 in omega arith), behind_it n places h.1)
 
+moved : (n : ℕ) (w : Write) (ws : List Write) (places : List ℕ) → AllByRecursion (λ m. m < n + 1 + length ws) places → AllByRecursion (λ m. m < n + length (w ∷ ws)) places
+moved n w ws [] h = tt
+moved n w ws (m ∷ places) h = ((let x = h.0 in omega arith), moved n w ws places h.1)
+
+from_start : (k : ℕ) (places : List ℕ) → AllByRecursion (λ m. m < 0 + k) places → AllByRecursion (λ m. m < k) places
+from_start k [] h = tt
+from_start k (m ∷ places) h = ((let x = h.0 in omega arith), from_start k places h.1)
+
 are_from : (first : Stamp) (n : ℕ) (ws : List Write) → AreFrom first n ws
-are_from first n [] = record { places = []; later = tt; climb = tt; made = refl }
+are_from first n [] = record { places = []; later = tt; within = tt; climb = tt; made = refl }
 are_from first n (w ∷ ws) =
     let rest = are_from first (n + 1) ws in
     elim (makes_row n w.row) as (λ b. makes_row n w.row ≡ b → AreFrom first n (w ∷ ws)) [
       | true ↦ λ is. record {
         places = n ∷ rest.places;
         later = (omega arith, one_later n rest.places rest.later);
+        within = (omega arith, moved n w ws rest.places rest.within);
         climb = (behind_it n rest.places rest.later, rest.climb);
         made = ap (λ (b : Bool). cond b (id_at first n ∷ ids_from first (n + 1) ws) (ids_from first (n + 1) ws)) is ∙ ap (λ (ids : List (List ℕ)). id_at first n ∷ ids) rest.made;
       }
       | false ↦ λ is. record {
         places = rest.places;
         later = one_later n rest.places rest.later;
+        within = moved n w ws rest.places rest.within;
         climb = rest.climb;
         made = ap (λ (b : Bool). cond b (id_at first n ∷ ids_from first (n + 1) ws) (ids_from first (n + 1) ws)) is ∙ rest.made;
       }
@@ -63,5 +74,6 @@ made_in_order s turn reading w ws accepted is =
       places = from.places;
       at_clock = ap (λ (a : Accepted). a.state.clock) (sym written.is) ∙ in_row written.clock drawn.first (length (w ∷ ws)) drawn.row;
       climb = from.climb;
+      within = from_start (length (w ∷ ws)) from.places from.within;
       made = ap (λ (a : Accepted). a.made) (sym written.is) ∙ from.made;
     }

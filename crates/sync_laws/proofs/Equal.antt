@@ -5,7 +5,6 @@ use Rattle.field_merge.specs.declared.message.Message.{Message}
 use Rattle.sync_wire.specs.declared.request.SyncRequest.{SyncRequest}
 use Rattle.sync_wire.specs.Canon.{response_bytes}
 use Rattle.sync_server.specs.declared.refusal.Refusal.{Refusal}
-use Rattle.sync_server.specs.declared.served.Served.TheVariants as served
 use Rattle.sync_server.specs.Answer.{answer_of}
 use Rattle.sync_server.specs.Laws.{ConnectionsAreDecided, AcceptedAreKept}
 use Rattle.sync_server.specs.Outside.{HasFound}

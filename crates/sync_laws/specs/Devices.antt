@@ -70,6 +70,7 @@ pub record AreMadeInOrder (writes : List Write) (accepted : Accepted) : Type 0 w
   pub places : List ℕ
   pub at_clock : accepted.state.clock ≡ stamp_at first (length writes - 1)
   pub climb : Climb places
+  pub within : AllByRecursion (λ i. i < length writes) places
   pub made : accepted.made ≡ map (id_at first) places
 
 abbrev pub IdsAreMadeInOrder : Type 0

@@ -116,8 +116,8 @@ pub fn devices_begin_anew()
 {}
 
 /// A law: each kind of edit is answered by the writes that its own crate makes of it in the book of the messages. It is refused for
-/// just the refusal of its checks, else for the fault of the clock where that draws no timestamps; what is accepted has made just
-/// these writes, and without any all stays.
+/// just the refusal of its checks, else, with at most 65,536 writes, for the fault of the clock where that draws no timestamps; what is
+/// accepted has made just these writes, and without any all stays. More are refused for their number, as `writes_are_joined` says.
 pub fn edits_are_of_their_kind()
     ensures { EditsAreOfTheirKind }
 {
