@@ -60,8 +60,9 @@ impl Connection {
         self.stream.write(bytes)
     }
 
-    /// Ends the connection. What still comes is taken before, until the other side has ended too: a
-    /// connection that is given up with bytes left to read takes back what was written to it.
+    /// Ends the connection. What still comes is taken before, until the other side has ended too or
+    /// 1,024 reads were made: a connection that is given up with bytes left to read takes back what was
+    /// written to it.
     pub fn end(mut self) -> io::Result<()> {
         self.stream.shutdown(Shutdown::Write)?;
         self.stream

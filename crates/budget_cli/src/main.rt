@@ -61,7 +61,7 @@ fn words_of(rt: &HostRuntime) -> Result<Items<Txt>, WordFault> {
     Ok(Items::new(words))
 }
 
-/// Tells what is wrong with the words, and how the program is used.
+/// Tells what is wrong with the words, and how the program is used; of want of memory its name alone.
 fn tell(rt: &HostRuntime, fault: WordFault) {
     let name = fault.name();
     let _ = eprintln!(rt; "{name}");
@@ -159,7 +159,8 @@ fn tell_store(rt: &HostRuntime, fault: &StoreFault) {
 }
 
 /// Runs over the store in a file, which is made where it isn't there. Where there is none, that is told, and
-/// the run goes over a keeper whose every call fails; nothing in the file has changed then.
+/// the run goes over a keeper whose every call fails; nothing in the file has changed then. Where memory runs
+/// out at the opening there is no run.
 fn run_over_store<D: Door>(
     rt: &HostRuntime,
     words: &Items<Txt>,

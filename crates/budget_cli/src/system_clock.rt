@@ -38,8 +38,8 @@ fn reading(time: Option<SystemTime>, last: u64) -> u64
 impl<C: Clock> WallClock for SystemClock<C> {
     ghost readings = { λ _. None };
 
-    /// Gives the system's time. Where the time can't be read, or is before 1970, it gives the last
-    /// reading again.
+    /// Gives the system's time. Where the time can't be read, is before 1970, or needs more than 64 bits,
+    /// it gives the last reading again.
     fn now(&mut self) -> u64
         ensures kept { self.new.last ≡ result }
     {

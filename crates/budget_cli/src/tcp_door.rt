@@ -138,8 +138,8 @@ impl<C: Clock> Door for TcpDoor<C> {
         Err(self.fail())
     }
 
-    /// Fails where no connection is open, and where the other side doesn't end its own. No connection is
-    /// open then.
+    /// Fails where no connection is open, and where the other side neither ends its own nor sends anything
+    /// for two seconds. No connection is open then.
     fn close(&mut self) -> Result<(), Failed>
         // what each door promises
         ensures shut { is_some self.new.visit ≡ false }

@@ -142,8 +142,8 @@ impl<'a, N: Net<Listener = TcpListener, Stream = TcpStream>, C: Clock> Link for 
         Err(self.fail())
     }
 
-    /// Reads until the server ends the connection, and ends it too. Fails where nothing was sent, where the server sends nothing for half a
-    /// minute, and where the connection is open for more than ten minutes.
+    /// Reads until the server ends the connection, or more bytes have come than a reply may have, and ends it too. Fails where nothing was sent,
+    /// where the server sends nothing for half a minute, and where the connection is open for more than ten minutes.
     fn receive(&mut self) -> Result<Vec<u8>, PortFault>
         // what each link promises
         ensures ok { IfOk result (λ got. Gets None None got.items) }

@@ -53,7 +53,7 @@ fn clock_gives_the_last_reading_again(rt: HostRuntime) {
     }
 }
 
-/// A reader and a writer whose calls fail in turn with calls that work, the first of them.
+/// A reader and a writer whose calls work and fail in turn; `works` says which the next one does.
 #[derive(Drop)]
 struct Flickering {
     works: bool,

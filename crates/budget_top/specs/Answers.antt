@@ -28,7 +28,7 @@ pub record IsAnswered (t : Turn) (ms : List Message) (q : SyncRequest) : Type 0 
   pub end : t.end ≡ Answered 200
   pub verdict : t.visit.verdict ≡ Accepts ms q
 
--- of each request that was answered with 200 the group keeps all that it had, and the messages of the request
+-- of each request that was answered with 200 the group keeps all that it had, and the messages of the request; of one timestamp the first
 abbrev pub KeepAnswered : List Turn → Contents → Type 0
 KeepAnswered ts contents = (t : Turn) (ms : List Message) (q : SyncRequest) → Contains ts t → IsAnswered t ms q → KeepsAll contents q.group (join ms q.messages)
 

@@ -41,7 +41,7 @@ entry old target start = record {
   start = start;
 }
 
--- all was read, all lines were handled, and one was refused or none. A stop leaves what the keeper holds
+-- all was read, all lines were handled, and one was refused or none. A stop leaves what the keeper holds, where it did so before
 pub record HandlesAll (has_bad : Bool) (new_left : Option (List ℕ)) (e : Entry) (alone : Type 0) (read : List ℕ) (now : Seen) : Type 0 where
   pub within : length read ≤ most_input
   pub at_end : IsAtEnd new_left

@@ -86,7 +86,7 @@ goes_on (not_taken fault) = false
 goes_on (refused status) = false
 goes_on (bad_reply at) = false
 
--- what is exchanged behind the turns: where the link failed, what was sent last and has no answer, and else nothing
+-- what is exchanged behind the turns: where the link failed, what was sent last and has no answer, if anything was; and else nothing
 abbrev pub IsRest : Target → State → Outcome → List Exchange → Type 0
 IsRest target end (going_on since) late = IsUnanswered (text_of target since end) late
 IsRest target end agreed late = late ≡ []

@@ -9,7 +9,7 @@ use Rattle.budget_top.specs.Lines.{whole_lines, all_lines}
 abbrev pub most_input : ℕ
 most_input = 1_073_741_824
 
--- the source gave these bytes, and no more than one past the limit was asked for
+-- the source gave these bytes, of which no more than one is past the limit
 pub record HasRead (left new_left : Option (List ℕ)) (read : List ℕ) : Type 0 where
   pub reads : Consumes left new_left read
   pub asked : length read ≤ most_input + 1

@@ -40,7 +40,7 @@ pub record MergeRun (status : ℕ) (left new_left taken new_taken : Option (List
   pub written : List ℕ
   pub reads : Consumes left new_left read
   pub writes : Appends taken new_taken written
-  -- no more than one byte past the limit is asked for
+  -- no more than one byte past the limit was read
   pub asked : length read ≤ most_input + 1
   pub known : IsTrue (list_any (λ s. status == s) statuses)
   pub all_good : status ≡ 0 → MergesAll false new_left read written

@@ -70,7 +70,7 @@ is_bad line = is_err (judged line)
 abbrev pub some_bad : List (List ℕ) → Bool
 some_bad lines = list_any is_bad lines
 
--- the messages of lines
+-- the message of a verdict, if it has one
 abbrev pub message_in : Verdict → List Message
 message_in (Ok message) = message ∷ []
 message_in (Err word) = []

@@ -14,7 +14,7 @@ use Rattle.budget_top.specs.declared.words.Plan.{Plan}
 use Rattle.budget_top.specs.declared.words.WordFault.{WordFault}
 use Rattle.budget_top.specs.declared.words.WordFault.TheVariants.{Words, Mode as BadMode, NodeMissing, Node as BadNode, Count, Token, Name, NoMemory}
 
--- a value of the first result where it is one, and else its fault
+-- what comes next of the value of the first result, or else its fault
 infixl 10 ◌>>=◌
 abbrev pub ◌>>=◌ : {A B : Type 0} → Result A WordFault → (A → Result B WordFault) → Result B WordFault
 Ok value >>= next = next value

@@ -86,7 +86,7 @@ pub fn plans_are_asked()
 /// What a server answers, and that it stays. Of connections that were served one after the other over a keeper that
 /// tells, each answer of status 200 has exactly those messages of its group that were kept before it and whose timestamp's
 /// text is greater than the one asked for, from the oldest on. Whatever connections come later, the group keeps all that
-/// it had then, and the messages of the request.
+/// it had then, and the messages of the request; of one timestamp the message that came first.
 pub fn answers_stay()
     ensures { AnswersStay }
 {

@@ -31,7 +31,7 @@ pub struct Plan {
     pub file: Txt,
     /// The group of that file.
     pub group: Txt,
-    /// How many connections or messages, from 1 to 1,000,000.
+    /// How many connections a server takes, from 1 to 1,000,000.
     pub count: u32,
     /// The address to listen on.
     pub listen: Txt,

@@ -7,7 +7,7 @@ use Rattle.envelope_cells.specs.declared.name.CellKind.{CellKind}
 use Rattle.envelope_cells.specs.declared.name.CellKind.TheVariants.{TotalIncome, FromLastMonth, AvailableFunds, LastMonthOverspent, TotalBudgeted, Buffered, ToBudget, TotalSpent, TotalLeftover, GroupSum, GroupBudget, GroupLeftover, Sum, Budget, Carryover, Leftover}
 use Rattle.envelope_cells.specs.Text.{kind_text}
 
--- the kinds of cells of which each group has one, and of which each category has one; the others are of the whole month
+-- whether a cell of a kind is one of a group, and whether it is one of the whole month; the others are of a category
 abbrev pub is_of_group : CellKind → Bool
 is_of_group GroupSum = true
 is_of_group GroupBudget = true

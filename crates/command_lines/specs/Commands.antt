@@ -222,7 +222,7 @@ abbrev pub words_in : List LineForm → List ℕ → Wanted → Wanted
 words_in [] name others = others
 words_in (line ∷ lines) name others = if bytes_eq name line.0 then line.1 else words_in lines name others
 
--- what a transaction's change wants behind the name of what is changed
+-- a transaction's change, behind which there is no word; and what each change wants behind the name of what is changed
 abbrev pub change : TxChange → List ℕ → Wanted
 change c id = no_more (pair (TxSet id c))
 

@@ -105,7 +105,7 @@ fn told_reply(alloc: Global, name: &CellName, value: Option<i128>) -> Result<Rep
     }
 }
 
-/// The reply that tells of a cell of a month, or that the name is of no kind.
+/// The reply that tells of a cell of a month, or that there is no such group or category.
 fn named_reply<G: Ledger>(
     alloc: Global,
     book: &Book,

@@ -7,7 +7,7 @@ use envelope_cells::{CellKind, CellName};
 use field_values::{NoMemory, Txt};
 use std::alloc::Global;
 
-/// Whether each group has a cell of this kind.
+/// Whether a cell of this kind is one of a group.
 pub(crate) fn is_of_group(kind: CellKind) -> bool
     ensures { result ≡ is_of_group kind }
 {
@@ -46,7 +46,7 @@ fn id_behind<'a>(kind: CellKind, name: &'a str) -> Option<&'a str>
     Some(rest)
 }
 
-/// The cell of a month that a name names, if it begins with the text of one of some kinds.
+/// The cell of a month that a name names, if it is one of some kinds.
 fn named_by(
     alloc: Global,
     kinds: &[CellKind],
@@ -69,7 +69,7 @@ fn named_by(
     Ok(None)
 }
 
-/// The cell of a month YYYYMM that a name names, if it begins with the text of a kind.
+/// The cell of a month YYYYMM that a name names, if it is one of a kind.
 pub(crate) fn cell_named(
     alloc: Global,
     month: u32,

@@ -8,9 +8,9 @@ ghost use Rattle.command_lines.specs.Written.{CommandsReadBack, LinesWriteBack, 
 use field_merge::{latest_message, message_lines};
 use minute_trie::{order_free, reads_back, tries_are_maps};
 
-/// A law: a reader who cuts the text of a reply at its line feeds finds the lines of the reply, if no
-/// text of it has a line feed. And no text of a reply of this crate has one, where it answers of valid
-/// messages, and no row's id that it names has one.
+/// A law: a reader who cuts the text of a reply at its line feeds finds the lines of the reply, if none
+/// of its lines and no code has a line feed; the detail of a refusal may have one, since it is escaped. And
+/// so it is with a reply of this crate, where it answers of valid messages, and no id that an edit made has one.
 pub fn replies_are_lines()
     ensures { RepliesAreLines }
 {
@@ -19,7 +19,8 @@ pub fn replies_are_lines()
 }
 
 /// A law: the line of a valid command is read as the command, unless the line is too long. Words can write what it holds: no id
-/// that is given is a hyphen where that stands for none, a date has eight digits at most, a month six, and an amount 64 bits.
+/// that is given is a hyphen where that stands for none, a date has eight digits at most, a month six, and an amount 64 bits; a split
+/// has a part at least, and rules run on a transaction at least.
 pub fn commands_read_back()
     ensures { CommandsReadBack }
 {}

@@ -110,7 +110,7 @@ fn recur_text(part: RecurPart) -> &'static str
     }
 }
 
-/// The reply to an edit that wants a rule which can't be read.
+/// The reply to an edit that wants a rule which can't be read, or isn't there.
 fn bad_rule(alloc: Global, part: RulePart, at: u32) -> Result<Reply, NoMemory>
     ensures { IfOk result (λ r. refused_edit (EditFault.BadRule part at) ≡ Some r) }
 {
@@ -119,7 +119,7 @@ fn bad_rule(alloc: Global, part: RulePart, at: u32) -> Result<Reply, NoMemory>
     refusal(alloc, 19, "bad-rule", Txt::new(detail))
 }
 
-/// The reply to an edit that wants a recurrence which can't be read.
+/// The reply to an edit that wants a recurrence which can't be read or used.
 fn bad_recur(alloc: Global, part: RecurPart) -> Result<Reply, NoMemory>
     ensures { IfOk result (λ r. refused_edit (EditFault.BadRecur part) ≡ Some r) }
 {

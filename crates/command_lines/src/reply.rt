@@ -17,8 +17,8 @@ use std::alloc::Global;
 pub enum Reply {
     /// The line was done, and these lines tell of it, each without its end.
     Done { lines: Items<Txt> },
-    /// The line was refused and has changed nothing. The detail names what it was refused for, as it
-    /// stands; it may be empty.
+    /// The line was refused and has changed nothing, but for what the turns of a sync have brought. The
+    /// detail names what it was refused for, as it stands; it may be empty.
     Refused { number: u8, code: Txt, detail: Txt },
 }
 

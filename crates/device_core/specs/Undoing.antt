@@ -27,7 +27,7 @@ pub record IsTakenBack (s : State) (turn : Turn) (entries : List (List Before)) 
   pub accepted : (entry : List Before) (clock : Stamp) → latest_of entries ≡ Some entry → draw s.clock reading (length (undo_writes entry)) ≡ Ok clock → IsAcceptedAt answer clock
   -- where it draws none, it is refused for its fault
   pub no_stamp : (entry : List Before) (fault : ClockFault) → latest_of entries ≡ Some entry → draw s.clock reading (length (undo_writes entry)) ≡ Err fault → answer ≡ Err (OfClock fault)
-  -- what is accepted has made the writes that undo the entry, and no others, whatever has come since the entry was made
+  -- what is accepted has made the writes that undo the entry, and no others, whatever has come since the entry was made, where the clock is behind no message
   pub made : (entry : List Before) (after : Accepted) → IsAhead s.clock s.messages → latest_of entries ≡ Some entry → answer ≡ Ok after → AreJoinedWrites s turn (undo_writes entry) after
 
 -- so it is with each undo and each redo
@@ -39,7 +39,8 @@ pub record EntriesAreTakenBack : Type 0 where
 abbrev pub IsRestored : State → State → State → Type 0
 IsRestored before after back = IsUndone (value_in before.messages) (value_in after.messages) (value_in back.messages)
 
--- what a line wrote over is restored, where it had writes and is taken back right after it: an edit and a redo by an undo, an undo by a redo
+-- what a line wrote over is restored, where it had writes, the clock was behind no message, and it is taken back right after it: an edit and a redo by an
+-- undo, an undo by a redo
 pub record LinesAreUndone : Type 0 where
   pub edits : (s : State) (edit : Edit) (reading later : ℕ) (after back : Accepted) → IsAhead s.clock s.messages → 0 < after.count →
       edited s edit reading ≡ Ok after → undone after.state later ≡ Ok back → IsRestored s after.state back.state

@@ -103,7 +103,7 @@ impl Device {
     /// # Errors
     ///
     /// Tested in this order: the edit's own checks, in the book of the messages, `TooManyWrites`, the clock.
-    /// That a field with an empty name can't be set is told before memory is taken. After a refusal the device is as it was, and after `NoMemory` it is spent.
+    /// That a field can't be set whose first bad name is the empty one is told before memory is taken. After a refusal the device is as it was, and after `NoMemory` it is spent.
     pub fn prepare<G: Ledger>(
         &mut self,
         edit: &Edit,

@@ -86,13 +86,14 @@ pub fn greatest_is_told()
 
 /// A law: an undo, and so a redo, is refused where there is no entry, else for the fault of the clock where it draws no timestamps for
 /// the writes that undo the latest entry; else it is accepted. The writes that it makes are those of the entry, as `writes_are_joined`
-/// says, whatever messages have come since.
+/// says, whatever messages have come since, where the clock is behind no message, as that of a device never is.
 pub fn entries_are_taken_back()
     ensures { EntriesAreTakenBack }
 {}
 
 /// A law: an undo right after an edit with writes leaves each field that had a value with that value, and deletes each row that the edit
-/// made; so does a redo right after an undo, and an undo right after a redo.
+/// made, where rows of its dataset can be deleted; so does a redo right after an undo, and an undo right after a redo. It is asked that
+/// the clock was behind no message, as that of a device never is.
 pub fn lines_are_undone()
     ensures { LinesAreUndone }
 {}

@@ -1,7 +1,7 @@
 //! Why a sync does not come to an end.
 use hybrid_clock::ClockFault;
 
-/// Why a sync ended with no agreement. What came before is kept.
+/// Why a sync does not tell an agreement. What its turns brought before is kept.
 #[derive(Clone, Copy, Debug, PartialEq, Eq, Drop)]
 pub enum SyncFault {
     /// The link failed, while the conversation was going on.

@@ -30,9 +30,9 @@ pub fn talks_converge()
 {}
 
 /// A law: where `sync_server::serve_one` wrote a whole reply to the request of a device, over contents that have the request's group, that was an
-/// exchange of an honest server: the answer to the request and nothing else with the status 200, after which the group has the messages of both; or one of
-/// the statuses 413, 503 and 507, after which the group is as it was. The token has to be one that can stand in a head. What was served, and that the
-/// written answer means this answer, `serve_one` promises (fields `found` and `means`).
+/// exchange of an honest server: the answer to the request and nothing else with the status 200, after which the group has the messages of both, of
+/// one timestamp that which was there; or one of the statuses 413, 503 and 507, after which the group is as it was. The token has to be one that can
+/// stand in a head. What was served, and that the written answer means this answer, `serve_one` promises (fields `found` and `means`).
 pub fn served_is_honest()
     ensures { ServedIsHonest }
 {

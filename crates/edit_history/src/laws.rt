@@ -8,7 +8,8 @@ pub fn entries_are_told()
 {}
 
 /// A law: after writes, and those that undo what they wrote over, each field that had a value has it again, each that had none reads as
-/// one without a value, unless its row is new, and each row that they made is deleted. So it is also where what is undone is an undo itself.
+/// one without a value, unless its row is new and can be deleted, and each such row is deleted. So it is also where what is undone is an
+/// undo itself.
 pub fn entries_undo()
     ensures { EntriesUndo }
 {}

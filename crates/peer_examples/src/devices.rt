@@ -75,7 +75,7 @@ fn add_trie(text: &mut String, device: &Device) -> Result<(), Fail>
     Ok(())
 }
 
-/// Adds two numbers, each behind a word.
+/// Adds a line with two numbers.
 pub(crate) fn add_numbers(
     text: &mut String,
     alloc: Global,

@@ -53,7 +53,8 @@ pub record Meet (m n p q : List Message) (last : PeerState) : Type 0 where
 abbrev pub peer : Target
 peer = record { token = token; file = file; group = group }
 
--- A device talked with that server at a reading of the wall clock, until both agreed: from the text of its last sync on, where it had one. It is told
+-- A device talked with that server at a reading of the wall clock, until both agreed, as after some text of a last sync or as without one: which
+-- text that is, `sync` says, and not this record. It is told
 -- how many requests that took, of which each has its exchange, and by how many messages the device has more.
 pub record Talks (reading : ℕ) (s now : State) (old new : List Exchange) (synced : Synced) : Type 0 where
   pub last : Option (List ℕ)

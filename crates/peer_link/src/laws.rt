@@ -1,7 +1,7 @@
 //! What a link takes, in other words.
 ghost use Rattle.peer_link.specs.Laws.{DevicesAsk};
 
-/// A law: what a device sends for the file `home` of the group `home`, under the token `local`, is a request for the server's group; so
+/// A law: what a device sends for the group `home` of the file `home`, under the token `local`, is a request for the server's group; so
 /// it is none of those that a link refuses.
 pub fn devices_ask()
     ensures { DevicesAsk }

@@ -132,7 +132,8 @@ impl Link for PeerLink {
         Ok(())
     }
 
-    /// Gives the reply of the server. Fails where what was sent is no request of a device for the group, and once an answer was lost.
+    /// Gives the reply of the server. Fails where nothing was sent that waits for one, where what was sent is no request of a device for the
+    /// group, and once an answer was lost.
     fn receive(&mut self) -> Result<Vec<u8>, PortFault>
         // what each link promises
         ensures ok { IfOk result (λ got. Gets (Some self.old.exchanges) (Some self.new.exchanges) got.items) }

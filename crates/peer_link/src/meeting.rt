@@ -53,8 +53,8 @@ fn sync_peer<K: Keeper, G: Ledger>(
 ///
 /// # Errors
 ///
-/// The first fault that comes ends it. After each fault but `Keeper` and `NoMemory` both devices have what they had, and what has come,
-/// and can be used further.
+/// The first fault that comes ends it. After each fault but `Keeper` and `NoMemory` both devices have what they had, as it was, and can
+/// be used further.
 pub fn meet<K: Keeper, N: Keeper, G: Ledger>(
     alloc: Global,
     one: &mut Device,

@@ -1,5 +1,5 @@
-//! What refuses the lines that edit the books, line by line, in the order of their checks; and what they write where nothing does. Of each
-//! refused line all that stands behind what is told is wrong too. Replies are worked out by hand from the rules.
+//! What refuses the lines that edit the books, line by line, in the order of their checks; and what they write where nothing does. Of nearly
+//! each refused line all that is checked behind what is told is wrong too, where it can be. Replies are worked out by hand from the rules.
 use crate::books::HOUSE;
 use crate::table::talk;
 use std::test::Fail;

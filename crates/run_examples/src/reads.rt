@@ -19,7 +19,7 @@ value>categories>rent>name = ok 1|none
 value>>\n>\0 = ok 1|none
 trie = ok 1|{"1":{"2":{"2":{"2":{"1":{"1":{"0":{"0":{"2":{"0":{"2":{"0":{"1":{"2":{"2":{"0":{"hash":16148298},"hash":16148298},"hash":16148298},"hash":16148298},"hash":16148298},"hash":16148298},"hash":16148298},"hash":16148298},"hash":16148298},"hash":16148298},"hash":16148298},"hash":16148298},"hash":16148298},"hash":16148298},"hash":16148298},"hash":16148298},"hash":16148298}"#;
 
-/// Words that aren't of their form: the first of them is told.
+/// Words that aren't of their form: the first of them is told. One that is of its form is refused for what it says.
 const PARTS: &str = r" = refused E30 bad-command 0
 x = refused E30 bad-command 0
 Set>a>b>c>d = refused E30 bad-command 0
@@ -69,7 +69,7 @@ fn reads(rt: HostRuntime) -> Result<(), Fail> {
     Ok(())
 }
 
-/// Cells and sheets that there are not.
+/// Cells and sheets that there are not, and two cells that there are.
 const CELLS: &str = r"sheet>2024-13 = refused E10 bad-month 202413
 sheet>2200-01 = refused E10 bad-month 220001
 cell>0000-12>x = refused E10 bad-month 12

@@ -64,7 +64,7 @@ fn merges(rt: HostRuntime) -> Result<(), Fail> {
     Ok(())
 }
 
-/// Words that are refused: nothing is read or written.
+/// Words that are refused: nothing is written.
 #[test]
 fn refuses_words(rt: HostRuntime) -> Result<(), Fail> {
     for words in ["merge x", "", "device", "merge --count 0"] {
@@ -89,7 +89,7 @@ type Failing = (
     &'static str,
 );
 
-/// The rows' runs, each over a keeper of its own.
+/// The run of a row, over a keeper of its own.
 fn failing(
     alloc: Global,
     words: &'static str,

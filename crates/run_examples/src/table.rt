@@ -74,7 +74,7 @@ fn door_of(alloc: Global, run: &Run<'_>) -> Result<MemoryDoor, Fail> {
     Ok(MemoryDoor::with_faults(alloc, connections, pieces, 1000, fails)?)
 }
 
-/// The status of a run of a device without a server, with a counter of steps that nobody reads.
+/// The status of a run without a server for a device, with a counter of steps that nobody reads.
 fn status_of<G: Ledger>(
     blank: Blank,
     alloc: Global,

@@ -59,7 +59,7 @@ fn planned(alloc: Global, line: &str) -> Result<Result<Plan, WordFault>, Fail> {
     Ok(plan(alloc, &words))
 }
 
-/// What a plan holds besides its mode and its addresses.
+/// What a plan holds besides its mode, its store and its addresses.
 fn parts_of(alloc: Global, plan: &Plan) -> Result<String, Fail> {
     let bytes = match plan.node {
         Some(node) => node.bytes(),

@@ -75,7 +75,8 @@ MonthsHaveDays step days = (month : ℕ) → month < 2_760 → (month_day days.s
 
 -- months and years without an end go on
 pub record MonthsGoOn : Type 0 where
-  -- as long as the end of 2199 is not near, an occurrence comes within a step and a month, where each month whose turn it is has a day that is meant
+  -- as long as the end of 2199 is not near, an occurrence comes by the second day of the month that lies a step and two months on, where each month
+  -- whose turn it is has a day that is meant
   pub goes_on : (r : Said) (from step : ℕ) (days : Places) → StepsByMonths r step days → 1 ≤ r.interval → r.ending ≡ Never → r.start ≤ from → from < 84_006
       → (month_day from).month + step + 2 ≤ 2_760 → MonthsHaveDays step days
       → (n : ℕ) × (next_from r from ≡ Some n) × (n < month_start ((month_day from).month + step + 2) + 2)

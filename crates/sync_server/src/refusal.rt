@@ -6,7 +6,8 @@ ghost use Rattle.sync_server.specs.Texts.{text_of};
 use budget_ports::PortFault;
 use field_values::NoMemory;
 
-/// Why a request is refused, in the order in which it is looked for.
+/// Why a request is refused, in the order in which the first case of each is looked for. That the length of the body is told wrongly, or is
+/// too great, comes behind `LengthRequired`.
 #[derive(Clone, Copy, Debug, PartialEq, Eq)]
 pub enum Refusal {
     /// 65,536 bytes came without a whole head, or the body is longer than 67,108,864 bytes.
