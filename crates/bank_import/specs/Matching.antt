@@ -34,7 +34,7 @@ are_same None b = false
 are_same (Some a) None = false
 are_same (Some a) (Some b) = same_id a b
 
--- how many days lie between two: where one is not there, more than between any two
+-- how many days two are apart: where one is not there, more than any two are that a book may have
 abbrev pub days_apart : Option ℤ → Option ℤ → ℕ
 days_apart None b = 4_294_967_296
 days_apart (Some a) None = 4_294_967_296
@@ -43,7 +43,7 @@ days_apart (Some a) (Some b) = unsigned_abs (a -ℤ b)
 abbrev pub distance : Facts → Candidate → ℕ
 distance r c = days_apart r.day c.day
 
--- the amount is the same, at most seven days lie between, and not both have an id of a statement
+-- the amount is the same, they are at most seven days apart, and not both have an id of a statement
 abbrev pub is_near : Facts → Candidate → Bool
 is_near r c = int_eq r.amount c.amount && nat_le (distance r c) 7 && not (is_some r.financial_id && is_some c.financial_id)
 

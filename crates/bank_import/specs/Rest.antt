@@ -43,7 +43,7 @@ facts_in rows account es = map facts_of (rows_in_drafts (drafts_in rows account 
 pub record IsAgain (rows later : Rows) (account : Text) (es : List Entry) (os : List Text) : Type 0 where
   -- rules and payees make of each record what they made before, as far as it is compared
   pub same : facts_in later account es ≡ facts_in rows account es
-  -- each record has an id of its own, or has none and made a row
+  -- each record has a day, and an id of its own, or no id and made a row; and the ids of all made rows rise
   pub own : HaveIdsOrRows (facts_in rows account es) (matched_among (candidates rows account) (facts_in rows account es))
   pub rise : MadeRise (matched_among (candidates rows account) (facts_in rows account es)) os
   -- the later candidates are those that a first import leaves

@@ -44,7 +44,7 @@ abbrev pub LawOfSecond : Type 0
 LawOfSecond = (cs : List Candidate) → Rising cs → (rs : List Facts) → HaveIds rs → (os : List Text) (after : List Candidate) → IsAfter cs rs os after
     → matched_among after rs ≡ map (λ x. Some x) os
 
--- each record has an id of its own, or it has a day and no id, and matched nothing, so that it made a row
+-- each record has a day, and an id of its own, or no id and matched nothing, so that it made a row
 pub record HaveIdsOrRows (rs : List Facts) (ms : List (Option Text)) : Type 0 where
   pub each : (i : ℕ) (r : Facts) → slice_get rs i ≡ Some r → ((k : Text) × (r.financial_id ≡ Some k)) ⊎ ((r.financial_id ≡ None) × (slice_get ms i ≡ Some None))
   pub days : (i : ℕ) (r : Facts) → slice_get rs i ≡ Some r → (day : ℤ) × (r.day ≡ Some day)

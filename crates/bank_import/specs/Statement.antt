@@ -84,7 +84,7 @@ entry_of c fs = record {
   id = text_in c.id fs;
 }
 
--- this place is bad: the header is row 0, the first column 0
+-- this place is bad: the header is row 0, the first column 0. A number of more than 32 bits is told as the greatest of 32 bits
 abbrev pub bad_place : ℕ → ℕ → EditFault
 bad_place row column = BadStatement (min row largest_place) (min column largest_place)
 

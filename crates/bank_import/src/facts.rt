@@ -150,7 +150,7 @@ fn are_same(a: &Option<Txt>, b: &Option<Txt>) -> bool
     }
 }
 
-/// How many days lie between two, or more than between any two where one is not there.
+/// How many days two are apart, or more than any two are where one is not there.
 fn days_apart(a: Option<i32>, b: Option<i32>) -> u64
     ensures { result ≡ days_apart a b }
 {
@@ -166,7 +166,7 @@ fn distance(facts: &Facts, other: &Candidate) -> u64
     days_apart(facts.day, other.day)
 }
 
-/// Whether the amount is the same, at most seven days lie between, and not both have an id of a statement.
+/// Whether the amount is the same, they are at most seven days apart, and not both have an id of a statement.
 fn is_near(facts: &Facts, other: &Candidate) -> bool
     ensures { result ≡ is_near facts.now other.now }
 {

@@ -24,8 +24,8 @@ pub fn ids_are_found_again()
     ensures { LawOfSecond }
 {}
 
-/// A law: where each record has an id of its own, or has none and made a row, and the ids of these rows rise, a second import finds
-/// each record's own row.
+/// A law: where each record has a day, and an id of its own, or no id and made a row, and the ids of all made rows rise in the order of
+/// the records, a second import finds each record's own row.
 pub fn rows_are_found_again()
     ensures { LawOfRows }
 {}
@@ -37,15 +37,16 @@ pub fn candidates_are_told()
 {}
 
 /// A law: an import writes nothing where no record wants a payee made and each matches a transaction that has all that it would write.
-/// So it is when a statement comes again, where each record has an id of its own or made a row, the ids of these rows rise, the
-/// candidates are those that a first import leaves, rules and payees make of each record what they made before, as far as it is
-/// compared, no record wants a payee made then, and each one's own transaction has all.
+/// So it is when a statement comes again, where each record has a day, and an id of its own, or no id and made a row, the ids of all made
+/// rows rise, the candidates are those that a first import leaves, rules and payees make of each record what they made before, as far as
+/// it is compared, no record wants a payee made then, and each one's own transaction has all.
 pub fn imports_come_to_rest()
     ensures { LawOfRest }
 {}
 
-/// A law: an import makes a payee for each name that records want and that no payee of the book has, whatever the case of its letters.
-/// Each is made once, with the name as the first record has it that wants it, and in the order of these records.
+/// A law: an import makes a payee for each name that records want, and by which no payee of the book is found, whatever the case of its
+/// letters; one that was deleted or stands for an account is found by none. Each is made once, with the name as the first record has it
+/// that wants it, and in the order of these records.
 pub fn new_payees_are_told()
     ensures { LawOfNames }
 {}

@@ -184,7 +184,7 @@ fn entry_of(columns: &Columns, fields: &[Txt]) -> Result<Entry, NoMemory>
     })
 }
 
-/// A row or a column, as a refusal tells it.
+/// A row or a column, as a refusal tells it: one of more than 32 bits as the greatest number of 32 bits.
 fn told(n: usize) -> u32
     ensures { result ≡ min n largest_place }
 {

@@ -170,7 +170,7 @@ fn given_more(book: &Book, id: &Txt, amount: i64) -> Result<i64, EditFault>
     as_amount(sum)
 }
 
-/// The writes of two amounts, where they differ from those that two rows have.
+/// The writes by which two categories are given these amounts in a month.
 fn moved(
     alloc: Global,
     book: &Book,

@@ -3,7 +3,7 @@ ghost use Rattle.std.specs.Prelude.{◌≡◌, IfOk};
 
 use field_values::{NoMemory, Txt, Value};
 
-/// A plain edit of a household's books: one that touches no split and no transfer.
+/// A plain edit of a household's books: one that touches no split and no transfer, but that `Set` may write any field.
 ///
 /// An id that is left out is a new one: the text of the timestamp of the row's first write. Amounts are in cents, a month is
 /// YYYYMM, a date YYYYMMDD.

@@ -317,21 +317,21 @@ impl Book {
         self.rows.schedules.all()
     }
 
-    /// The rows of all what categories are given in months, by id, dead or alive.
+    /// The rows of all that categories are given in months, by id.
     pub fn budget_rows(&self) -> &BTreeMap<Txt, BudgetRow>
         ensures { result.now.entries ≡ map.entries self.now.rows.budgets }
     {
         self.rows.budgets.all()
     }
 
-    /// The rows of all what is held back in months, by id, dead or alive.
+    /// The rows of all that is held back in months, by id.
     pub fn month_rows(&self) -> &BTreeMap<Txt, MonthRow>
         ensures { result.now.entries ≡ map.entries self.now.rows.months }
     {
         self.rows.months.all()
     }
 
-    /// The rows of all notes, by id, dead or alive.
+    /// The rows of all notes, by id.
     pub fn note_rows(&self) -> &BTreeMap<Txt, NoteRow>
         ensures { result.now.entries ≡ map.entries self.now.rows.notes }
     {

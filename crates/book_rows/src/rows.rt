@@ -175,7 +175,7 @@ pub struct GroupRow {
     pub is_income: bool,
     /// Its place among the others.
     pub sort_order: i64,
-    /// Whether it is shown. Nothing reads it.
+    /// Whether it is hidden. Nothing reads it.
     pub hidden: bool,
     /// Whether it was deleted.
     pub tombstone: bool,
@@ -216,7 +216,7 @@ pub struct CategoryRow {
     pub is_income: bool,
     /// Its place among the others.
     pub sort_order: i64,
-    /// Whether it is shown. Nothing reads it.
+    /// Whether it is hidden. Nothing reads it.
     pub hidden: bool,
     /// Whether it was deleted.
     pub tombstone: bool,

@@ -115,8 +115,10 @@ impl Model for MemoryDoor {
 }
 
 impl MemoryDoor {
-    /// A door before which these connections wait, of which no call fails while what is written finds
-    /// room: there is room for `room` bytes for each.
+    /// A door before which these connections wait, each with room for `room` bytes, of which no call is
+    /// listed to fail. A read, a write and a `close` fail only where no connection is open, but a write
+    /// also where its bytes find no room, or where the open connection is none of these; an `accept` only
+    /// where 2 to the 64 minus 1 connections were let in past the last of these.
     ///
     /// A read gives no more bytes than `pieces` says: the first number holds of the first read of a
     /// connection, and so on, and the last of all later ones. Where it is empty the buffer alone bounds

@@ -54,7 +54,8 @@ impl Model for ScriptLink {
 }
 
 impl ScriptLink {
-    /// A link that will give these replies, of which no call fails while a reply is left.
+    /// A link that will give these replies, of which no call is listed to fail. But for want of memory only
+    /// a `receive` fails, where no reply is left or nothing was sent since the last one.
     pub fn new(alloc: Global, replies: VecDeque<Items<u8>>) -> ScriptLink
         ensures { result ≡ record { ended = []; asked = None; to_come = replies.items; calls = no_calls [] } }
     {

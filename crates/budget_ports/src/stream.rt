@@ -6,7 +6,8 @@ ghost use Rattle.std.specs.Io.KnownBytes.{ReadConsumes, WriteAppends, Keeps};
 ghost use Rattle.std.specs.Result.{is_err};
 ghost use Rattle.budget_ports.specs.Faults.{count_after};
 
-/// A call failed, and what the object holds is as it was before the call.
+/// A call failed, and what the object holds is as it was before the call, but that no connection is open
+/// after a `close`.
 #[derive(Clone, Copy, Debug, PartialEq, Eq)]
 pub struct Failed;
 

@@ -48,7 +48,7 @@ blank_reads (Some Flag) = refl
 blank_reads (Some Int) = refl
 blank_reads (Some Text) = refl
 blank_reads (Some Day) = refl
-blank_reads None = tt
+blank_reads None = refl
 
 module _ (values : Values) where
   -- a field that had no value is answered by the tombstone of its row

@@ -33,13 +33,13 @@ pub record MakesRow (before after : Values) (f : FieldNames) : Type 0 where
   pub there : has_row after f ≡ true
   pub mortal : has_tombstone f.dataset ≡ true
 
--- a book reads the value in a column of this kind as it reads a column without a value
+-- a book reads the value in a column of this kind as it reads a column without a value; of a column that no book reads, the value is null
 abbrev pub ReadsAsNone : Option Kind → Value → Type 0
 ReadsAsNone (Some Flag) v = flag_of v ≡ flag_of Null
 ReadsAsNone (Some Int) v = int_of v ≡ int_of Null
 ReadsAsNone (Some Text) v = text_of v ≡ text_of Null
 ReadsAsNone (Some Day) v = day_of v ≡ day_of Null
-ReadsAsNone None v = Unit {0}
+ReadsAsNone None v = v ≡ Null
 
 -- the field has no value, or one that reads as none
 abbrev pub HasNone : Values → FieldNames → Type 0

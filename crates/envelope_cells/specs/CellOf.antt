@@ -57,7 +57,7 @@ value_of b m Leftover id = of_category (expense b) id (leftover b id m)
 abbrev pub cell_of : Budget → CellName → Option ℤ
 cell_of b name = value_of b (month_number name.month) name.kind name.id
 
--- the kinds of which each category has a cell
+-- the kinds of the cells of categories: one of expenses has all four, one of income the first alone
 abbrev pub is_of_category : CellKind → Bool
 is_of_category Sum = true
 is_of_category OfBudget = true

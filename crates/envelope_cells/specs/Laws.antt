@@ -11,7 +11,8 @@ use Rattle.book_rows.specs.declared.rows.Rows.{Rows}
 use Rattle.book_rows.specs.Live.{is_live_group, is_live_category, is_income_category, is_expense_category}
 use Rattle.envelope_cells.specs.BudgetOf.{budget_of, groups_of}
 
--- nothing is lost: what is still to budget, what is held back and what is left in the categories is all the money that there is
+-- nothing is lost: what is still to budget, what is held back and what is left in the categories is all that came in and went out in live
+-- categories up to then
 abbrev pub MoneyIsKept : Type 0
 MoneyIsKept = (b : Budget) (m : ℕ) → (to_budget b m +ℤ b.buffered m) +ℤ total_leftover b m ≡ money b m
 
@@ -59,7 +60,7 @@ pub record OthersCountNowhere : Type 0 where
   pub same : (a b : Budget) → AgreeOnLive a b → (name : CellName) → cell_of a name ≡ cell_of b name
   pub none : (b : Budget) (name : CellName) → is_of_category name.kind ≡ true → is_among text_cmp (categories b) name.id ≡ false → cell_of b name ≡ None
 
--- a sheet has exactly the cells of its month, each with its value
+-- a name of its month has on a sheet the value that its cell has, the first time that it stands there, and stands on none where it has no cell
 abbrev pub SheetsTellCells : Type 0
 SheetsTellCells = (b : Budget) (name : CellName) → value_named (sheet_of b name.month) name ≡ cell_of b name
 

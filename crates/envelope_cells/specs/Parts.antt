@@ -86,13 +86,14 @@ picked Moved p = p.moved
 abbrev pub part_weight : Pick → Part → ℕ
 part_weight k p = unsigned_abs (picked k p)
 
--- one of the amounts, added up over the groups that take income, or over those that don't
+-- one of the amounts, added up over the categories of a group
 abbrev pub group_total : Pick → GroupParts → ℤ
 group_total k g = total (picked k) g.parts
 
 abbrev pub is_side : Bool → GroupParts → Bool
 is_side income g = if income then g.is_income else not g.is_income
 
+-- one of the amounts, added up over the groups that take income, or over those that don't
 abbrev pub side_total : Pick → Bool → List GroupParts → ℤ
 side_total k income gs = total (λ g. only_if (is_side income g) (group_total k g)) gs
 

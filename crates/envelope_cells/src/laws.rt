@@ -32,7 +32,7 @@ pub fn others_count_nowhere()
     ensures { OthersCountNowhere }
 {}
 
-/// A law: a sheet has exactly the cells of its month, and tells of each what the cell alone tells.
+/// A law: a name of its month has on a sheet the value of its cell, and stands on none where it has no cell.
 pub fn sheets_tell_cells()
     ensures { SheetsTellCells }
 {}

@@ -54,7 +54,7 @@ StampsHaveNoEscape = (s : Stamp) → IsStamp s → escaped (stamp_text s) ≡ st
 abbrev pub JoinsAreJoins : Type 0
 JoinsAreJoins = (ms ns : List Message) → IsJoin ms ns (join ms ns)
 
--- `latest` finds the latest message of a field, and none only where no message is one of the field
+-- of messages that rise by timestamp, `latest` finds the latest message of a field, and none only where no message is one of the field
 abbrev pub LatestIsLatest : Type 0
 LatestIsLatest = (ms : List Message) (f : FieldNames) → IsRising ms → IsLatestOrNone ms f (latest ms f)
 
@@ -70,6 +70,7 @@ JoinsAgain = (ms ns : List Message) → join (join ms ns) ns ≡ join ms ns
 abbrev pub JoinsInTurn : Type 0
 JoinsInTurn = (ms ns ps : List Message) → join (join ms ns) ps ≡ join ms (ns ++ ps)
 
--- where equal timestamps mean equal messages, the order and the number in which messages are joined do not matter
+-- where the first list rises by timestamp, and equal timestamps mean equal messages among those that join it, the order and the number
+-- in which these are joined do not matter
 abbrev pub JoinsInAnyOrder : Type 0
 JoinsInAnyOrder = (ms ns ps : List Message) → IsRising ms → HasOneEach ns → HaveSame ns ps → join ms ns ≡ join ms ps

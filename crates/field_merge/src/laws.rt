@@ -39,8 +39,8 @@ pub fn joined()
     ensures { JoinsAreJoins }
 {}
 
-/// A law: the latest message of a field is one of the field, and none of the field has a greater
-/// timestamp; there is none exactly where no message has the field.
+/// A law: of messages that rise by timestamp, the latest message of a field is one of the field, and
+/// none of the field has a greater timestamp; there is none exactly where no message has the field.
 pub fn latest_message()
     ensures { LatestIsLatest }
 {}
@@ -60,8 +60,8 @@ pub fn joined_in_turn()
     ensures { JoinsInTurn }
 {}
 
-/// A law: where equal timestamps mean equal messages, the order and the number in which messages are
-/// joined do not matter.
+/// A law: where the first list rises by timestamp, and equal timestamps mean equal messages among those
+/// that join it, the order and the number in which these are joined do not matter.
 pub fn joined_in_any_order()
     ensures { JoinsInAnyOrder }
 {}

@@ -8,7 +8,8 @@ use hybrid_clock::Stamp;
 /// the household, and no message is changed afterwards.
 #[derive(Debug, PartialEq, Eq, Drop)]
 pub struct Message {
-    /// When it was written, and by which node. No two writes have the same timestamp.
+    /// When it was written, and by which node. Where no two devices have one node, no two writes have
+    /// the same timestamp.
     pub stamp: Stamp,
     /// The field that it writes.
     pub field: Field,

@@ -185,8 +185,8 @@ in_first : (n l m : ℕ) (xs ys : List ℕ) → AreBytes xs → AreBytes ys → 
     → Equal ≡ slice_cmp nat_cmp xs ys
 unfolding IsShortLength
 in_first n l m xs ys b d e long wide f short few =
-    let left = long (omega arith) in
-    let right = wide (omega arith) in
+    let left = long.0 (omega arith) in
+    let right = wide.0 (omega arith) in
     let both = same n 0 0 xs ys b d (omega arith) (omega arith) e in
     subst (λ (zs : List ℕ). Equal ≡ slice_cmp nat_cmp xs zs) both.1 (sym (level xs))
 

@@ -1,5 +1,5 @@
 -- The head of a text: its first 16 bytes as a number, by which most texts are ordered.
-use Rattle.std.specs.Prelude.{◌≡◌, ℕ, zero, suc, ◌+◌, ◌*◌, ◌<◌, List, [], ◌∷◌, length, drop, slice_index}
+use Rattle.std.specs.Prelude.{◌≡◌, ℕ, zero, suc, ◌+◌, ◌*◌, ◌<◌, ◌≤◌, List, [], ◌∷◌, length, drop, slice_index}
 use Rattle.field_values.specs.Names.{FieldNames}
 
 -- the number that n bytes spell after k, the greatest first: the list's, and 0 for each that it does not have
@@ -16,9 +16,9 @@ head_of xs = head_from 16 0 xs
 abbrev pub AreBytes : List ℕ → Type 0
 AreBytes xs = (k : ℕ) → slice_index xs k < 256
 
--- a length that a byte keeps: below 255 it is the text's
+-- a length that a byte keeps: below 255 it is the text's, and 255 stands for each that is not below 255
 unfoldable pub IsShortLength : ℕ → List ℕ → Type 0
-IsShortLength n xs = n < 255 → n ≡ length xs
+IsShortLength n xs = (n < 255 → n ≡ length xs) × (n ≡ 255 → 255 ≤ length xs)
 
 -- what a key keeps of a text
 pub record IsHead (number len : ℕ) (text : List ℕ) : Type 0 where

@@ -100,7 +100,7 @@ fn head_at(bytes: &[u8], at: usize) -> u128
     }
 }
 
-/// The length, or 255 where it is greater.
+/// The length where it is below 255, else 255.
 fn short_len(bytes: &[u8]) -> u8
     ensures { IsShortLength result bytes.now }
 {

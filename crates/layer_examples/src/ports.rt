@@ -222,8 +222,8 @@ fn door_lets_in_one_after_the_other(rt: HostRuntime) -> Result<(), Fail> {
     Ok(())
 }
 
-/// What is written goes to the connection that is open, as far as it finds room; before the first one,
-/// after a `close` and past the last one nothing can be written.
+/// What is written goes to the connection that is open, where all of it finds room; before the first
+/// one and past the last one nothing can be written, and what was closed can't be closed again.
 #[test]
 fn door_keeps_what_is_written(rt: HostRuntime) -> Result<(), Fail> {
     let alloc = rt.alloc();

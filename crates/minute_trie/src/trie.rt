@@ -23,8 +23,9 @@ use std::alloc::Global;
 
 /// A trie of hashes by minute.
 ///
-/// The trie of a list of timestamps has a node at each prefix of a key that is among the two
-/// greatest below its parent, with the XOR of the hashes of all timestamps below it.
+/// The trie of a list of timestamps has a root, and a node at each prefix of a key that is, as each
+/// shorter prefix, among the two greatest below its parent, each with the XOR of the hashes of all
+/// timestamps below it.
 #[derive(Drop)]
 pub struct Trie {
     root: Node,
@@ -81,7 +82,8 @@ impl Trie {
         Ok(())
     }
 
-    /// The XOR of all hashes.
+    /// The hash at the root: the XOR of all hashes that were added, and of that at the root of the text
+    /// where the trie was read from one.
     pub fn root(&self) -> i32
         ensures { result ≡ cast_signed w32 (or_zero (held self.now [])) }
     {

@@ -89,7 +89,7 @@ fn date_of(day: u32) -> Option<Date>
     }
 }
 
-/// Whether both are days YYYYMMDD from 1970 to 2199, of which at most so many lie between.
+/// Whether both are days YYYYMMDD from 1970 to 2199, and at most so many days apart.
 pub fn are_within(most: u32, a: u32, b: u32) -> bool
     ensures { result ≡ are_within most a b }
 {

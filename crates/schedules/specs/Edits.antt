@@ -54,7 +54,8 @@ first_day r = ok_or (next_from r 0) (BadRecur EndMode)
 
 -- ---- the conditions of a new schedule
 
--- the recurrence without spaces, each object's keys in order. One with a number that isn't whole stands as it was given
+-- the recurrence without spaces, each object's keys in order. One with a number that has a fraction or an exponent, is `-0` or
+-- has more than 64 bits, stands as it was given, and so does a text that is no JSON
 abbrev pub again : Text → Option Data → Text
 again text None = text
 again text (Some d) = if has_float d then text else compact_text d

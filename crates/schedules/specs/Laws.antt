@@ -83,7 +83,7 @@ pub record MonthsGoOn : Type 0 where
   -- each month has a last day, and its first 28
   pub last : (step : ℕ) (days : Places) → Contains days.patterns Last → MonthsHaveDays step days
   pub early : (step place : ℕ) (days : Places) → 1 ≤ place → place ≤ 28 → Contains days.patterns (Place place) → MonthsHaveDays step days
-  -- the day of the start is meant where none is named
+  -- the day of the start is meant where none is named, and each month has it up to the 28th
   pub start : (step : ℕ) (days : Places) → days.patterns ≡ [] → (month_day days.start).place ≤ 28 → MonthsHaveDays step days
   -- and a year has it, but for 29 February
   pub years : (step : ℕ) (days : Places) → days.patterns ≡ [] → days.start < 84_006 → (month_day days.start).month % 12 ≢ 1 → 1 ≤ step → MonthsHaveDays (12 * step) days

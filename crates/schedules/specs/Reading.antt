@@ -218,7 +218,7 @@ said_of d =
     Ok (record { start = start; frequency = frequency; interval = interval; patterns = patterns; weekends = weekends; ending = ending })))))))
     else Err Object
 
--- the first fault of a text
+-- what a JSON value says as a recurrence, or its first fault; none is no object
 abbrev pub said_in : Option Data → Result Said RecurPart
 said_in None = Err Object
 said_in (Some d) = said_of d

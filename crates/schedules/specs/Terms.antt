@@ -63,11 +63,12 @@ fits Amount d = says (field_of d) (codes "amount")
 fits Account d = is_account_field (field_of d) && names d
 fits Payee d = is_payee_field (field_of d) && names d
 
--- half of a sum, and a half is rounded up
+-- half of a number, rounded down
 abbrev pub half : ℤ → ℤ
 half (pos n) = pos (n / 2)
 half (negsuc n) = negsuc (n / 2)
 
+-- the middle of two numbers, a half rounded up: one is added before. It is 0 where one is not there
 abbrev pub middle : Option ℤ → Option ℤ → ℤ
 middle (Some a) (Some b) = half (a +ℤ b +ℤ pos 1)
 middle a b = pos 0

@@ -1,11 +1,11 @@
-//! Whether a JSON value has a number that isn't whole.
+//! Whether a JSON value has a number that is read as a float.
 ghost use Rattle.std.specs.Prelude.{◌≡◌};
 ghost use Rattle.serde_json.specs.View.{view, items_view, members_view};
 ghost use Rattle.serde_json.specs.Written.{has_float, items_have_float, members_have_float};
 
 use serde_json::{Map, Value};
 
-/// Whether a value has a number that isn't whole, or is none of 64 bits.
+/// Whether a value has a number that has a fraction or an exponent, is `-0` or has more than 64 bits.
 #[cycle(has_float)]
 pub(crate) fn has_float(value: &Value) -> bool
     ensures { result ≡ has_float (view value.now) }

@@ -12,8 +12,9 @@ pub fn occurrences_are_told()
     ensures { OccurrencesAreTold }
 {}
 
-/// A law: by months and years there is always a next occurrence, as long as the end of 2199 is not near and there is no end before,
-/// where each month whose turn it is has a day that is meant; a last day does, and each day up to the 28th.
+/// A law: by steps of at least one month or year, and without an end, there is always a next occurrence from a day on that is not before
+/// the start, as long as the end of 2199 is not near, where each month whose turn it is has a day that is meant; it has one where the last
+/// day is named, or one up to the 28th.
 pub fn months_go_on()
     ensures { MonthsGoOn }
 {}

@@ -19,7 +19,7 @@ use std::cmp::Ordering;
 pub enum ScheduleStatus {
     /// It has ended, or has no next day.
     Completed,
-    /// A transaction names it that is not earlier than two days before its next day.
+    /// A live transaction names it that is not earlier than two days before its next day.
     Paid,
     /// Its next day is the day.
     Due,

@@ -32,7 +32,7 @@ transfer_line id = codes "transfer " ++ id ++ (10 ∷ [])
 abbrev pub split_line : Rows → Text → TxRow → Text
 split_line rows id x = codes "split " ++ id ++ (32 ∷ []) ++ signed_decimal (x.amount -ℤ parts_sum rows id) ++ (10 ∷ [])
 
--- of a transaction that names another one, and is in no right pair
+-- of a transaction that names one, be it itself, and is in no right pair
 abbrev pub told_transfer : Rows → Text → TxRow → Text
 told_transfer rows id x = if is_some x.transferred_id && not (is_paired rows id x) then transfer_line id else []
 
@@ -50,7 +50,7 @@ broken rows = flat_map (told_of rows) (map.entries rows.txs)
 
 -- all pairs and splits are right
 pub record AreAllRight (rows : Rows) : Type 0 where
-  -- a live transaction that names another one is in a pair with it
+  -- a live transaction that names one, be it itself, is in a pair with it
   pub paired : (a b : Text) (x : TxRow) → IsLiveRow rows a x → x.transferred_id ≡ Some b → (y : TxRow) × ArePair rows a x b y
   pub pairs : (a b : Text) (x y : TxRow) → ArePair rows a x b y → AreOpposite x y
   pub splits : (id : Text) (x : TxRow) → IsSplit rows id x → x.amount ≡ parts_sum rows id

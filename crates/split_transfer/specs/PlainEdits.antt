@@ -20,7 +20,7 @@ sets_any_field edit = false
 pub record IsAdded (ids : Ids) (rows : Rows) (ws : List Write) : Type 0 where
   -- the ids of made rows are new
   pub new : (at : ℕ) → makes ws at ≡ true → map.get rows.txs (ids at) ≡ None
-  -- no transaction says that it is part of one that the writes add, whether its id is made or given
+  -- no transaction names one that the writes add as what it is a part of, whether the id of that one is made or given
   pub childless : (added id : Text) (y x : TxRow) → map.get rows.txs added ≡ None → map.get (with_writes ids rows ws).txs added ≡ Some y
       → map.get rows.txs id ≡ Some x → x.parent_id ≢ Some added
 

@@ -64,7 +64,7 @@ pub record AreApart (ids : Ids) (rows : Rows) (ws : List Write) : Type 0 where
   -- the ids of made rows are new, and differ
   pub new : (at : ℕ) → makes ws at ≡ true → map.get rows.txs (ids at) ≡ None
   pub different : (m n : ℕ) → makes ws m ≡ true → makes ws n ≡ true → ids m ≡ ids n → m ≡ n
-  -- no transaction says that it is part of one that is new
+  -- no transaction names one that is new as what it is a part of
   pub childless : (at : ℕ) (id : Text) (x : TxRow) → makes ws at ≡ true → map.get rows.txs id ≡ Some x → x.parent_id ≢ Some (ids at)
 
 -- after an edit that is accepted each pair and each split that was right is right if it is still there, and so is each that it makes

@@ -43,7 +43,7 @@ fn is_paired(book: &Book, id: &Txt, row: &TxRow) -> bool
     }
 }
 
-/// Puts the line of a transaction that names another one, and is in no right pair, behind a text.
+/// Puts the line of a transaction that names one, be it itself, and is in no right pair, behind a text.
 fn push_transfer(text: &mut String, book: &Book, id: &Txt, row: &TxRow) -> Result<(), NoMemory>
     ensures { OnOk result (string_bytes text.new ≡ string_bytes text.old ++ told_transfer book.now.rows id.now row.now) }
 {
@@ -96,9 +96,9 @@ fn push_told(text: &mut String, book: &Book, id: &Txt, row: &TxRow) -> Result<()
 }
 
 /// The pairs and splits that are wrong, by id, each on a line of its own: `transfer`, a blank and the id of a live transaction that
-/// names another one and is in no pair of opposite amounts and the same day; `split`, a blank, the id of a live transaction that is
-/// split, a blank and what is left of its amount beside its parts, in cents, where that is not 0. Of one id the line `transfer` is the
-/// first.
+/// names one, be it itself, and is in no pair of opposite amounts and the same day; `split`, a blank, the id of a live transaction that
+/// is split, a blank and what is left of its amount beside its parts, in cents, where that is not 0. Of one id the line `transfer` is
+/// the first.
 ///
 /// # Errors
 ///

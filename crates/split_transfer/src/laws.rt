@@ -24,7 +24,7 @@ pub fn plain_edits_keep_pairs_and_splits()
     ensures { PlainEditsKeepPairsAndSplits }
 {}
 
-/// A law: nothing is told as broken exactly where each live transaction that names another one is in a pair with it, each pair is
+/// A law: nothing is told as broken exactly where each live transaction that names one, be it itself, is in a pair with it, each pair is
 /// right, and each split is.
 pub fn broken_tells_all()
     ensures { BrokenTellsAll }

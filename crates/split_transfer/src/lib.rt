@@ -21,6 +21,9 @@ mod writing;
 
 pub use breaks::broken;
 pub use edit::{PairEdit, SplitPart, TxChange};
-pub use laws::{broken_tells_all, links_are_told, pairs_and_splits_stay_right};
+pub use laws::{
+    broken_tells_all, links_are_told, pairs_and_splits_stay_right,
+    plain_edits_keep_pairs_and_splits,
+};
 pub use making::pair_writes;
 pub use pairs::{live_row, partner_of};

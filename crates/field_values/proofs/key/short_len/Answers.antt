@@ -4,8 +4,8 @@ use Rattle.field_values.proofs.key.short_len.Goals as goal
 
 pub returns-then-bytes : goal.returns-then-bytes
 unfolding IsShortLength
-returns-then-bytes c = λ (few : _ < 255). refl
+returns-then-bytes c = (λ few. refl, λ e. omega (arith, c, e))
 
 pub returns-else-bytes : goal.returns-else-bytes
 unfolding IsShortLength
-returns-else-bytes c = λ (few : 255 < 255). absurd (omega arith)
+returns-else-bytes c = (λ (few : 255 < 255). absurd (omega arith), λ e. omega (arith, c))
