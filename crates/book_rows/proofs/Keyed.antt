@@ -31,7 +31,7 @@ module _ {Row : Type 0} (table : Table Row) (id : Text) (column : Column) (value
       by true = map.get-insert text_total rows id row_after q ∙ ap (λ b. cond b (Some row_after) (map.get rows q)) h
       by false = refl
 
-  -- what is told of each row before and after
+  -- what is told of each row stays, where it stays for the row that is set
   pub row_by_row : {A : Type 0} (f : Option Row → A) → f (Some row_after) ≡ f (map.get rows id) → (q : Text) → f (map.get (with_column table id column value rows) q) ≡ f (map.get rows q)
   row_by_row f same q = by (eq_by_cmp text_cmp q id) refl
     where

@@ -1,4 +1,4 @@
--- Each name is that of one dataset or of one column, and each dataset and column is found by its name.
+-- No two datasets have one name, nor two columns, and each dataset and column is found by its name.
 use Rattle.std.proofs.Common.{◌≡◌, ◌==◌, ℕ, zero, suc, Bool, true, false, List, [], ◌∷◌, Option, Some, None, refl, sym, ap, ◌∙◌, if◌then◌else◌, nat_eq, true≢false, codes, arith}
 use Rattle.std.specs.Prelude.{◌||◌}
 use Rattle.std.specs.Cmp.Lexicographic.{pointwise, texts_ties}

@@ -64,7 +64,7 @@ holds index key id = has_id (tree.get text_cmp index key) id
 abbrev pub is_pair : Text → Text → Text → Text → Bool
 is_pair key id k q = eq_by_cmp text_cmp key k && eq_by_cmp text_cmp id q
 
--- a row of the id has this month
+-- the month is there, and it is this one
 abbrev pub is_month_of : ℕ → Option ℕ → Bool
 is_month_of month own = some_and (λ m. eq_by_cmp nat_cmp m month) own
 

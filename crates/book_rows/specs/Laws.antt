@@ -36,7 +36,7 @@ pub record Counts (rows : Rows) (x : TxRow) : Type 0 where
   pub kept : x.tombstone ≡ false
   pub whole : x.is_parent ≡ false
   pub dated : IsSome x.date
-  -- its account is there, outside of which nothing is asked of it: it may be deleted or closed
+  -- its account is there and stands in the budget; it may be deleted or closed
   pub account : (id : Text) × (a : AccountRow) × (x.acct ≡ Some id) × (map.get rows.accounts id ≡ Some a) × (a.offbudget ≡ false)
   pub part : HasStandingParent rows x
 

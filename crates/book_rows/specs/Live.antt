@@ -51,7 +51,7 @@ is_live_tx rows x = not x.tombstone && has_parent rows x
 abbrev pub is_alive : Rows → Text → Bool
 is_alive rows id = some_and (is_live_tx rows) (map.get rows.txs id)
 
--- its account is there and stands in the budget; a deleted or closed account does too
+-- its account is there and stands in the budget; it may be deleted or closed
 abbrev pub is_on_budget : Rows → TxRow → Bool
 is_on_budget rows x = some_and (λ a. some_and (λ row. not row.offbudget) (map.get rows.accounts a)) x.acct
 

@@ -9,12 +9,12 @@ use Rattle.book_rows.specs.declared.write.WriteValue.{WriteValue}
 use Rattle.book_rows.specs.declared.write.WriteValue.TheVariants.{Plain, IdOf}
 use Rattle.book_rows.specs.declared.write.Write.{Write}
 
--- the row of a write among n writes: a name, or the row that one of them makes
+-- the row of a write among n writes: a name, or a new row whose id is the timestamp of one of them
 abbrev pub IsRowName : ℕ → RowName → Type 0
 IsRowName n (Given id) = IsName id
 IsRowName n (Made at) = at < n
 
--- the value of a write among n writes: a valid one, or the id of a row that one of them makes
+-- the value of a write among n writes: a valid one, or the id of such a new row
 abbrev pub IsWriteValue : ℕ → WriteValue → Type 0
 IsWriteValue n (Plain value) = IsValue value
 IsWriteValue n (IdOf at) = at < n

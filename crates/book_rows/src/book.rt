@@ -444,7 +444,7 @@ impl Book {
         }
     }
 
-    /// What transactions add up to.
+    /// What transactions add to the balances of their accounts, together.
     fn sum_of(&self, ids: &BTreeSet<Txt>) -> i128
         ensures sorted { IsStrictlySortedBy text_cmp ids.now.keys }
         ensures sum { result ≡ total (λ id. value_or_zero (adds self.now.rows) (map.get self.now.rows.txs id)) ids.now.keys }

@@ -138,7 +138,7 @@ pub(crate) fn dataset_of(name: &str) -> Option<Dataset>
     later_dataset(name)
 }
 
-/// The dataset of this name, among the others.
+/// The dataset of this name, among the last four.
 #[tactic(auto, unfolding(crate::specs::Columns::later_dataset_of))]
 fn later_dataset(name: &[u8]) -> Option<Dataset>
     ensures { result ≡ later_dataset_of name.now }

@@ -34,18 +34,18 @@ pub enum RecurPart {
     SkipWeekend,
     /// `weekendSolveMode`.
     WeekendSolveMode,
-    /// `endMode`.
+    /// `endMode`; also where a new recurrence has no occurrence.
     EndMode,
     /// `endOccurrences`.
     EndOccurrences,
     /// `endDate`.
     EndDate,
-    /// The schedule's rule, which can't be read.
+    /// The schedule's rule, which isn't live, can't be read, or lacks an account or a date.
     Rule,
 }
 
-/// Why an edit makes no writes. Ids, amounts in cents, days YYYYMMDD and months YYYYMM are those that were given, an index, a row
-/// or a column counts from 0; one above 4,294,967,295 is given as that number.
+/// Why an edit makes no writes. Amounts are in cents, days are YYYYMMDD and months YYYYMM. An index, a row or a column counts from
+/// 0; one above 4,294,967,295 is given as that number.
 #[derive(Debug, PartialEq, Eq, Drop)]
 pub enum EditFault {
     /// This is no name of a field, or no id that a caller may choose.
@@ -64,7 +64,7 @@ pub enum EditFault {
     NoSuchTransaction { id: Txt },
     /// This is no day from 19700101 to 21991231.
     BadDate { n: u32 },
-    /// No value holds this amount.
+    /// No value holds this amount, or it is to be held back in a month and is negative.
     BadAmount { n: i128 },
     /// This is no month from 197001 to 219912.
     BadMonth { n: u32 },
@@ -80,19 +80,20 @@ pub enum EditFault {
     ClosedAccount { balance: i128 },
     /// This category takes income.
     IncomeCategory { id: Txt },
-    /// A live row has the name already. Of such rows this is the least id.
+    /// A live group, or a live category of the group, has the name already. Of such rows this is the least id.
     NameTaken { id: Txt },
     /// The edit makes this many writes, more than 65,536.
     TooManyWrites { n: u64 },
-    /// A rule can't be read: `at` is the index of the first bad entry of the part, or 0 for the whole of it.
+    /// A rule can't be read, or no live one has the id: `at` is the index of the first bad entry of the part, or 0 for the whole of
+    /// it.
     BadRule { part: RulePart, at: u32 },
     /// There is no live schedule of this id.
     NoSuchSchedule { id: Txt },
-    /// A recurrence can't be read: this is the first part of it that is bad.
+    /// A recurrence can't be read or used: this is the first part of it that is bad.
     BadRecur { part: RecurPart },
-    /// The schedule of this id has ended.
+    /// The schedule of this id has ended, or has no next day.
     ScheduleDone { id: Txt },
-    /// A statement can't be read: the place of the first bad field.
+    /// A statement can't be read: the first bad place.
     BadStatement { row: u32, column: u32 },
     /// There is nothing to undo.
     NothingToUndo,

@@ -169,7 +169,7 @@ pub(crate) fn set_tx(
     }
 }
 
-/// Notes a month.
+/// Puts a month among those that are named, if there is one.
 fn note_month(named: &mut BTreeSet<u32>, month: Option<u32>) -> Result<(), NoMemory>
     ensures { OnOk result ((m : ℕ) → set.contains nat_cmp named.new m ≡ (is_month_of m month || set.contains nat_cmp named.old m)) }
 {

@@ -51,7 +51,7 @@ fn before_of(alloc: Global, log: &Log, book: &Book, field: &Field) -> Result<Bef
     })
 }
 
-/// Adds what a field has, unless it was added.
+/// Adds what a field has, unless it was added. It takes a few look-ups.
 fn push_before(
     alloc: Global,
     log: &Log,
@@ -73,7 +73,6 @@ fn push_before(
 }
 
 /// What messages write over that are to join a log, whose values make the rows of a book: each field once, in the order of the messages.
-/// It costs a few look-ups for each message.
 pub fn entry_over(
     alloc: Global,
     log: &Log,

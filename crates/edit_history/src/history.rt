@@ -63,7 +63,7 @@ impl History {
         self.redo.as_slice().last()
     }
 
-    /// Goes on after a line that made writes, with what it wrote over. After want of memory the entry is lost.
+    /// Goes on after a line that made writes, with what it wrote over. After want of memory entries may be lost.
     pub fn advance(&mut self, turn: Turn, entry: Items<Before>) -> Result<(), NoMemory>
         requires { IsEntry entry }
         ensures { OnOk result (self.new ≡ after turn self.old entry) }

@@ -41,7 +41,7 @@ fn has_tombstone(field: &Field) -> bool
     kind_of(field.dataset(), "tombstone").is_some()
 }
 
-/// What a field that had no value gets, and which field that is.
+/// What undoes a field that had no value: a field, and its value.
 fn undo_none(alloc: Global, field: &Field, was_there: bool) -> Result<(Field, Value), NoMemory>
     ensures { IfOk result (λ u. u ≡ undo_none field.now was_there) }
 {

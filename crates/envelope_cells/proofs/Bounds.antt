@@ -1,4 +1,4 @@
--- What is added up for all months stays small: each transaction counts in one category and month, and each budget row too.
+-- What is added up for all months stays small: each transaction counts in at most one category and month, and each budget row too.
 use Rattle.std.proofs.Common.{◌≡◌, ℕ, ◌+◌, ◌-◌, ◌*◌, ◌/◌, ◌%◌, ◌==◌, ◌<◌, ◌≤◌, Bool, true, false, cond, List, [], ◌∷◌, ◌++◌, Option, Some, None, zero, suc, drop, get_or, unsigned_abs, refl, ap, sym, ◌∙◌, arith}
 use Rattle.std.specs.Prelude.{◌&&◌}
 use lib.IntN.{ℤ, pos, ◌+ℤ◌}

@@ -1,4 +1,4 @@
--- Each category is listed once.
+-- No category is listed twice.
 use Rattle.std.proofs.Common.{◌≡◌, ℕ, ◌+◌, ◌≤◌, Bool, true, false, not, cond, List, [], ◌∷◌, ◌++◌, map, Option, Some, None, refl, ap, sym, ◌∙◌, arith}
 use Rattle.std.specs.Prelude.{◌&&◌}
 use Rattle.std.specs.List.{filter}
@@ -54,7 +54,7 @@ module _ {V : Type 0} (r : Text → V → Bool) where
   hits-placed [] done = omega arith
   hits-placed (e ∷ es) done = omega (arith, hits-placed es (insert_entry place_cmp done e.0 e.1), hits-insert e.0 e.1 done)
 
--- in a map in order a key stands once
+-- in a map in order a key stands at most once
 module _ {X : Type 0} (q : Text) (t : X → Bool) where
   pub once : (es : List (Text × X)) → is_sorted text_cmp es ≡ true → hits (λ e. eq_by_cmp text_cmp q e.0 && t e.1) es ≤ one_if (some_and t (find text_cmp q es))
   once [] s = omega arith
@@ -117,7 +117,7 @@ module _ (rows : Rows) where
   abbrev category_list : List (Place × Option Text)
   category_list = placed (category_places (entries rows.categories)) []
 
-  -- each group is listed once
+  -- no group is listed twice
   groups_once : (q : Text) → hits (λ e. eq_by_cmp text_cmp q e.0.id) group_list ≤ 1
   groups_once q =
       let live = filter (λ (e : Text × GroupRow). not e.1.tombstone) (entries rows.groups) in
@@ -138,7 +138,7 @@ module _ (rows : Rows) where
   in_group g None = refl
   in_group g (Some c) = refl
 
-  -- a category is listed in the group that it names, and there once
+  -- a category is listed in no group but the one that it names, and there at most once
   category_once : (q g : Text) → hits (eq_by_cmp text_cmp q) (ids_of_group g category_list) ≤ one_if (is_text g (group_text (find text_cmp q (entries rows.categories))))
   category_once q g =
       let live = filter (λ (e : Text × CategoryRow). not e.1.tombstone) (entries rows.categories) in
@@ -159,7 +159,7 @@ module _ (rows : Rows) where
   of_group_once None = omega (arith, hits_none group_list)
   of_group_once (Some g) = groups_once g
 
-  -- each live category is listed once
+  -- no category is listed twice
   pub categories_once : (q : Text) → hits (eq_by_cmp text_cmp q) (categories (budget_of rows)) ≤ 1
   categories_once q =
       let G = group_text (find text_cmp q (entries rows.categories)) in

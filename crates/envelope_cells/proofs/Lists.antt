@@ -71,7 +71,7 @@ pub total-map : {A X : Type 0} (f : X → ℤ) (g : A → X) (xs : List A) → t
 total-map f g [] = refl
 total-map f g (x ∷ xs) = ap (λ z. f (g x) +ℤ z) (total-map f g xs)
 
--- where all of a loop's sums so far come from, they are small
+-- the sum that a loop has so far is at most twice the weight of the list
 pub sum_small : {A : Type 0} (f : A → ℤ) (sum : ℤ) (xs : List A) (i : ℕ) → sum +ℤ total f (drop i xs) ≡ total f xs → unsigned_abs sum ≤ 2 * weight (λ x. unsigned_abs (f x)) xs
 sum_small f sum xs i inv =
     omega (arith, ints, inv, total_within f (λ x. unsigned_abs (f x)) xs (λ x. omega arith), total_within f (λ x. unsigned_abs (f x)) (drop i xs) (λ x. omega arith), weight_rest (λ x. unsigned_abs (f x)) xs i)

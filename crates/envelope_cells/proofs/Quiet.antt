@@ -135,14 +135,14 @@ valid_month k h =
     let month : month_at k % 100 ≡ k % 12 + 1 = omega arith in
     grind (arith, nat_tests)
 
--- up to a month before which no row has one
+-- nothing is left up to a month, where no row has a month before it
 pub quiet_before : (r : Rows) (n : ℕ) → n ≤ 2760 → ((k : ℕ) → k < n → HasRowIn r (month_at k) → ⊥) → (c : Text) → IsPast (budget_of r) c n nothing
 quiet_before r n within none c = is_nothing (budget_of r) c n (λ k l.
     let below : k < 2760 = omega arith in
     let gone : get r.budgets (budget_id c (month_at k)) ≡ None = no_row r (month_at k) (none k l) c (omega arith) (valid_month k below) in
     (no_sum r (month_at k) (none k l) c, ap (value_or_zero (λ (x : BudgetRow). x.amount)) gone, ap (some_and (λ (x : BudgetRow). x.carryover)) gone))
 
--- a book without a window says nothing of any month
+-- nothing is left of any months, where a book has no window
 pub quiet_none : (r : Rows) → None ≡ window_of r → (n : ℕ) → n ≤ 2760 → (c : Text) → IsPast (budget_of r) c n nothing
 quiet_none r e n within =
     let none : (month : ℕ) → HasRowIn r month → ⊥ = subst (Spans (HasRowIn r)) (sym e) (windows_span_lem r) in
@@ -153,7 +153,7 @@ quiet_some r span e n within below =
     let spans : IsSpan (HasRowIn r) span = subst (Spans (HasRowIn r)) (sym e) (windows_span_lem r) in
     quiet_before r n within (λ k l has. absurd (omega (arith, spans.from (month_at k) has, below k l)))
 
--- the months before a month
+-- the parts of a month's number, and the months before a month
 month_parts : (m : ℕ) → is_month m ≡ true → (1970 ≤ m / 100) × (1 ≤ m % 100) × (m % 100 ≤ 12)
 month_parts m h = (grind (arith, nat_tests), grind (arith, nat_tests), grind (arith, nat_tests))
 

@@ -1,4 +1,4 @@
--- A sheet has exactly the cells of its month.
+-- A sheet tells the cells of its month, and no others.
 use Rattle.std.proofs.Common.{◌≡◌, ℕ, ◌<◌, Bool, true, false, not, cond, List, [], ◌∷◌, ◌++◌, Option, Some, None, refl, ap, sym, ◌∙◌, arith, ltb, eqb}
 use Rattle.std.specs.Prelude.{◌||◌}
 use lib.IntN.{ℤ}

@@ -49,7 +49,7 @@ pub record SayTheSame (a b : Budget) (c : Text) : Type 0 where
   pub budgeted : (m : ℕ) → a.budgeted c m ≡ b.budgeted c m
   pub carries : (m : ℕ) → a.carries c m ≡ b.carries c m
 
--- two budgets have the same live categories, and say the same of each of them
+-- two budgets have the same live groups and categories, hold back the same, and say the same of each of these categories
 pub record AgreeOnLive (a b : Budget) : Type 0 where
   pub groups : a.groups ≡ b.groups
   pub buffered : (m : ℕ) → a.buffered m ≡ b.buffered m

@@ -34,7 +34,7 @@ whole_of gs held = record {
   leftover = side_total OfLeftovers false gs;
 }
 
--- their cells, under the id that is none
+-- their cells, under an id
 abbrev pub funds_cells : ℕ → Text → Whole → List Cell
 funds_cells month id w =
     cell month TotalIncome id w.income ∷ cell month FromLastMonth id w.from_last ∷ cell month AvailableFunds id w.available

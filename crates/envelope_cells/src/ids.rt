@@ -22,7 +22,8 @@ pub(crate) fn month_at(number: u32) -> u32
     (1970 + number / 12) * 100 + (number % 12 + 1)
 }
 
-/// The number of the first month, or that of the one that is asked for where it is not after it.
+/// The number of a month that isn't after the one that is asked for. Each month before it is before
+/// the month `first` too.
 pub(crate) fn first_of(first: u32, number: u32) -> u32
     requires { number < 2760 }
     ensures within { result ≤ number }

@@ -148,7 +148,9 @@ fn push_groups(cells: &mut Vec<Cell>, month: u32, groups: &[GroupParts]) -> Resu
     Ok(())
 }
 
-/// What the categories of all groups have in the month of a number, which takes one pass over the transactions.
+/// What the categories of all groups have in the month of a number. It takes one pass over the
+/// transactions. Then it looks for each category at each month from the first one of the book's
+/// window to this one.
 fn parts_in<G: Ledger>(
     alloc: Global,
     book: &Book,
@@ -189,9 +191,8 @@ fn cells_of(
     Ok(Items::new(cells))
 }
 
-/// The sheet of a month YYYYMM. It takes one pass over the transactions, whatever cells there are: each of them is handed out
-/// once, and what it is a part of once more. Then it looks for each live
-/// category at what each month says of it, from the first month of the book's window on.
+/// The sheet of a month YYYYMM. It takes at most twice as many steps as the book has transactions,
+/// whatever cells there are.
 pub fn sheet<G: Ledger>(
     alloc: Global,
     book: &Book,

@@ -15,9 +15,9 @@ pub enum CellKind {
     FromLastMonth,
     /// `available-funds`: both of these.
     AvailableFunds,
-    /// `last-month-overspent`: what overspent categories take from this month.
+    /// `last-month-overspent`: what overspent expense categories take from this month.
     LastMonthOverspent,
-    /// `total-budgeted`: what all categories are given, as it goes out.
+    /// `total-budgeted`: what all expense categories are given, as it goes out.
     TotalBudgeted,
     /// `buffered`: what is held back for the next month.
     Buffered,
@@ -81,7 +81,7 @@ pub struct CellName {
 }
 
 impl CellName {
-    /// The name of a cell of a category or group.
+    /// The name of the cell of this month, kind and id.
     pub fn make(month: u32, kind: CellKind, id: &Txt) -> Result<CellName, NoMemory>
         ensures { IfOk result (λ n. n ≡ record { month = month; kind = kind; id = id.now }) }
     {

@@ -174,7 +174,8 @@ fn next(past: Past, month: Month) -> Past
     }
 }
 
-/// The number of a month before which the book says nothing of any month. It isn't after the month that is asked for.
+/// The number of a month to which the months before it leave nothing of any category. It isn't
+/// after the month that is asked for.
 pub(crate) fn first_month(book: &Book, number: u32) -> u32
     requires live { book.now.spent ≡ false }
     requires number { number < 2760 }

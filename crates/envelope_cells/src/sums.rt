@@ -27,7 +27,7 @@ fn on_budget(book: &Book, row: &TxRow) -> bool
     }
 }
 
-/// Whether what a transaction is a part of is there, if it is a part.
+/// Whether what a transaction is a part of is there and was not deleted, if it is a part.
 fn parent_stands<G: Ledger>(book: &Book, row: &TxRow, steps: &mut Steps<G>) -> bool
     ensures is { result ≡ has_parent book.now.rows row.now }
     ensures cost { steps.new ≤ steps.old + 1 }

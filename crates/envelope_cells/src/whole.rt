@@ -15,9 +15,9 @@ pub(crate) struct Whole {
     pub from_last: i128,
     /// Both of these.
     pub available: i128,
-    /// What overspent categories take.
+    /// What overspent expense categories take.
     pub overspent: i128,
-    /// What the categories are given, as it goes out.
+    /// What the expense categories are given, as it goes out.
     pub budgeted: i128,
     /// What is held back.
     pub buffered: i128,

@@ -53,7 +53,7 @@ abbrev pub has_part : Text → Text → Bool
 has_part part [] = begins part []
 has_part part (b ∷ text) = begins part (b ∷ text) || has_part part text
 
--- no text is the empty one
+-- a text, which is empty where there is none
 abbrev pub or_empty : Option Text → Text
 or_empty None = []
 or_empty (Some t) = t
@@ -107,7 +107,7 @@ amount_holds op (Number z) amount = number_holds op z amount
 amount_holds op (Between a b) amount = is_between_op op && is_between a b amount
 amount_holds op value amount = false
 
--- ---- days. No day meets no condition
+-- ---- days. A transaction without a day meets no condition on days
 
 abbrev pub day_holds_by : CondOp → ℕ → ℕ → Bool
 day_holds_by Is n day = day == n

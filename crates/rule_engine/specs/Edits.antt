@@ -86,7 +86,7 @@ changed_text id column old new = if same_text old new then [] else tx_write (Giv
 abbrev pub changed_flag : Text → Text → Bool → Bool → List Write
 changed_flag id column old new = if same_flag old new then [] else tx_write (Given id) column (flag new) ∷ []
 
--- the columns of a transaction that have changed
+-- the columns of a transaction that actions set, where they have changed
 abbrev pub changed : Text → TxRow → TxRow → List Write
 changed id old new =
     changed_text id (codes "description") old.description new.description
@@ -108,7 +108,7 @@ abbrev pub distinct : List Text → List Text
 distinct [] = []
 distinct (id ∷ ids) = id ∷ filter (λ other. not (same_id id other)) (distinct ids)
 
--- all rules run on each of these transactions, and each sees the book as it stands before
+-- the rules of the book run on each of these transactions, which all have to be live, over the book as it stands before
 abbrev pub rules_run : Rows → List Text → Result (List Write) EditFault
 rules_run rows ids = do
   _ ← each (λ id. must (is_alive rows id) (NoSuchTransaction id)) ids

@@ -38,14 +38,14 @@ pub record RulesAreRanked : Type 0 where
 
 -- which rules change a transaction, and over what
 pub record RulesFollowOneAnother : Type 0 where
-  -- a rule whose conditions have to hold all changes nothing but where there are some, and each holds
+  -- a rule whose conditions have to hold all fires just where there are some, and each holds
   pub all : (r : Rule) (x : TxRow) → r.op ≡ And → (fires r x ≡ true) ↔ ((r.conditions ≢ []) × All (λ (c : Condition). holds x c ≡ true) r.conditions)
-  -- a rule of whose conditions one has to hold changes nothing but where one does
+  -- a rule of whose conditions one has to hold fires just where one does
   pub one : (r : Rule) (x : TxRow) → r.op ≡ Or → (fires r x ≡ true) ↔ Any (λ (c : Condition). holds x c ≡ true) r.conditions
   -- a rule without conditions changes nothing
   pub idle : (rows : Rows) (r : Rule) (x : TxRow) → r.conditions ≡ [] → applied rows x r ≡ x
   -- nor does a row that can't be read
   pub unread : (rows : Rows) (id : Text) (row : RuleRow) (fault : EditFault) → map.get rows.rules id ≡ Some row → read_rule id row ≡ Err fault → (r : Rule) → Contains (rules_of rows) r → r.id ≢ id
-  -- no rules change nothing, and a rule has what all rules before it made
+  -- without rules nothing changes, and a rule has what all rules before it made
   pub none : (rows : Rows) (x : TxRow) → run rows [] x ≡ x
   pub next : (rows : Rows) (before : List Rule) (r : Rule) (x : TxRow) → run rows (before ++ r ∷ []) x ≡ applied rows (run rows before x) r

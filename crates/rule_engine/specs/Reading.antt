@@ -62,15 +62,15 @@ ok_of (Err at) = None
 abbrev pub as_texts : Data → Option (List Text)
 as_texts d = option_and_then (λ ds. ok_of (all_read as_str (entries_of ds))) (as_array d)
 
--- a number that a value holds
+-- a number that a value of a field holds
 abbrev pub as_held : ℤ → Option ℤ
 as_held z = if nat_le (unsigned_abs z) largest_number then Some z else None
 
--- a whole number that a value holds
+-- a whole number that a value of a field holds. One with a point or an exponent is none, nor is -0
 abbrev pub as_amount : Data → Option ℤ
 as_amount d = option_and_then as_held (option_and_then as_i64 (as_number d))
 
--- a text YYYY-MM-DD
+-- the day of a text YYYY-MM-DD, from 1970 to 2199
 abbrev pub as_day : Data → Option ℕ
 as_day d = option_and_then day_of_text (as_str d)
 
@@ -194,7 +194,7 @@ text_at key d = option_and_then as_str (get key d)
 abbrev pub is_set : Text → Data → Bool
 is_set key d = some_and (λ b. b) (option_and_then as_bool (get key d))
 
--- options that ask for one direction of money alone
+-- the options of an entry ask for a direction of money, `inflow` or `outflow`
 abbrev pub asks_direction : Data → Bool
 asks_direction d = some_and (λ options. is_set (codes "inflow") options || is_set (codes "outflow") options) (get (codes "options") d)
 
@@ -238,14 +238,14 @@ action_by op field d =
     if bytes_eq op (codes "link-schedule") then option_map (λ t. LinkSchedule t) (as_str d) else
     None
 
--- an action: `op`, and `value`, which has to be there. Other members are ignored
+-- an action: `op`, `value`, which has to be there, and for `set` a `field`. Other members are ignored
 unfoldable pub action_of : Data → Option Action
 action_of d =
     option_and_then (λ op. option_and_then (action_by op (text_at (codes "field") d)) (get (codes "value") d)) (action_op (get (codes "op") d))
 
 -- ---- rules
 
--- the entries of a text, which has to be an array. No text is no entries
+-- the entries of a text, which has to be an array. Without a text there are none
 abbrev pub entries_in : Option Text → Option (List Data)
 entries_in None = Some []
 entries_in (Some text) = option_map entries_of (option_and_then as_array (read text))
@@ -262,11 +262,11 @@ abbrev pub in_array : {A : Type 0} → (Data → Option A) → Option (List Data
 in_array reading None = Err 0
 in_array reading (Some ds) = all_read reading ds
 
--- a part of a rule, or the first of its entries that is bad
+-- a part of a rule, or the place of the first of its entries that is bad, or 0 where it is no array
 abbrev pub read_part : {A : Type 0} → RulePart → (Data → Option A) → Option Text → Result (List A) EditFault
 read_part part reading text = or_bad part (in_array reading (entries_in text))
 
--- a stage that is neither `pre` nor `post` is none
+-- what is neither `pre` nor `post` stands for `Plain`
 abbrev pub stage_of : Option Text → Stage
 stage_of None = Plain
 stage_of (Some t) = if bytes_eq t (codes "pre") then Pre else if bytes_eq t (codes "post") then Post else Plain

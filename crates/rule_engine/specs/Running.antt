@@ -37,7 +37,7 @@ abbrev pub noted : Text → Option Text
 noted [] = None
 noted (b ∷ bs) = Some (b ∷ bs)
 
--- what is given is live, or nothing is given
+-- what is given passes a test, or nothing is given
 abbrev pub if_given : (Text → Bool) → Option Text → Bool
 if_given test None = true
 if_given test (Some id) = test id
@@ -60,7 +60,7 @@ acted rows x (LinkSchedule id) = record x { schedule = Some id }
 
 -- ---- rules
 
--- what a rule makes of a transaction: its actions follow one another
+-- what a rule makes of a transaction: where its conditions hold, its actions follow one another
 unfoldable pub applied : Rows → TxRow → Rule → TxRow
 applied rows x r = if fires r x then fold (acted rows) x r.actions else x
 

@@ -54,7 +54,7 @@ fn is_live_payee(book: &Book, id: &Txt) -> bool
     }
 }
 
-/// Whether a payee that is given is live.
+/// Whether a payee is live, or none is given.
 fn may_have_payee(book: &Book, id: &Option<Txt>) -> bool
     ensures { result ≡ if_given (is_live_payee book.now.rows) id.now }
 {
@@ -64,7 +64,7 @@ fn may_have_payee(book: &Book, id: &Option<Txt>) -> bool
     }
 }
 
-/// Whether a category that is given is live.
+/// Whether a category is live, or none is given.
 fn may_have_category(book: &Book, id: &Option<Txt>) -> bool
     ensures { result ≡ if_given (is_live_category book.now.rows) id.now }
 {

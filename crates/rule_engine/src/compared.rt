@@ -101,7 +101,7 @@ fn amount_value(op: CondOp, value: &Value) -> Option<CondValue>
     }
 }
 
-/// A day, or the object of a recurrence.
+/// A day, or a recurrence, which is an object, whatever it says.
 fn day_or_recurrence(value: &Value) -> Option<CondValue>
     ensures { result ≡ day_or_recurrence (view value.now) }
 {

@@ -133,7 +133,8 @@ fn has_part(text: &str, part: &str) -> bool
     text.contains(part)
 }
 
-/// Whether an amount is within seven and a half in a hundred of a number.
+/// Whether an amount is within seven and a half in a hundred of a number, rounded to the nearest
+/// cent, a half up.
 fn is_near(number: i64, amount: i64) -> bool
     ensures { result ≡ is_near number amount }
 {

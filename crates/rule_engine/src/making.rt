@@ -148,7 +148,7 @@ fn all_alive(book: &Book, ids: &[Txt]) -> Result<(), EditFault>
     Ok(())
 }
 
-/// Puts the writes of what rules change of the transaction of an id behind others.
+/// Puts the writes of what rules change of the live transaction of an id behind others.
 fn push_changes(
     alloc: Global,
     writes: &mut Vec<Write>,

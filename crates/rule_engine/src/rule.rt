@@ -66,8 +66,8 @@ pub enum CondValue {
     Between { num1: i64, num2: i64 },
     /// A day.
     Date(u32),
-    /// The days of a recurrence, whose object stands in the text of the rule's conditions, at the place of this one. No transaction
-    /// meets it.
+    /// The days of a recurrence, whose object stands in the text of the rule's conditions, at the place of this one. No day meets
+    /// it.
     Recurrence,
     /// Whether it is set.
     Flag(bool),
@@ -87,9 +87,10 @@ pub struct Condition {
 /// A change of one column of a transaction.
 #[derive(Debug, Drop)]
 pub enum Action {
-    /// Gives it a payee, or none.
+    /// Gives it a payee, or none. One that isn't live changes nothing.
     SetDescription(Option<Txt>),
-    /// Gives it a category, or none.
+    /// Gives it a category, or none, where it is neither split nor in a pair. One that isn't live
+    /// changes nothing.
     SetCategory(Option<Txt>),
     /// Notes a text. Empty notes are none.
     SetNotes(Txt),
@@ -106,11 +107,11 @@ pub enum Action {
 /// When a rule runs.
 #[derive(Clone, Copy, Debug, PartialEq, Eq)]
 pub enum Stage {
-    /// Before all others.
+    /// Before the rules of the other stages.
     Pre,
     /// In between.
     Plain,
-    /// After all others.
+    /// After the rules of the other stages.
     Post,
 }
 

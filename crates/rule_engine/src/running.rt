@@ -39,7 +39,8 @@ fn all_hold(alloc: Global, conditions: &[Condition], row: &TxRow) -> Result<bool
     Ok(true)
 }
 
-/// Whether the conditions of a rule hold.
+/// Whether the conditions of a rule hold, all of them or one, as it says. Where there is none, they
+/// don't.
 #[tactic(auto, unfolding(crate::specs::Running::fires))]
 fn fires(alloc: Global, rule: &Rule, row: &TxRow) -> Result<bool, NoMemory>
     ensures { IfOk result (λ b. b ≡ fires rule.now row.now) }

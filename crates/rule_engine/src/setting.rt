@@ -11,7 +11,7 @@ use field_values::NoMemory;
 use serde_json::Value;
 use std::alloc::Global;
 
-/// What `set` sets of this column.
+/// The action of `set` with this column and this value.
 fn set_of(alloc: Global, field: &str, value: &Value) -> Result<Option<Action>, NoMemory>
     ensures { IfOk result (λ o. o ≡ set_of field.now (view value.now)) }
 {

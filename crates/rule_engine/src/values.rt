@@ -10,7 +10,7 @@ use field_values::{Items, NoMemory, Txt};
 use serde_json::Value;
 use std::alloc::Global;
 
-/// The greatest amount that a value holds, in cents.
+/// The greatest amount that a value of a field holds, in cents.
 const LARGEST: i64 = 9_007_199_254_740_991;
 
 /// A copy of the text that a value is.
@@ -48,7 +48,7 @@ fn all_texts(alloc: Global, entries: &Vec<Value>) -> Result<Option<Vec<Txt>>, No
     Ok(Some(texts))
 }
 
-/// Copies of the texts of an array.
+/// Copies of the texts of an array, where all its entries are texts.
 pub(crate) fn texts(alloc: Global, value: &Value) -> Result<Option<Items<Txt>>, NoMemory>
     ensures { IfOk result (λ o. o ≡ as_texts (view value.now)) }
 {
@@ -61,7 +61,7 @@ pub(crate) fn texts(alloc: Global, value: &Value) -> Result<Option<Items<Txt>>, 
     }
 }
 
-/// The number, where a value holds it.
+/// The number, where a value of a field holds it.
 fn held(number: i64) -> Option<i64>
     ensures { result ≡ as_held number }
 {
@@ -72,7 +72,8 @@ fn held(number: i64) -> Option<i64>
     }
 }
 
-/// The whole number that a value is, where it is one that a value of a field holds.
+/// The whole number that a value is, where it is one that a value of a field holds. One with a
+/// point or an exponent is none, nor is -0.
 pub(crate) fn amount(value: &Value) -> Option<i64>
     ensures { result ≡ as_amount (view value.now) }
 {
@@ -92,7 +93,7 @@ pub(crate) fn amount_at(value: &Value, key: &str) -> Option<i64>
     }
 }
 
-/// The day that a value writes as YYYY-MM-DD.
+/// The day YYYYMMDD that a value writes as YYYY-MM-DD, where it is one from 1970 to 2199.
 pub(crate) fn day(value: &Value) -> Option<u32>
     ensures { result ≡ as_day (view value.now) }
 {
@@ -125,7 +126,7 @@ fn is_set(value: &Value, key: &str) -> bool
     }
 }
 
-/// Whether options ask for one direction of money alone.
+/// Whether the options of an entry ask for a direction of money, `inflow` or `outflow`.
 pub(crate) fn asks_direction(value: &Value) -> bool
     ensures { result ≡ asks_direction (view value.now) }
 {

@@ -133,7 +133,7 @@ fn push_flag(
     push(alloc, writes, "transactions", &row, column, flag(new))
 }
 
-/// Puts the writes of what has changed of a transaction behind others.
+/// Puts the writes of the columns that actions set behind others, where they have changed.
 pub(crate) fn push_changed(
     alloc: Global,
     writes: &mut Vec<Write>,
