@@ -50,7 +50,7 @@ then_else r s t a b = record { accounts = b.accounts ∙ a.accounts; groups = b.
 abbrev pub IsOfTxs : Write → Type 0
 IsOfTxs w = w.dataset ≡ codes "transactions"
 
--- nothing but transactions is written
+-- accounts, groups, categories, rules and payees stay
 record OnlyTxs (r s : Rows) : Type 0 where
   kept : SameElse r s
   payees : s.payees ≡ r.payees
@@ -150,7 +150,7 @@ payee_write ids r at name =
     ap (λ d. with_known d (column_of (codes "name")) (ids at) (IsText name) r) (dataset_found Payees)
     ∙ ap (λ c. with_known (Some Payees) c (ids at) (IsText name) r) (column_found of.Name)
 
--- nothing but payees is written
+-- accounts, groups, categories, rules and transactions stay
 pub record OnlyPayees (r s : Rows) : Type 0 where
   pub kept : SameElse r s
   pub txs : s.txs ≡ r.txs

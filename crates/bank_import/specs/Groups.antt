@@ -16,7 +16,7 @@ items_of (Some v) = v.items
 abbrev pub group : {K : Type 0} → (K → K → Ordering) → BTreeMap K (Vec Candidate) → K → List Candidate
 group cmp m k = items_of (tree.get cmp m k)
 
--- those with an id of a statement, and those of an amount
+-- those with this id of a statement, and those of this amount
 abbrev pub with_id : Text → List Candidate → List Candidate
 with_id k cs = filter (λ c. are_same c.financial_id (Some k)) cs
 

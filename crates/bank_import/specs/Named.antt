@@ -1,4 +1,4 @@
--- What is kept of payees and of new names while records are read.
+-- What is kept of payees, by which records find theirs.
 use Rattle.std.specs.Prelude.{◌≡◌}
 use Rattle.std.specs.BTreeMap as tree
 use Rattle.std.specs.BTreeMap.{BTreeMap}

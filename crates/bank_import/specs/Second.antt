@@ -26,7 +26,7 @@ pub record IsOwn (cs : List Candidate) (rs : List Facts) (ms : List (Option Text
   pub own : slice_get os i ≡ Some d.id
   pub how : ((slice_get ms i ≡ Some None) × (d ≡ made d.id entry)) ⊎ ((c : Candidate) × IsIn cs c × (slice_get ms i ≡ Some (Some c.id)) × (d ≡ filled entry c))
 
--- the candidates after the import: the own row of each record, and what nobody took
+-- the candidates after the import: the own row of each record, and others that nobody took
 pub record IsAfter (cs : List Candidate) (rs : List Facts) (os : List Text) (after : List Candidate) : Type 0 where
   pub rising : Rising after
   pub len : length os ≡ length rs

@@ -48,7 +48,7 @@ with_payee payee x = record x { description = or_else x.description (Some payee)
 abbrev pub LeavePayee : Rows → Text → Entry → Text → Type 0
 LeavePayee rows account e payee = run rows (rules_of rows) (new_tx account (Some payee) e) ≡ with_payee payee (run rows (rules_of rows) (new_tx account None e))
 
--- rules don't ask for a payee that the import makes
+-- where the book has no payee of a record, rules don't ask for an id that the import makes
 abbrev pub AskNothingNew : Ids → Rows → Text → List Entry → List Write → Type 0
 AskNothingNew ids rows account es ws = (i at : ℕ) (e : Entry) → slice_get es i ≡ Some e → payee_of rows e ≡ None → makes ws at ≡ true → LeavePayee rows account e (ids at)
 
@@ -68,7 +68,7 @@ pub record TellsNot (payee : Text) (r : Rule) : Type 0 where
 pub record LawOfImports : Type 0 where
   -- a statement that comes again writes nothing
   pub again : (ids : Ids) (rows : Rows) (edit : ImportEdit) (es : List Entry) (ws : List Write) → IsFirstImport ids rows edit es ws → import_writes (with_writes ids rows ws) edit ≡ Ok []
-  -- since the candidates are then each record's own row and what nobody took, and each own row has all that its record would write
+  -- since the candidates are then each record's own row and others that nobody took, and each own row has all that its record would write
   pub left : (ids : Ids) (rows : Rows) (edit : ImportEdit) (es : List Entry) (ws : List Write) → IsFirstImport ids rows edit es ws → (os : List Text)
       × IsAfter (candidates rows edit.account) (facts_in (with_writes ids rows ws) edit.account es) os (candidates (with_writes ids rows ws) edit.account)
       × AreFull (with_writes ids rows ws) (drafts_in (with_writes ids rows ws) edit.account es) os

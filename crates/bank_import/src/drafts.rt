@@ -65,7 +65,7 @@ fn wanted_by(found: bool, row: &TxRow, entry: &Entry) -> Result<Option<Txt>, NoM
     copied(&entry.payee)
 }
 
-/// What a record makes of a book with these payees and rules.
+/// What a record makes, in a book with these payees and rules.
 #[tactic(auto, unfolding(crate::specs::Drafts::draft_of))]
 fn draft_of(
     alloc: Global,

@@ -43,7 +43,7 @@ pub(crate) struct Candidate {
 /// In what a record and a transaction agree.
 #[derive(Clone, Copy, Debug, PartialEq, Eq)]
 pub(crate) enum Pass {
-    /// The id of the statement.
+    /// The id in a statement.
     ById,
     /// The amount and the payee, and nearly the day.
     ByPayee,

@@ -36,12 +36,12 @@ fn facts_of_all(alloc: Global, rows: &[TxRow]) -> Result<Vec<Facts>, NoMemory>
 }
 
 /// For each record, given as the transaction that it makes, the id of the transaction of the account that it matches. Candidates are
-/// the live transactions of the account but for parts of splits, and each is matched once. There are three passes, each over the
+/// the live transactions of the account but for parts of splits, and none is matched twice. There are three passes, each over the
 /// records in order that have no match yet: first both have an id of a statement, and it is the same; then the amount and the payee are
 /// the same, and they are at most seven days apart; then the amount is, and they are at most seven days apart. In the second and the
-/// third not both have an id of a statement. Of the candidates that agree the nearest in days is taken, and of equally near ones that of the
-/// least id; one without a day is the farthest. It looks at the transactions of this account alone, once, and then a record at those
-/// of its id or of its amount.
+/// third not both have an id of a statement. Of the candidates that agree and that nobody took the nearest in days is taken, and of
+/// equally near ones that of the least id; one without a day is the farthest. It looks at the transactions of this account alone, once,
+/// and then a record at those of its id or of its amount.
 #[tactic(auto, unfolding(crate::specs::Matching::matched))]
 pub fn matches(
     alloc: Global,

@@ -10,7 +10,7 @@ use std::alloc::Global;
 use std::collections::BTreeMap;
 use std::marker::Model;
 
-/// Names, each once but for the case of its letters, and the place of each.
+/// Names, each once whatever the case of its letters, and the place of each.
 #[derive(Drop)]
 pub(crate) struct Names {
     list: Vec<Txt>,
@@ -56,7 +56,7 @@ impl Names {
         Ok(self.places.get(&key).copied())
     }
 
-    /// The names with one more, unless it is among them. There is no memory for 4,294,967,296 of them.
+    /// The names with one more, unless it is among them. There is no memory for 4,294,967,297 of them.
     fn add(self, alloc: Global, name: &Txt) -> Result<Names, NoMemory>
         ensures { IfOk result (λ names. names ≡ with_name self (Some name.now)) }
     {
@@ -76,7 +76,7 @@ impl Names {
     }
 }
 
-/// The names of the payees that records want made, each once, as the first record has it.
+/// The names of the payees that records want made, each once, as the first record has it that wants it.
 #[tactic(auto, unfolding(crate::specs::Drafts::new_names))]
 pub(crate) fn new_names(alloc: Global, drafts: &[Draft]) -> Result<Names, NoMemory>
     ensures { IfOk result (λ names. names ≡ new_names drafts.now) }

@@ -19,7 +19,7 @@ is_account rows id = is_some (map.get rows.accounts id)
 abbrev pub is_payee : Rows → Text → Bool
 is_payee rows id = is_some (map.get rows.payees id)
 
--- a new account, and a payee without a name that stands for it in transfers
+-- a new account, and a payee with the empty name that stands for it in transfers
 abbrev pub account_writes : RowName → Text → Bool → List Write
 account_writes row name offbudget =
     write (codes "accounts") row (codes "name") (IsText name)

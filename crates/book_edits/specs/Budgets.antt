@@ -29,7 +29,7 @@ row_made rows category month =
     ∷ write (codes "zero_budgets") (Given (budget_id category month)) (codes "category") (IsText category)
     ∷ []
 
--- a column of what a category is given in a month
+-- the writes of a column of a category's row of a month, which is made where it is not there
 abbrev pub budget_writes : Rows → Text → ℕ → Text → Value → List Write
 budget_writes rows category month column value =
     row_made rows category month ++ write (codes "zero_budgets") (Given (budget_id category month)) column value ∷ []

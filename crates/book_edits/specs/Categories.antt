@@ -26,10 +26,11 @@ is_category rows id = is_some (map.get rows.categories id)
 abbrev pub takes_income : Rows → Text → Bool
 takes_income rows group = some_and (λ g. g.is_income) (map.get rows.groups group)
 
--- the ids of the live categories of a group, in order
+-- the category is live and of the group
 abbrev pub is_live_in : Rows → Text → CategoryRow → Bool
 is_live_in rows group c = is_live_category_row rows c && is_text group c.cat_group
 
+-- the ids of the live categories of a group, in order
 abbrev pub categories_of : Rows → Text → List Text
 categories_of rows group = keys_where (is_live_in rows group) (map.entries rows.categories)
 

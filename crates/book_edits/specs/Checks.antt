@@ -1,4 +1,4 @@
--- What is asked of an edit. Each check tells its own fault.
+-- What is asked of an edit. A check that fails tells a fault.
 use Rattle.std.specs.Prelude.{ℕ, ℤ, pos, negsuc, unsigned_abs, nat_le, Bool, false, not, ◌&&◌, List, length, Option, None, Some, Result, Ok, Err}
 use Rattle.std.specs.Option.{is_none, option_map, option_and_then}
 use Rattle.std.specs.Result.{is_err}
@@ -71,7 +71,7 @@ live_category rows id = must (is_live_category rows id) (NoSuchCategory id)
 abbrev pub live_payee : Rows → Text → Check
 live_payee rows id = must (is_live_payee rows id) (NoSuchPayee id)
 
--- a category that takes no income
+-- no live category that takes income
 abbrev pub no_income : Rows → Text → Check
 no_income rows id = must (not (is_income_category rows id)) (IncomeCategory id)
 

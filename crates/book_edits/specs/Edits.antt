@@ -64,7 +64,7 @@ abbrev pub IsBookEdit : BookEdit → Type 0
 IsBookEdit (Set dataset row column value) = IsValue value
 IsBookEdit edit = Unit {0}
 
--- memory may be wanted before the edit is answered: a value for a field with an empty name is refused without
+-- memory may be wanted before the edit is answered: a value for a field whose first bad name is the empty one is refused without
 abbrev pub MayWantMemory : BookEdit → Type 0
 MayWantMemory (Set dataset row column value) = set_writes (field_of dataset row column) value ≢ Err (BadId [])
 MayWantMemory edit = Unit {0}

@@ -157,7 +157,7 @@ pub(crate) fn maybe_live_payee(book: &Book, id: &Option<Txt>) -> Result<(), Edit
     }
 }
 
-/// A category that takes no income.
+/// No live category that takes income.
 pub(crate) fn no_income(book: &Book, id: &Txt) -> Result<(), EditFault>
     ensures ok { OnOk result (no_income book.now.rows id.now ≡ Ok tt) }
     ensures err { IfErr result (IsEditFault (no_income book.now.rows id.now)) }

@@ -125,7 +125,7 @@ pub(crate) fn a_held(n: i128) -> Result<(), EditFault>
     Err(EditFault::BadAmount { n })
 }
 
-/// An amount that a value holds, as it does.
+/// An amount that a value holds, as a number of 64 bits.
 pub(crate) fn as_amount(n: i128) -> Result<i64, EditFault>
     ensures ok { IfOk result (λ m. (m ≡ n) × (an_amount n ≡ Ok tt)) }
     ensures err { IfErr result (IsEditFault (an_amount n)) }

@@ -91,8 +91,9 @@ fn make(alloc: Global, book: &Book, edit: &BookEdit) -> Result<Vec<Write>, EditF
 ///
 /// # Errors
 ///
-/// The first of the edit's checks that fails, in the order of docs/FORMATS.md. Memory can run out before; but that a field with
-/// an empty name can't be set is told without memory.
+/// The first of the edit's checks that fails, in the order of docs/FORMATS.md. Memory can run out
+/// before; but that a field can't be set whose first bad name is the empty one is told without
+/// memory.
 pub fn writes(alloc: Global, book: &Book, edit: &BookEdit) -> Result<Vec<Write>, EditFault>
     requires live { book.now.spent ≡ false }
     requires valid { IsBookEdit edit.now }

@@ -10,7 +10,7 @@ use book_rows::{EditFault, RowName, Write};
 use field_values::{NameFault, NamePart, NoMemory, Txt, Value, check_name};
 use std::alloc::Global;
 
-/// That one of three names which has this part.
+/// The one of three names that stands in this part of a field.
 fn name_of<'a>(part: NamePart, dataset: &'a Txt, row: &'a Txt, column: &'a Txt) -> &'a Txt
     ensures { result.now ≡ name_of part (field_of dataset.now row.now column.now) }
 {
@@ -53,7 +53,8 @@ fn check_names(dataset: &Txt, row: &Txt, column: &Txt) -> Result<(), NameFault>
     check_name(NamePart::Column, column.bytes())
 }
 
-/// The one write of a value into the field with these names. That a name is empty is told without memory.
+/// The one write of a value into the field with these names. That the first bad name is the empty
+/// one is told without memory.
 pub(crate) fn set_writes(
     alloc: Global,
     dataset: &Txt,

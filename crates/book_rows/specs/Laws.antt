@@ -46,7 +46,7 @@ pub record HasLiveGroup (rows : Rows) (id : Text) (income : Bool) : Type 0 where
 
 -- which rows are live, and which count
 pub record LiveRowsAreTold : Type 0 where
-  -- a transaction is live where it was not deleted, nor what it is a part of
+  -- a transaction is live where it was not deleted, and what it is a part of, if anything, is there and was not deleted
   pub live : (rows : Rows) (x : TxRow) → (is_live_tx rows x ≡ true) ↔ ((x.tombstone ≡ false) × HasStandingParent rows x)
   -- which transactions count
   pub counted : (rows : Rows) (x : TxRow) → (is_counted rows x ≡ true) ↔ Counts rows x

@@ -43,7 +43,7 @@ is_expense_category rows id = some_and (λ c. is_live_category_row rows c && not
 abbrev pub has_parent : Rows → TxRow → Bool
 has_parent rows x = if x.is_child then some_and (λ p. some_and (λ row. not row.tombstone) (map.get rows.txs p)) x.parent_id else true
 
--- a transaction that was not deleted, nor what it is a part of
+-- a transaction that was not deleted, and what it is a part of, if anything, is there and was not deleted
 abbrev pub is_live_tx : Rows → TxRow → Bool
 is_live_tx rows x = not x.tombstone && has_parent rows x
 

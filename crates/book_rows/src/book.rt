@@ -36,7 +36,8 @@ use std::sync::ledger::Ledger;
 /// The rows that the fields of messages make, by dataset and id. A row is there where one of its columns is known, whatever its
 /// value.
 ///
-/// A call that answers `NoMemory` and may have changed the book leaves it spent; then nothing but `is_spent` may be asked of it.
+/// A call that answers `NoMemory` and may have changed the book leaves it spent: no clause tells then which rows it has, and it is to
+/// be dropped.
 /// What is asked often is found without a walk over all rows: the parts of a transaction, the transactions of an account, and the
 /// first and the last month.
 #[derive(Drop)]
@@ -366,7 +367,8 @@ impl Book {
         self.rows.txs.get(id).is_some()
     }
 
-    /// Whether a transaction is there and was not deleted, nor what it is a part of. It takes no step.
+    /// Whether a transaction is there and was not deleted, and what it is a part of, if anything, is
+    /// there and was not deleted. It takes no step.
     pub fn alive(&self, id: &Txt) -> bool
         ensures { result ≡ is_alive self.now.rows id.now }
     {

@@ -1,9 +1,9 @@
 -- Which rules change a transaction, and that they follow one another.
-use Rattle.std.proofs.Common.{◌≡◌, ◌≢◌, true, List, [], ◌∷◌, ◌++◌, Some, Ok, Err, refl, ap, sym, ◌∙◌, subst, arith}
+use Rattle.std.proofs.Common.{◌≡◌, ◌≢◌, true, false, List, [], ◌∷◌, ◌++◌, Some, Ok, Err, refl, ap, sym, ◌∙◌, subst, arith}
 use Rattle.std.specs.Prelude.{◌↔◌}
-use Rattle.std.specs.List.{All, Any, Contains}
+use Rattle.std.specs.List.{All, Any, Contains, fold}
 use Rattle.std.specs.FinMap as map
-use Rattle.std.proofs.lemmas.Bool.{cond-false}
+use Rattle.std.proofs.lemmas.Bool.{cond-false, cond-true}
 use Rattle.std.proofs.lemmas.List.Sums.{fold-append, AllPass-from_list_all, list_all-from_AllPass}
 use Rattle.std.proofs.lemmas.List.Folds.{Any-from_list_any, list_any-from_Any}
 use Rattle.finite_sums.specs.Maps.{Text}
@@ -16,7 +16,7 @@ use Rattle.rule_engine.specs.declared.rule.Rule.{Rule}
 use Rattle.rule_engine.specs.declared.rule.RuleOp.TheVariants.{And, Or}
 use Rattle.rule_engine.specs.Conditions.{holds}
 use Rattle.rule_engine.specs.Reading.{read_rule}
-use Rattle.rule_engine.specs.Running.{fires_by, fires, applied, run, rules_of}
+use Rattle.rule_engine.specs.Running.{fires_by, fires, acted, applied, run, rules_of}
 use Rattle.rule_engine.specs.Laws.{RulesFollowOneAnother}
 use Rattle.rule_engine.proofs.Live.{are_live}
 
@@ -39,9 +39,17 @@ fires_one : (r : Rule) (x : TxRow) → r.op ≡ Or → (fires r x ≡ true) ↔ 
 unfolding fires
 fires_one r x e = subst (λ op. (fires_by op r.conditions x ≡ true) ↔ Any (λ (c : Condition). holds x c ≡ true) r.conditions) (sym e) (one_by r.conditions x)
 
-rests : (rows : Rows) (r : Rule) (x : TxRow) → r.conditions ≡ [] → applied rows x r ≡ x
-unfolding applied fires
-rests rows r x e = cond-false _ _ _ (ap (λ cs. fires_by r.op cs x) e)
+rests : (rows : Rows) (r : Rule) (x : TxRow) → fires r x ≡ false → applied rows x r ≡ x
+unfolding applied
+rests rows r x e = cond-false _ _ _ e
+
+acts : (rows : Rows) (r : Rule) (x : TxRow) → fires r x ≡ true → applied rows x r ≡ fold (acted rows) x r.actions
+unfolding applied
+acts rows r x e = cond-true _ _ _ e
+
+idles : (rows : Rows) (r : Rule) (x : TxRow) → r.conditions ≡ [] → applied rows x r ≡ x
+unfolding fires
+idles rows r x e = rests rows r x (ap (λ cs. fires_by r.op cs x) e)
 
 not_read : (rows : Rows) (id : Text) (row : RuleRow) (fault : EditFault) → map.get rows.rules id ≡ Some row → read_rule id row ≡ Err fault → (r : Rule) → Contains (rules_of rows) r → r.id ≢ id
 not_read rows id row fault there bad r c same =
@@ -61,4 +69,4 @@ unfolding run
 runs_next rows before r x = fold-append (applied rows) x before (r ∷ [])
 
 pub rules_follow : RulesFollowOneAnother
-rules_follow = record { all = fires_all; one = fires_one; idle = rests; unread = not_read; none = runs_none; next = runs_next }
+rules_follow = record { all = fires_all; one = fires_one; rests = rests; acts = acts; idle = idles; unread = not_read; none = runs_none; next = runs_next }

@@ -1,6 +1,6 @@
 -- What the laws say.
 use Rattle.std.specs.Prelude.{◌≡◌, ◌≢◌, ◌↔◌, true, false, List, [], ◌∷◌, ◌++◌, Some, Ok, Err}
-use Rattle.std.specs.List.{All, Any, Contains, IsDistinct}
+use Rattle.std.specs.List.{All, Any, Contains, IsDistinct, fold}
 use Rattle.std.specs.List.Sorted.{IsPermutation, IsStrictlySortedBy}
 use Rattle.std.specs.FinMap as map
 use Rattle.finite_sums.specs.Maps.{Text}
@@ -13,7 +13,7 @@ use Rattle.rule_engine.specs.declared.rule.Rule.{Rule}
 use Rattle.rule_engine.specs.declared.rule.RuleOp.TheVariants.{And, Or}
 use Rattle.rule_engine.specs.Conditions.{holds}
 use Rattle.rule_engine.specs.Reading.{read_rule}
-use Rattle.rule_engine.specs.Running.{fires, applied, run, rules_of}
+use Rattle.rule_engine.specs.Running.{fires, acted, applied, run, rules_of}
 use Rattle.rule_engine.specs.Scores.{rank_cmp, same_id, ranked}
 
 -- rules whose ids differ have one order
@@ -42,6 +42,9 @@ pub record RulesFollowOneAnother : Type 0 where
   pub all : (r : Rule) (x : TxRow) → r.op ≡ And → (fires r x ≡ true) ↔ ((r.conditions ≢ []) × All (λ (c : Condition). holds x c ≡ true) r.conditions)
   -- a rule of whose conditions one has to hold fires just where one does
   pub one : (r : Rule) (x : TxRow) → r.op ≡ Or → (fires r x ≡ true) ↔ Any (λ (c : Condition). holds x c ≡ true) r.conditions
+  -- a rule that doesn't fire changes nothing, and the actions of one that does follow one another in their order
+  pub rests : (rows : Rows) (r : Rule) (x : TxRow) → fires r x ≡ false → applied rows x r ≡ x
+  pub acts : (rows : Rows) (r : Rule) (x : TxRow) → fires r x ≡ true → applied rows x r ≡ fold (acted rows) x r.actions
   -- a rule without conditions changes nothing
   pub idle : (rows : Rows) (r : Rule) (x : TxRow) → r.conditions ≡ [] → applied rows x r ≡ x
   -- nor does a row that can't be read

@@ -50,10 +50,6 @@ all_read reading ds = unless_bad (first_bad reading ds) (filter_map reading ds)
 
 -- ---- single values
 
--- a text
-abbrev pub as_text : Data → Option Text
-as_text d = as_str d
-
 abbrev pub ok_of : {A : Type 0} → Result A ℕ → Option A
 ok_of (Ok a) = Some a
 ok_of (Err at) = None

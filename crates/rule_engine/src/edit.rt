@@ -18,7 +18,7 @@ pub enum RuleEdit {
     RuleDelete {
         id: Txt,
     },
-    /// Runs all rules on each of these transactions.
+    /// Runs the rules of the book on each of these transactions: those that were not deleted and can be read.
     RulesRun {
         ids: Items<Txt>,
     },

@@ -20,7 +20,7 @@ use Rattle.schedules.specs.Terms.{Terms, op_of, value_of, words_of, half, middle
 zero_holds : HoldsNumber (pos 0)
 zero_holds = held (pos 0) (omega arith)
 
--- a number that is told holds
+-- a number, where one is told, is one that a value holds
 abbrev Holds : Option ℤ → Type 0
 Holds None = Unit {0}
 Holds (Some z) = HoldsNumber z

@@ -18,7 +18,7 @@ pub falls_by_some : (ps : List Pattern) (first : ℕ) (m : MonthDay) → 0 < len
 falls_by_some [] first m h = absurd (omega arith)
 falls_by_some (p ∷ ps) first m h = refl
 
--- so many days of a month, from one day on, do not fall
+-- of the first n days of a month, none from one day on falls
 abbrev pub NoneFalls : Places → ℕ → ℕ → ℕ → Type 0
 NoneFalls r month from n =
     (p : ℕ) → p < n → from ≤ month_start month + p → falls_on r (record { month = month; place = p + 1 }) ≡ false

@@ -1,6 +1,6 @@
 -- The occurrences between two days, in order.
 use Rattle.std.proofs.Common.{◌≡◌, ℕ, zero, suc, ◌+◌, ◌-◌, ◌<◌, ◌≤◌, Bool, true, false, cond, List, [], ◌∷◌, ◌++◌, map, Some, None, append-nil, refl, sym, ap, ◌∙◌, subst, arith}
-use Rattle.std.specs.Prelude.{◌==◌, ◌||◌}
+use Rattle.std.specs.Prelude.{◌==◌, ◌||◌, if◌then◌else◌}
 use Rattle.std.specs.List.{list_any, AllByRecursion}
 use Rattle.std.specs.List.Sorted.{IsStrictlySortedBy}
 use Rattle.std.specs.Ordering.{nat_cmp}
@@ -8,13 +8,22 @@ use Rattle.std.specs.declared.cmp.Ordering.TheVariants.{Less}
 use Rattle.std.proofs.lemmas.Bool.{eqb-true, eq-eqb, false_from_ne_true}
 use Rattle.hybrid_clock.proofs.TextOrder.{nat_cmp-lt}
 use Rattle.schedules.specs.Months.{date_of, day_in}
-use Rattle.schedules.specs.Days.{Said, moved, is_occurrence, next_from, those_of, occurrences_in}
+use Rattle.schedules.specs.Days.{Said, moved, is_occurrence, next_from}
 use Rattle.schedules.specs.Upcoming.{IsOccurrence, AreBetween}
 use Rattle.schedules.specs.Laws.{Occurs, IsLeastFrom}
 use Rattle.schedules.proofs.Calendar.{by_lt}
 use Rattle.schedules.proofs.Dating.{date_back, date_rises, date_from}
 use Rattle.schedules.proofs.Telling.{bool_cases, occurs_within, occurs_so, so_occurs, some_told, none_told}
 use Rattle.schedules.proofs.Following.{with_date, its_day}
+
+-- those of the `more` days from one day on that pass a test, in order
+unfoldable pub those_of : (ℕ → Bool) → ℕ → ℕ → List ℕ
+those_of test zero from = []
+those_of test (suc more) from = if test from then from ∷ those_of test more (from + 1) else those_of test more (from + 1)
+
+-- the occurrences from one day to another, both counted, in order
+unfoldable pub occurrences_in : Said → ℕ → ℕ → List ℕ
+occurrences_in r first last = those_of (is_occurrence r) (last + 1 - first) first
 
 those_pass : (test : ℕ → Bool) (more from : ℕ) → test from ≡ true → those_of test (suc more) from ≡ from ∷ those_of test more (from + 1)
 unfolding those_of

@@ -55,7 +55,7 @@ first_over test vs ws i same h inv =
     let P : List Value → Type 0 = λ xs. length xs ≤ i in
     sym (ap (λ (xs : List Value). first_where test (items_view xs)) (drop_all i vs (subst P same h))) ∙ inv
 
--- ---- numbers that are not whole
+-- ---- numbers that are read as floats
 
 pub float_next : (vs ws : List Value) (i : ℕ) (v : Value) → ws ≡ vs → v ≡ get_or ws i v → i < length ws → has_float (view v) ≡ false
     → items_have_float (items_view (drop i vs)) ≡ items_have_float (items_view vs) → items_have_float (items_view (drop (i + 1) vs)) ≡ items_have_float (items_view vs)

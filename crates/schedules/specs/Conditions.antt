@@ -25,14 +25,14 @@ all_of test (item d ds) = test d && all_of test ds
 abbrev pub are_words : Option Data → Bool
 are_words v = some_and (all_of (λ d. is_words (Some d))) (option_and_then as_array v)
 
--- a whole number that JSON writes exactly
+-- a number that is no further from 0 than an amount may be
 abbrev pub exact : ℤ → Option ℤ
 exact z = if int_le (neg_ℤ (pos 9_007_199_254_740_991)) z && int_le z (pos 9_007_199_254_740_991) then Some z else None
 
 abbrev pub amount_at : Option Data → Option ℤ
 amount_at v = option_and_then exact (option_and_then as_i64 (option_and_then as_number v))
 
--- two numbers that lie around others
+-- the two ends of a range of amounts, in either order
 abbrev pub is_between : Option Data → Bool
 is_between v = is_some (amount_at (option_and_then (get (codes "num1")) v)) && is_some (amount_at (option_and_then (get (codes "num2")) v))
 

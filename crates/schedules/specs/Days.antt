@@ -116,15 +116,6 @@ least_of test (suc more) from = if test from then Some from else least_of test m
 unfoldable pub next_from : Said → ℕ → Option ℕ
 next_from r from = least_of (is_occurrence r) (84_006 - from) from
 
--- those of the `more` days from one day on that pass a test, in order
-unfoldable pub those_of : (ℕ → Bool) → ℕ → ℕ → List ℕ
-those_of test zero from = []
-those_of test (suc more) from = if test from then from ∷ those_of test more (from + 1) else those_of test more (from + 1)
-
--- the occurrences from one day to another, both counted, in order
-unfoldable pub occurrences_in : Said → ℕ → ℕ → List ℕ
-occurrences_in r first last = those_of (is_occurrence r) (last + 1 - first) first
-
 -- ---- what the code finds on its way
 
 -- no day from one day on and before another passes the test
@@ -160,7 +151,7 @@ asked_from Never from = from - 2
 asked_from (Times _) from = 0
 asked_from (Until _) from = from - 2
 
--- each kept day below a day moves to one before `from`; where raw days are counted, so many lie below it
+-- each kept day below `at` moves to one before `from`; `passed` is at most `at`, and where raw days are counted, so many lie below it
 pub record IsPast (r : Said) (from at passed : ℕ) : Type 0 where
   pub done : (d : ℕ) → d < at → is_kept r d ≡ true → moved r.weekends d < from
   pub counted : (n : ℕ) → r.ending ≡ Times n → passed ≡ count_below (is_raw r) at

@@ -50,10 +50,10 @@ pub record OccurrencesAreTold : Type 0 where
   pub next : (r : Said) (from : ℕ) → MatchOption (next_from r from) ((e : ℕ) → Occurs r e → e < from) (λ n. IsLeastFrom r from n)
   -- a kept raw day from Monday to Friday is one
   pub working : (r : Said) (d : ℕ) → is_kept r d ≡ true → weekday d < 5 → Occurs r d
-  -- days and weeks without an end go on: as long as the end of 2199 is not near, one comes within a step and four days
+  -- days and weeks without an end go on: from the start on, as long as the end of 2199 is not near, one comes within a step and four days
   pub goes_on : (r : Said) (from step : ℕ) → StepsBy r step → 1 ≤ step → r.ending ≡ Never → r.start ≤ from → from + step + 4 ≤ 84_006
       → (n : ℕ) × (next_from r from ≡ Some n) × (n < from + step + 4)
-  -- one day alone
+  -- of one day alone, that day is the only one
   pub once : (d e : ℕ) → d < 84_006 → Occurs (one_day d) e ↔ (e ≡ d)
 
 -- raw days come by whole steps of so many months, on these days of a month; twelve months to a year
@@ -75,8 +75,8 @@ MonthsHaveDays step days = (month : ℕ) → month < 2_760 → (month_day days.s
 
 -- months and years without an end go on
 pub record MonthsGoOn : Type 0 where
-  -- as long as the end of 2199 is not near, an occurrence comes by the second day of the month that lies a step and two months on, where each month
-  -- whose turn it is has a day that is meant
+  -- from the start on, as long as the end of 2199 is not near, an occurrence comes by the second day of the month that lies a step and two months on, where
+  -- each month whose turn it is has a day that is meant
   pub goes_on : (r : Said) (from step : ℕ) (days : Places) → StepsByMonths r step days → 1 ≤ r.interval → r.ending ≡ Never → r.start ≤ from → from < 84_006
       → (month_day from).month + step + 2 ≤ 2_760 → MonthsHaveDays step days
       → (n : ℕ) × (next_from r from ≡ Some n) × (n < month_start ((month_day from).month + step + 2) + 2)
@@ -85,5 +85,5 @@ pub record MonthsGoOn : Type 0 where
   pub early : (step place : ℕ) (days : Places) → 1 ≤ place → place ≤ 28 → Contains days.patterns (Place place) → MonthsHaveDays step days
   -- the day of the start is meant where none is named, and each month has it up to the 28th
   pub start : (step : ℕ) (days : Places) → days.patterns ≡ [] → (month_day days.start).place ≤ 28 → MonthsHaveDays step days
-  -- and a year has it, but for 29 February
+  -- and each year has it, where it is not in February
   pub years : (step : ℕ) (days : Places) → days.patterns ≡ [] → days.start < 84_006 → (month_day days.start).month % 12 ≢ 1 → 1 ≤ step → MonthsHaveDays (12 * step) days

@@ -7,7 +7,7 @@ ghost use Rattle.schedules.specs.Conditions.{says, is_words, is_id, all_of, are_
 use crate::dates::day_of_text;
 use serde_json::Value;
 
-/// The greatest number that JSON writes exactly.
+/// The greatest amount that a value holds, in cents.
 const LARGEST: i64 = 9_007_199_254_740_991;
 
 /// Whether a value is this text.
@@ -68,7 +68,7 @@ fn are_words(value: Option<&Value>) -> bool
     }
 }
 
-/// A number that JSON writes exactly.
+/// A number, if it is no further from 0 than an amount may be.
 fn exact(number: i64) -> Option<i64>
     ensures value { result ≡ exact number }
     ensures held { IfSome result (λ n. HoldsNumber n) }
@@ -80,7 +80,7 @@ fn exact(number: i64) -> Option<i64>
     }
 }
 
-/// The whole number of a value.
+/// The whole number of a value, if it may be an amount.
 pub(crate) fn amount_at(value: Option<&Value>) -> Option<i64>
     ensures value { result ≡ amount_at (option_map (λ v. view v.now) value.entry) }
     ensures held { IfSome result (λ n. HoldsNumber n) }
@@ -94,7 +94,7 @@ pub(crate) fn amount_at(value: Option<&Value>) -> Option<i64>
     }
 }
 
-/// Whether a value is an object with two numbers, between which others lie.
+/// Whether a value is an object with the two ends of a range of amounts, in either order.
 fn is_between(value: Option<&Value>) -> bool
     ensures { result ≡ is_between (option_map (λ v. view v.now) value.entry) }
 {
@@ -139,7 +139,7 @@ fn is_flag(value: Option<&Value>) -> bool
     }
 }
 
-/// Whether an op compares with one value.
+/// Whether an op asks for a value, or for any other.
 fn is_same_op(op: Option<&Value>) -> bool
     ensures { result ≡ is_same_op (option_map (λ v. view v.now) op.entry) }
 {

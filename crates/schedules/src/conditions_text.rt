@@ -12,7 +12,7 @@ use serde_json::Value;
 use std::alloc::Global;
 
 /// A recurrence without spaces, each object's keys in order; one with a number that has a fraction or an exponent, is `-0` or has
-/// more than 64 bits, as it was given, and so a text that is no JSON.
+/// more than 64 bits, as it was given, like a text that is no JSON.
 fn again(alloc: Global, text: &Txt) -> Result<String, NoMemory>
     ensures { IfOk result (λ s. string_bytes s ≡ again text.now (read text.now)) }
 {

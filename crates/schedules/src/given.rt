@@ -1,4 +1,4 @@
-//! What is asked of an edit of a schedule. Each check tells its own fault.
+//! What is asked of an edit of a schedule. A check that fails tells a fault.
 ghost use Rattle.std.specs.Prelude.{◌≡◌, ◌≤ℤ◌, ◌<◌, pos, neg_ℤ, OnOk, IfOk, IfErr, Ok};
 ghost use Rattle.std.specs.Option.{is_none};
 ghost use Rattle.book_rows.specs.Live.{is_live_account, is_live_payee};

@@ -19,7 +19,7 @@ use std::alloc::Global;
 pub(crate) enum Mode {
     /// Never.
     Open,
-    /// After so many days.
+    /// After so many raw days.
     Counted,
     /// On a date.
     Dated,
@@ -175,7 +175,7 @@ fn patterns_for(
     }
 }
 
-/// The patterns of a list; none, where there is none.
+/// The patterns of a list, if each entry is one; a list that is missing has no patterns.
 fn listed(alloc: Global, value: Option<&Value>) -> Result<Option<Vec<Pattern>>, NoMemory>
     ensures { IfOk result (λ o. option_map (λ v. v.items) o ≡ listed (option_map (λ v. view v.now) value.entry)) }
 {

@@ -14,7 +14,7 @@ pub enum Frequency {
     Yearly,
 }
 
-/// A day of each month.
+/// A day of each month that has it.
 #[derive(Clone, Copy, Debug, Drop, PartialEq, Eq)]
 pub enum Pattern {
     /// This one, from 1 on.

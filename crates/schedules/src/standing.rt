@@ -78,14 +78,15 @@ fn is_near(date: Option<u32>, next: u32) -> bool
     }
 }
 
-/// Whether a live transaction that names the schedule pays for its next day.
+/// Whether a transaction pays for a schedule's next day: it is live, names the schedule, and is near that day or later.
 fn pays(book: &Book, id: &Txt, next: u32, row: &TxRow) -> bool
     ensures { result ≡ pays book.now.rows id.now next row.now }
 {
     is_live(book, row) && is_text(id, &row.schedule) && is_near(row.date, next)
 }
 
-/// Whether a transaction was not deleted, nor what it is a part of.
+/// Whether a transaction was not deleted, and what it is a part of, if anything, is there and was not
+/// deleted.
 fn is_live(book: &Book, row: &TxRow) -> bool
     ensures { result ≡ is_live_tx book.now.rows row.now }
 {
@@ -147,8 +148,8 @@ fn status_on(book: &Book, id: &Txt, day: u32) -> Option<ScheduleStatus>
     Some(by_days(next, day))
 }
 
-/// The status of a schedule on a day YYYYMMDD. There is none where no live schedule has the id. It looks at all transactions where the
-/// schedule has a next day.
+/// The status of a schedule on a day YYYYMMDD. There is none where no live schedule has the id. Where the schedule has a next day, it
+/// looks through the transactions, to the first that pays.
 pub fn status(book: &Book, id: &Txt, day: u32) -> Option<ScheduleStatus>
     requires { is_day day ≡ true }
     ensures { result ≡ status_in book.now.rows id.now day }

@@ -10,8 +10,8 @@ use crate::recurrence::{Ending, Recurrence, Weekends};
 use field_values::NoMemory;
 use std::alloc::Global;
 
-/// Where a search stands: each kept day below `at` moves to a day that was passed, and where raw days are counted, so many lie below
-/// it.
+/// Where a search stands: each kept day below `at` moves to a day before those that are searched, and where raw days are counted,
+/// `passed` of them lie below `at`.
 #[derive(Clone, Copy, Debug, Drop)]
 struct Place {
     at: u32,
@@ -102,7 +102,7 @@ pub fn occurrences(
     Ok(dates)
 }
 
-/// Where the search begins: a moved day lies at most two days on.
+/// Where the search begins: at the first day where raw days are counted, else two days before, since a day moves at most two days on.
 fn asked_from(ending: Ending, from: u32) -> u32
     ensures { result ≡ asked_from ending from }
 {

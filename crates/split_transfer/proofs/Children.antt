@@ -47,7 +47,7 @@ pub record AreNew (ids : Ids) (m : Rows) (ws : List Write) : Type 0 where
   pub new : (k : ℕ) → makes ws k ≡ true → get m.txs (ids k) ≡ None
   pub different : (j k : ℕ) → makes ws j ≡ true → makes ws k ≡ true → ids j ≡ ids k → j ≡ k
 
--- whether a row that was not there has neither partner nor parts
+-- the row, if there is one, names no partner and is not split
 abbrev IsBare : Option TxRow → Type 0
 IsBare None = Unit {0}
 IsBare (Some y) = (y.transferred_id ≡ None) × (y.is_parent ≡ false)
@@ -119,7 +119,7 @@ module _ (ids : Ids) (id : Text) (x : TxRow) where
       by true (Some y) h = h
       by false o h = h
 
-  -- a row that is made has neither partner nor parts
+  -- a row that is made names no partner and is not split
   pub made_is_bare : (ps : List SplitPart) (n : ℕ) (m : Rows) (q : Text) (y : TxRow) → get m.txs q ≡ None → get (with_writes ids m (parts_writes n id x ps)).txs q ≡ Some y → (y.transferred_id ≡ None) × (y.is_parent ≡ false)
   made_is_bare ps n m q y none there = subst IsBare there (bare ps n m q (subst IsBare (sym none) tt))
 

@@ -19,7 +19,7 @@ use Rattle.split_transfer.proofs.Basics.{some_is}
 use Rattle.split_transfer.proofs.Links.{SameLinks, same_links, KeepsLinks, pairs_from, splits_from}
 use Rattle.split_transfer.proofs.Single.{clash}
 
--- the name of a dataset of which no transaction is
+-- the name of a dataset into which a write changes no transaction
 pub record IsOther (name : Text) : Type 0 where
   pub dataset : Dataset
   pub named : name ≡ dataset_name dataset

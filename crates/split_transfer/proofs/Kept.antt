@@ -1,4 +1,4 @@
--- The parts of a transaction, which its children that were not deleted are.
+-- The parts of a transaction are its children that were not deleted.
 use Rattle.std.proofs.Common.{◌≡◌, Bool, true, false, refl, sym, ◌∙◌}
 use Rattle.std.specs.Prelude.{not, ◌&&◌}
 use lib.IntN.{ℤ}

@@ -1,4 +1,4 @@
--- What is asked of an edit of a transaction. Each check tells its own fault.
+-- What is asked of an edit of a transaction. A check that fails tells a fault.
 use Rattle.std.specs.Prelude.{ℤ, pos, ◌-ℤ◌, Bool, true, false, not, List, [], ◌∷◌, Option, None, Some, ok_or, Result, Ok, if◌then◌else◌}
 use Rattle.std.specs.Option.{is_none}
 use Rattle.std.specs.Ordering.{int_eq}
@@ -50,7 +50,7 @@ abbrev pub same_flag : Bool → Bool → Bool
 same_flag true b = b
 same_flag false b = not b
 
--- the accounts of a transaction and of another one stand both in the budget, or both outside
+-- the other transaction is there, and the accounts of both stand outside the budget, or neither does
 abbrev pub is_beside : Rows → TxRow → Text → Bool
 is_beside rows x other = some_and (λ (y : TxRow). same_flag (is_off rows x.acct) (is_off rows y.acct)) (map.get rows.txs other)
 

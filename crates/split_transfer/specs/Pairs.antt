@@ -26,7 +26,7 @@ names_back rows id other = some_and (λ y. is_text id y.transferred_id) (live_ro
 abbrev pub partner_of : Rows → Text → TxRow → Option Text
 partner_of rows id x = only_where (λ other. not (same_id other id) && names_back rows id other) x.transferred_id
 
--- a part of the transaction with this id, which was not deleted
+-- the transaction is a part of the one with this id, and was not deleted
 abbrev pub is_part : Text → TxRow → Bool
 is_part id x = is_child_of id x && not x.tombstone
 
@@ -42,6 +42,6 @@ parts_of rows id = filter (is_kept rows) (children_of rows id)
 abbrev pub share : Text → TxRow → ℤ
 share id x = only_if (is_part id x) x.amount
 
--- what the parts of a transaction add up to
+-- what the parts of a transaction that were not deleted add up to
 abbrev pub parts_sum : Rows → Text → ℤ
 parts_sum rows id = total_of (share id) rows.txs

@@ -68,7 +68,8 @@ fn is_off(book: &Book, account: &Option<Txt>) -> bool
     }
 }
 
-/// Whether the accounts of a transaction and of another one stand both in the budget, or both outside.
+/// Whether another transaction is there, and the accounts of both stand outside the budget, or
+/// neither does.
 fn is_beside(book: &Book, row: &TxRow, other: &Txt) -> bool
     ensures { result ≡ is_beside book.now.rows row.now other.now }
 {

@@ -32,7 +32,8 @@ pub(crate) fn is_text(text: &Txt, own: &Option<Txt>) -> bool
     }
 }
 
-/// Whether a transaction was not deleted, nor what it is a part of.
+/// Whether a transaction was not deleted, and what it is a part of, if anything, is there and was
+/// not deleted.
 pub(crate) fn is_live(book: &Book, row: &TxRow) -> bool
     ensures { result ≡ is_live_tx book.now.rows row.now }
 {
@@ -48,7 +49,8 @@ pub(crate) fn is_live(book: &Book, row: &TxRow) -> bool
     }
 }
 
-/// The row of a transaction, where it is live: neither it was deleted, nor what it is a part of.
+/// The row of a transaction, where it is live: it was not deleted, and what it is a part of, if
+/// anything, is there and was not deleted.
 pub fn live_row<'a>(book: &'a Book, id: &Txt) -> Option<&'a TxRow>
     ensures { option_copied result ≡ live_row book.now.rows id.now }
 {
@@ -130,7 +132,7 @@ fn sum_of(book: &Book, ids: &[Txt]) -> i128
     sum
 }
 
-/// What the parts of a transaction add up to.
+/// What the parts of a transaction that were not deleted add up to.
 pub(crate) fn parts_sum(book: &Book, id: &Txt) -> Result<i128, NoMemory>
     requires live { book.now.spent ≡ false }
     ensures sum { IfOk result (λ n. n ≡ parts_sum book.now.rows id.now) }

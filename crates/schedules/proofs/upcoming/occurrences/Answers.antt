@@ -1,8 +1,8 @@
 use Rattle.std.proofs.Common.{◌≡◌, ℕ, ◌+◌, ◌∷◌, [], ◌++◌, map, List, sym, ap, ◌∙◌, arith, append_assoc}
 use Rattle.schedules.specs.Months.{date_of}
-use Rattle.schedules.specs.Days.{said, occurrences_in}
+use Rattle.schedules.specs.Days.{said}
 use Rattle.schedules.proofs.Telling.{some_told}
-use Rattle.schedules.proofs.Listing.{goes_on, ends_late, ends_none, listed}
+use Rattle.schedules.proofs.Listing.{occurrences_in, goes_on, ends_late, ends_none, listed}
 use Rattle.schedules.proofs.upcoming.occurrences.Goals as goal
 use Rattle.schedules.proofs.upcoming.occurrences.Goals.{in-Some+then-day-to, in_default}
 

@@ -1,6 +1,7 @@
 use Rattle.std.proofs.Common.{◌≡◌, ℕ, ◌-◌, ◌++◌, map, Some}
 use Rattle.schedules.specs.Months.{date_of, day_in}
-use Rattle.schedules.specs.Days.{said, IsPast, occurrences_in}
+use Rattle.schedules.specs.Days.{said, IsPast}
+use Rattle.schedules.proofs.Listing.{occurrences_in}
 use Rattle.schedules.proofs.upcoming.occurrences.Given as goal
 
 abbrev pub invariant-loop-day : goal.invariant-loop-day
