@@ -3,7 +3,7 @@ ghost use Rattle.std.specs.Prelude.{◌≡◌, IfOk, false};
 ghost use Rattle.bank_import.specs.Matching.{candidate_at, candidates};
 
 use crate::facts::{Candidate, candidate_of};
-use crate::uncounted::of_account;
+use book_edits::uncounted::of_account;
 use book_rows::Book;
 use field_values::{NoMemory, Txt};
 use split_transfer::live_row;

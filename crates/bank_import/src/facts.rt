@@ -3,14 +3,13 @@ ghost use Rattle.std.specs.Prelude.{◌≡◌, IfOk, true};
 ghost use Rattle.std.specs.Option.{option_copied};
 ghost use Rattle.jiff_core.specs.Date.{epoch_day};
 ghost use Rattle.book_rows.specs.Kinds.{is_day};
-ghost use Rattle.book_edits.specs.Checks.{same_id};
 ghost use Rattle.rule_engine.specs.Days.{day_number};
 ghost use Rattle.bank_import.specs.Matching.{day_in, day_of, facts_of, candidate_of, are_same, days_apart, distance, is_near, meets, is_nearer};
 
+use book_edits::given::same_id;
 use book_rows::{TxRow, is_day};
 use field_values::{NoMemory, Txt};
 use jiff_core::civil::Date;
-use std::cmp::Ordering;
 
 /// What is compared of a record.
 #[derive(Debug, PartialEq, Eq, Drop)]
@@ -131,13 +130,6 @@ pub(crate) fn candidate_of(id: &Txt, row: &TxRow) -> Result<Candidate, NoMemory>
         payee: copied(&row.description)?,
         financial_id: copied(&row.financial_id)?,
     })
-}
-
-/// Whether two ids are the same.
-fn same_id(a: &Txt, b: &Txt) -> bool
-    ensures { result ≡ same_id a.now b.now }
-{
-    a.cmp(b) == Ordering::Equal
 }
 
 /// Whether both are there and equal.

@@ -20,7 +20,6 @@ mod names;
 mod payees;
 mod reading;
 mod turns;
-mod uncounted;
 mod writing;
 
 pub use edit::ImportEdit;

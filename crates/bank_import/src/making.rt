@@ -1,10 +1,8 @@
 //! The writes of an import.
 ghost use Rattle.std.specs.Prelude.{◌≡◌, ◌++◌, List, length, false, OnOk, IfOk, IfErr, Ok};
 ghost use Rattle.std.specs.List.{AllByRecursion};
-ghost use Rattle.book_rows.specs.Live.{is_live_account};
 ghost use Rattle.book_rows.specs.Writes.{AreWrites};
 ghost use Rattle.book_edits.specs.Faults.{IsEditFault};
-ghost use Rattle.book_edits.specs.Checks.{live_account};
 ghost use Rattle.bank_import.specs.declared.entry.Entry.{Entry as EntryIs};
 ghost use Rattle.bank_import.specs.Statement.{statement, HasNumbers};
 ghost use Rattle.bank_import.specs.Edits.{takes_none, filling, making, record_writes, records_writes, drafts_writes, import_writes};
@@ -14,36 +12,16 @@ use crate::edit::ImportEdit;
 use crate::matching::matched_by;
 use crate::names::{Names, new_names};
 use crate::reading::read_statement;
-use crate::uncounted::tx;
 use crate::writing::{
     missing, missing_category, missing_payee, payee_value, payee_writes, place_behind,
     push_cleared, push_entry, push_text, push_texts, push_value,
 };
+use book_edits::checks::live_account;
+use book_edits::uncounted::tx;
 use book_rows::{Book, EditFault, RowName, TxRow, Write};
 use field_values::{NoMemory, Txt};
 use split_transfer::partner_of;
 use std::alloc::Global;
-
-/// Whether a live account has this id.
-fn is_live_account(book: &Book, id: &Txt) -> bool
-    ensures { result ≡ is_live_account book.now.rows id.now }
-{
-    match book.account(id) {
-        Some(row) => !row.tombstone,
-        None => false,
-    }
-}
-
-/// An account that is live.
-fn live_account(book: &Book, id: &Txt) -> Result<(), EditFault>
-    ensures ok { OnOk result (live_account book.now.rows id.now ≡ Ok tt) }
-    ensures err { IfErr result (IsEditFault (live_account book.now.rows id.now)) }
-{
-    if is_live_account(book, id) {
-        return Ok(());
-    }
-    Err(EditFault::NoSuchAccount { id: id.copy()? })
-}
 
 /// Whether a transaction is split, or is in a pair.
 fn takes_none(book: &Book, id: &Txt, row: &TxRow) -> bool

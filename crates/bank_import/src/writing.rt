@@ -3,15 +3,16 @@ ghost use Rattle.std.specs.Prelude.{◌≡◌, ◌++◌, ◌∷◌, [], ◌+◌,
 ghost use Rattle.std.specs.Option.{option_copied};
 ghost use Rattle.field_values.specs.declared.value.Value.TheVariants.{Text as IsText};
 ghost use Rattle.book_rows.specs.declared.write.RowName.TheVariants.{Made};
-ghost use Rattle.book_rows.specs.declared.write.WriteValue.TheVariants.{Plain};
-ghost use Rattle.book_edits.specs.Writing.{write, text_or_null};
-ghost use Rattle.split_transfer.specs.Writing.{tx_write, day_or_null};
+ghost use Rattle.book_edits.specs.Writing.{write};
+ghost use Rattle.split_transfer.specs.Writing.{tx_write};
 ghost use Rattle.bank_import.specs.Edits.{value_write, text_write, missing, payee_value, missing_category, texts_writes, clearing, entry_writes, payee_writes};
 
 use crate::drafts::Draft;
 use crate::names::Names;
+use book_edits::writing::text_or_null;
 use book_rows::{RowName, TxRow, Write, WriteValue};
 use field_values::{NoMemory, Txt, Value};
+use split_transfer::day_or_null;
 use std::alloc::Global;
 
 /// Puts a write behind others.
@@ -84,26 +85,6 @@ pub(crate) fn push_text(
     match text {
         Some(text) => push_tx(alloc, writes, row, column, Value::Text(text.copy()?)),
         None => Ok(()),
-    }
-}
-
-/// A text as a value, or null where there is none.
-fn text_or_null(text: &Option<Txt>) -> Result<Value, NoMemory>
-    ensures { IfOk result (λ v. v ≡ text_or_null text.now) }
-{
-    match text {
-        Some(text) => Ok(Value::Text(text.copy()?)),
-        None => Ok(Value::Null),
-    }
-}
-
-/// A day as a value, or null where there is none.
-fn day_or_null(date: Option<u32>) -> Value
-    ensures { result ≡ day_or_null date }
-{
-    match date {
-        Some(date) => Value::Number(i64::from(date)),
-        None => Value::Null,
     }
 }
 

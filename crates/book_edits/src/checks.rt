@@ -1,5 +1,5 @@
 //! What is asked of an edit, where it asks for rows that have to be live. Each check tells its own fault.
-ghost use Rattle.std.specs.Prelude.{◌≡◌, OnOk, IfOk, IfErr, Ok, false};
+ghost use Rattle.std.specs.Prelude.{◌≡◌, OnOk, IfErr, Ok, false};
 ghost use Rattle.book_rows.specs.Live.{is_live_account, is_live_group, is_live_payee, is_live_category, is_live_category_row, has_income_group, is_income_category};
 ghost use Rattle.book_edits.specs.Faults.{IsEditFault, if_there};
 ghost use Rattle.book_edits.specs.Checks.{live_account, live_group, live_category, live_payee, no_income, without_balance};
@@ -29,7 +29,7 @@ fn is_live_group(book: &Book, id: &Txt) -> bool
 }
 
 /// Whether a live payee has this id.
-fn is_live_payee(book: &Book, id: &Txt) -> bool
+pub fn is_live_payee(book: &Book, id: &Txt) -> bool
     ensures { result ≡ is_live_payee book.now.rows id.now }
 {
     match book.payee(id) {
@@ -52,7 +52,7 @@ pub(crate) fn is_live_row(book: &Book, row: &CategoryRow) -> bool
 }
 
 /// Whether a live category has this id.
-fn is_live_category(book: &Book, id: &Txt) -> bool
+pub fn is_live_category(book: &Book, id: &Txt) -> bool
     ensures { result ≡ is_live_category book.now.rows id.now }
 {
     match book.category(id) {
@@ -91,8 +91,8 @@ fn is_income_category(book: &Book, id: &Txt) -> bool
     }
 }
 
-/// An account that is live.
-pub(crate) fn live_account(book: &Book, id: &Txt) -> Result<(), EditFault>
+/// An account that is live, or else `NoSuchAccount`.
+pub fn live_account(book: &Book, id: &Txt) -> Result<(), EditFault>
     ensures ok { OnOk result (live_account book.now.rows id.now ≡ Ok tt) }
     ensures err { IfErr result (IsEditFault (live_account book.now.rows id.now)) }
 {
@@ -113,8 +113,8 @@ pub(crate) fn live_group(book: &Book, id: &Txt) -> Result<(), EditFault>
     Err(EditFault::NoSuchGroup { id: id.copy()? })
 }
 
-/// A category that is live.
-pub(crate) fn live_category(book: &Book, id: &Txt) -> Result<(), EditFault>
+/// A category that is live, or else `NoSuchCategory`.
+pub fn live_category(book: &Book, id: &Txt) -> Result<(), EditFault>
     ensures ok { OnOk result (live_category book.now.rows id.now ≡ Ok tt) }
     ensures err { IfErr result (IsEditFault (live_category book.now.rows id.now)) }
 {
@@ -124,8 +124,8 @@ pub(crate) fn live_category(book: &Book, id: &Txt) -> Result<(), EditFault>
     Err(EditFault::NoSuchCategory { id: id.copy()? })
 }
 
-/// A category that is live, if one is given.
-pub(crate) fn maybe_live_category(book: &Book, id: &Option<Txt>) -> Result<(), EditFault>
+/// A category that is live, if one is given, or else `NoSuchCategory`.
+pub fn maybe_live_category(book: &Book, id: &Option<Txt>) -> Result<(), EditFault>
     ensures ok { OnOk result (if_there (live_category book.now.rows) id.now ≡ Ok tt) }
     ensures err { IfErr result (IsEditFault (if_there (live_category book.now.rows) id.now)) }
 {
@@ -135,7 +135,7 @@ pub(crate) fn maybe_live_category(book: &Book, id: &Option<Txt>) -> Result<(), E
     }
 }
 
-/// A payee that is live.
+/// A payee that is live, or else `NoSuchPayee`.
 pub(crate) fn live_payee(book: &Book, id: &Txt) -> Result<(), EditFault>
     ensures ok { OnOk result (live_payee book.now.rows id.now ≡ Ok tt) }
     ensures err { IfErr result (IsEditFault (live_payee book.now.rows id.now)) }
@@ -146,8 +146,8 @@ pub(crate) fn live_payee(book: &Book, id: &Txt) -> Result<(), EditFault>
     Err(EditFault::NoSuchPayee { id: id.copy()? })
 }
 
-/// A payee that is live, if one is given.
-pub(crate) fn maybe_live_payee(book: &Book, id: &Option<Txt>) -> Result<(), EditFault>
+/// A payee that is live, if one is given, or else `NoSuchPayee`.
+pub fn maybe_live_payee(book: &Book, id: &Option<Txt>) -> Result<(), EditFault>
     ensures ok { OnOk result (if_there (live_payee book.now.rows) id.now ≡ Ok tt) }
     ensures err { IfErr result (IsEditFault (if_there (live_payee book.now.rows) id.now)) }
 {

@@ -1,5 +1,5 @@
 //! What is asked of what an edit gives: ids, numbers, days and months.
-ghost use Rattle.std.specs.Prelude.{◌≡◌, ℤ, ◌≤ℤ◌, IsTrue, OnOk, IfOk, IfErr, Ok, false};
+ghost use Rattle.std.specs.Prelude.{◌≡◌, OnOk, IfOk, IfErr, Ok};
 ghost use Rattle.book_edits.specs.Faults.{IsEditFault};
 ghost use Rattle.book_edits.specs.Checks.{is_name, may_be_chosen, a_name, given_row, same_id, two_ids, a_day, a_month, is_amount, an_amount, is_held, a_held};
 
@@ -9,7 +9,7 @@ use hybrid_clock::Stamp;
 use std::cmp::Ordering;
 
 /// The greatest amount that a value holds, in cents.
-const LARGEST: i128 = 9_007_199_254_740_991;
+const LARGEST: i128 = field_values::value::LARGEST as i128;
 
 /// The most bytes of an id that a caller chooses.
 const MOST_BYTES: usize = 64;
@@ -39,8 +39,8 @@ fn may_be_chosen(id: &Txt) -> bool
     is_name(id) && id.bytes().len() <= MOST_BYTES && Stamp::parse(id.bytes()).is_err()
 }
 
-/// The row of an id that is given for a new one.
-pub(crate) fn given_row(there: bool, id: &Txt) -> Result<RowName, EditFault>
+/// The row of an id that is given for a new one: `BadId` where a caller may not choose it, else `IdTaken` where it is `there`.
+pub fn given_row(there: bool, id: &Txt) -> Result<RowName, EditFault>
     ensures ok { IfOk result (λ row. given_row there id.now ≡ Ok row) }
     ensures err { IfErr result (IsEditFault (given_row there id.now)) }
 {
@@ -54,14 +54,14 @@ pub(crate) fn given_row(there: bool, id: &Txt) -> Result<RowName, EditFault>
 }
 
 /// Whether two ids are the same.
-pub(crate) fn same_id(a: &Txt, b: &Txt) -> bool
+pub fn same_id(a: &Txt, b: &Txt) -> bool
     ensures { result ≡ same_id a.now b.now }
 {
     a.cmp(b) == Ordering::Equal
 }
 
-/// Two ids that have to differ.
-pub(crate) fn two_ids(a: &Txt, b: &Txt) -> Result<(), EditFault>
+/// Two ids that have to differ, or else `SameAccount`.
+pub fn two_ids(a: &Txt, b: &Txt) -> Result<(), EditFault>
     ensures ok { OnOk result (two_ids a.now b.now ≡ Ok tt) }
     ensures err { IfErr result (IsEditFault (two_ids a.now b.now)) }
 {
@@ -71,8 +71,8 @@ pub(crate) fn two_ids(a: &Txt, b: &Txt) -> Result<(), EditFault>
     Ok(())
 }
 
-/// A day YYYYMMDD from 1970 to 2199.
-pub(crate) fn a_day(n: u32) -> Result<(), EditFault>
+/// A day YYYYMMDD from 1970 to 2199, or else `BadDate`.
+pub fn a_day(n: u32) -> Result<(), EditFault>
     ensures { result ≡ a_day n }
 {
     if is_day(n) {
@@ -98,8 +98,8 @@ fn is_amount(n: i128) -> bool
     -LARGEST <= n && n <= LARGEST
 }
 
-/// An amount that a value holds.
-pub(crate) fn an_amount(n: i128) -> Result<(), EditFault>
+/// An amount in cents that a value holds, or else `BadAmount`.
+pub fn an_amount(n: i128) -> Result<(), EditFault>
     ensures { result ≡ an_amount n }
 {
     if is_amount(n) {

@@ -2,20 +2,23 @@
 //!
 //! An edit ([`BookEdit`]) is checked against the rows of a book in a fixed order, and gives its writes in a fixed order
 //! ([`writes`]). It changes nothing itself.
+//!
+//! The edits of other crates use the same checks ([`checks`], [`given`]), writes ([`writing`]) and look-ups ([`uncounted`]).
 #![tactic(auto)]
 
 mod accounts;
 mod budgets;
 mod categories;
-mod checks;
+pub mod checks;
 mod edit;
-mod given;
+pub mod given;
 mod laws;
 mod making;
 mod names;
 mod set;
 mod transactions;
-mod writing;
+pub mod uncounted;
+pub mod writing;
 
 pub use edit::BookEdit;
 pub use laws::{ids_alone_choose, moves_keep_money, names_are_told};

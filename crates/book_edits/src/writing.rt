@@ -9,28 +9,28 @@ use field_values::{NoMemory, Txt, Value};
 use std::alloc::Global;
 
 /// A flag as a number.
-pub(crate) fn flag(set: bool) -> Value
+pub fn flag(set: bool) -> Value
     ensures { result ≡ flag set }
 {
     Value::Number(if set { 1 } else { 0 })
 }
 
 /// A month or a day as a value.
-pub(crate) fn number(n: u32) -> Value
+pub fn number(n: u32) -> Value
     ensures { result ≡ Number (pos n) }
 {
     Value::Number(i64::from(n))
 }
 
 /// A text as a value.
-pub(crate) fn text(text: &Txt) -> Result<Value, NoMemory>
+pub fn text(text: &Txt) -> Result<Value, NoMemory>
     ensures { IfOk result (λ v. v ≡ IsText text.now) }
 {
     Ok(Value::Text(text.copy()?))
 }
 
 /// A text as a value, or null where there is none.
-pub(crate) fn text_or_null(text: &Option<Txt>) -> Result<Value, NoMemory>
+pub fn text_or_null(text: &Option<Txt>) -> Result<Value, NoMemory>
     ensures { IfOk result (λ v. v ≡ text_or_null text.now) }
 {
     match text {
@@ -40,7 +40,7 @@ pub(crate) fn text_or_null(text: &Option<Txt>) -> Result<Value, NoMemory>
 }
 
 /// Notes as a value, or null where they are empty.
-pub(crate) fn notes_value(notes: &Txt) -> Result<Value, NoMemory>
+pub fn notes_value(notes: &Txt) -> Result<Value, NoMemory>
     ensures { IfOk result (λ v. v ≡ notes_value notes.now) }
 {
     if notes.bytes().is_empty() {
@@ -60,7 +60,7 @@ pub(crate) fn id_value(row: &RowName) -> Result<WriteValue, NoMemory>
 }
 
 /// Puts the write of a value behind others.
-pub(crate) fn push(
+pub fn push(
     alloc: Global,
     writes: &mut Vec<Write>,
     dataset: &str,
@@ -81,7 +81,7 @@ pub(crate) fn push(
 }
 
 /// The one write of a value into a row of this id.
-pub(crate) fn one(
+pub fn one(
     alloc: Global,
     dataset: &str,
     id: &Txt,

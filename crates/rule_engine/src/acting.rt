@@ -1,58 +1,15 @@
 //! What an action makes of a transaction.
 ghost use Rattle.std.specs.Prelude.{◌≡◌, ◌++◌, IfOk};
-ghost use Rattle.book_rows.specs.Live.{is_live_group, is_live_payee, is_live_category, is_live_category_row};
-ghost use Rattle.rule_engine.specs.Conditions.{or_empty};
+ghost use Rattle.book_rows.specs.Live.{is_live_payee, is_live_category};
 ghost use Rattle.rule_engine.specs.Running.{noted, if_given, takes_none, acted};
 
 use crate::holding::or_empty;
 use crate::rule::Action;
-use book_rows::{Book, CategoryRow, TxRow};
+use book_edits::checks::{is_live_category, is_live_payee};
+use book_rows::{Book, TxRow};
 use field_values::{NoMemory, Txt};
 use split_transfer::partner_of;
 use std::alloc::Global;
-
-/// Whether a live group has this id.
-fn is_live_group(book: &Book, id: &Txt) -> bool
-    ensures { result ≡ is_live_group book.now.rows id.now }
-{
-    match book.group(id) {
-        Some(row) => !row.tombstone,
-        None => false,
-    }
-}
-
-/// Whether neither a category nor its group was deleted, and its group is there.
-fn is_live_row(book: &Book, row: &CategoryRow) -> bool
-    ensures { result ≡ is_live_category_row book.now.rows row.now }
-{
-    if row.tombstone {
-        return false;
-    }
-    match &row.cat_group {
-        Some(group) => is_live_group(book, group),
-        None => false,
-    }
-}
-
-/// Whether a live category has this id.
-fn is_live_category(book: &Book, id: &Txt) -> bool
-    ensures { result ≡ is_live_category book.now.rows id.now }
-{
-    match book.category(id) {
-        Some(row) => is_live_row(book, row),
-        None => false,
-    }
-}
-
-/// Whether a live payee has this id.
-fn is_live_payee(book: &Book, id: &Txt) -> bool
-    ensures { result ≡ is_live_payee book.now.rows id.now }
-{
-    match book.payee(id) {
-        Some(row) => !row.tombstone,
-        None => false,
-    }
-}
 
 /// Whether a payee is live, or none is given.
 fn may_have_payee(book: &Book, id: &Option<Txt>) -> bool

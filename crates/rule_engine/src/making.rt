@@ -7,7 +7,6 @@ ghost use Rattle.book_rows.specs.Writes.{AreWrites};
 ghost use Rattle.book_edits.specs.Faults.{IsEditFault, must};
 ghost use Rattle.split_transfer.specs.Checks.{each};
 ghost use Rattle.rule_engine.specs.Reading.{read_part, condition_of, action_of};
-ghost use Rattle.rule_engine.specs.Running.{rules_of};
 ghost use Rattle.rule_engine.specs.Edits.{readable, rule_row_writes, rule_add, rule_delete, changes, distinct, rules_run, rule_writes};
 
 use crate::edit::RuleEdit;
@@ -15,7 +14,8 @@ use crate::given::new_rule;
 use crate::reading::{actions_in, conditions_in};
 use crate::rule::{Rule, RuleOp, Stage};
 use crate::running::{rules_of, run_rules};
-use crate::writing::{flag, op_value, push, push_changed, stage_value, text};
+use crate::writing::{op_value, push_changed, stage_value};
+use book_edits::writing::{flag, push, text};
 use book_rows::{Book, EditFault, RowName, RulePart, Write};
 use field_values::{NoMemory, Txt};
 use split_transfer::live_row;

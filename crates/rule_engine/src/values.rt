@@ -1,17 +1,14 @@
 //! Single JSON values.
-ghost use Rattle.std.specs.Prelude.{◌≡◌, IfOk, option_map, option_and_then, codes};
-ghost use Rattle.std.specs.Option.{option_copied};
+ghost use Rattle.std.specs.Prelude.{◌≡◌, IfOk, option_map, option_and_then};
 ghost use Rattle.serde_json.specs.View.{view, items_view};
 ghost use Rattle.serde_json.specs.Find.{get, as_str};
 ghost use Rattle.rule_engine.specs.Reading.{all_read, ok_of, entries_of, as_texts, as_held, as_amount, as_day, as_maybe_text, text_at, is_set, asks_direction};
 
 use crate::days::day_of_text;
+use field_values::value::LARGEST;
 use field_values::{Items, NoMemory, Txt};
 use serde_json::Value;
 use std::alloc::Global;
-
-/// The greatest amount that a value of a field holds, in cents.
-const LARGEST: i64 = 9_007_199_254_740_991;
 
 /// A copy of the text that a value is.
 pub(crate) fn text(alloc: Global, value: &Value) -> Result<Option<Txt>, NoMemory>

@@ -1,40 +1,15 @@
 //! The writes of edits, one by one.
-ghost use Rattle.std.specs.Prelude.{◌≡◌, ◌++◌, ◌∷◌, [], OnOk, IfOk};
+ghost use Rattle.std.specs.Prelude.{◌≡◌, ◌++◌, OnOk, IfOk};
 ghost use Rattle.field_values.specs.declared.value.Value.TheVariants.{Text as IsText};
-ghost use Rattle.book_rows.specs.declared.write.RowName.TheVariants.{Given};
-ghost use Rattle.book_edits.specs.Writing.{write, flag, text_or_null};
 ghost use Rattle.rule_engine.specs.Edits.{stage_value, op_text, same_text, changed_text, changed_flag, changed};
 
 use crate::holding::same_flag;
 use crate::rule::{RuleOp, Stage};
-use book_rows::{RowName, TxRow, Write, WriteValue};
+use book_edits::writing::{flag, push, text_or_null};
+use book_rows::{RowName, TxRow, Write};
 use field_values::{NoMemory, Txt, Value};
 use std::alloc::Global;
 use std::cmp::Ordering;
-
-/// A flag as a number.
-pub(crate) fn flag(set: bool) -> Value
-    ensures { result ≡ flag set }
-{
-    Value::Number(if set { 1 } else { 0 })
-}
-
-/// A text as a value.
-pub(crate) fn text(text: &Txt) -> Result<Value, NoMemory>
-    ensures { IfOk result (λ v. v ≡ IsText text.now) }
-{
-    Ok(Value::Text(text.copy()?))
-}
-
-/// A text as a value, or null where there is none.
-fn text_or_null(text: &Option<Txt>) -> Result<Value, NoMemory>
-    ensures { IfOk result (λ v. v ≡ text_or_null text.now) }
-{
-    match text {
-        Some(text) => Ok(Value::Text(text.copy()?)),
-        None => Ok(Value::Null),
-    }
-}
 
 /// A stage as a value.
 pub(crate) fn stage_value(alloc: Global, stage: Stage) -> Result<Value, NoMemory>
@@ -55,27 +30,6 @@ pub(crate) fn op_value(alloc: Global, op: RuleOp) -> Result<Value, NoMemory>
         RuleOp::And => Ok(Value::Text(Txt::from_text(alloc, "and")?)),
         RuleOp::Or => Ok(Value::Text(Txt::from_text(alloc, "or")?)),
     }
-}
-
-/// Puts the write of a value behind others.
-pub(crate) fn push(
-    alloc: Global,
-    writes: &mut Vec<Write>,
-    dataset: &str,
-    row: &RowName,
-    column: &str,
-    value: Value,
-) -> Result<(), NoMemory>
-    ensures { OnOk result (writes.new.items ≡ writes.old.items ++ write dataset.now row.now column.now value ∷ []) }
-{
-    let write = Write {
-        dataset: Txt::from_text(alloc, dataset)?,
-        row: row.copy()?,
-        column: Txt::from_text(alloc, column)?,
-        value: WriteValue::Plain(value),
-    };
-    writes.push(write)?;
-    Ok(())
 }
 
 /// Whether two texts that may be absent are the same.

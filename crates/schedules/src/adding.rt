@@ -5,11 +5,14 @@ ghost use Rattle.schedules.specs.Days.{said};
 ghost use Rattle.schedules.specs.Edits.{first_day, add_writes, schedule_add};
 
 use crate::conditions_text::conditions_text;
-use crate::given::{an_amount, live_account, maybe_live_payee, new_schedule};
+use crate::given::new_schedule;
 use crate::reading::read_recur;
 use crate::recurrence::Recurrence;
 use crate::upcoming::first_from;
-use crate::writing::{date, flag, push, push_rule, text, word};
+use crate::writing::{date, push_rule, word};
+use book_edits::checks::{live_account, maybe_live_payee};
+use book_edits::given::an_amount;
+use book_edits::writing::{flag, push, text};
 use book_rows::{Book, EditFault, RecurPart, RowName, Write};
 use field_values::{NoMemory, Txt, Value};
 use std::alloc::Global;
@@ -77,7 +80,7 @@ pub(crate) fn schedule_add(
     let row = new_schedule(book, id)?;
     live_account(book, account)?;
     maybe_live_payee(book, payee)?;
-    an_amount(amount)?;
+    an_amount(i128::from(amount))?;
     let recurrence = read_recur(alloc, recur)?;
     let day = first_day(&recurrence)?;
     let conditions = conditions_text(alloc, account, payee, amount, recur)?;

@@ -1,14 +1,15 @@
 //! Going on with a schedule, and deleting it.
-ghost use Rattle.std.specs.Prelude.{◌≡◌, ◌<◌, ◌+◌, ◌∷◌, [], codes, IfOk, IfErr, IfSome, Ok};
+ghost use Rattle.std.specs.Prelude.{◌≡◌, ◌<◌, ◌∷◌, [], IfOk, IfErr, IfSome, Ok};
 ghost use Rattle.book_edits.specs.Faults.{IsEditFault};
-ghost use Rattle.schedules.specs.Days.{said, next_from};
 ghost use Rattle.schedules.specs.Terms.{agreed};
 ghost use Rattle.schedules.specs.Edits.{post_writes, schedule_post, skip_write, schedule_skip, schedule_delete};
 
-use crate::given::{live_account, live_schedule, not_done};
+use crate::given::{live_schedule, not_done};
 use crate::terms::{Agreed, terms_of};
 use crate::upcoming::first_from;
-use crate::writing::{date, flag, one, push, text, text_or_null};
+use crate::writing::date;
+use book_edits::checks::live_account;
+use book_edits::writing::{flag, one, push, text, text_or_null};
 use book_rows::{Book, EditFault, RowName, Write};
 use field_values::{NoMemory, Txt, Value};
 use std::alloc::Global;
@@ -64,8 +65,8 @@ fn skip_writes(alloc: Global, id: &Txt, next: Option<u32>) -> Result<Vec<Write>,
     ensures { IfOk result (λ ws. ws.items ≡ skip_write id.now next ∷ []) }
 {
     match next {
-        None => one(alloc, id, "completed", flag(true)),
-        Some(day) => one(alloc, id, "next_date", date(day)),
+        None => one(alloc, "schedules", id, "completed", flag(true)),
+        Some(day) => one(alloc, "schedules", id, "next_date", date(day)),
     }
 }
 
@@ -87,5 +88,5 @@ pub(crate) fn schedule_delete(alloc: Global, book: &Book, id: &Txt) -> Result<Ve
     ensures err { IfErr result (IsEditFault (schedule_delete book.now.rows id.now)) }
 {
     live_schedule(book, id)?;
-    Ok(one(alloc, id, "tombstone", flag(true))?)
+    Ok(one(alloc, "schedules", id, "tombstone", flag(true))?)
 }

@@ -1,14 +1,12 @@
 //! Whether the JSON of a rule's conditions and actions can be read.
-ghost use Rattle.std.specs.Prelude.{◌≡◌, Some, IfSome, option_map, option_and_then};
+ghost use Rattle.std.specs.Prelude.{◌≡◌, Some, IfSome, option_map};
 ghost use Rattle.serde_json.specs.View.{view, items_view};
 ghost use Rattle.field_values.specs.Value.{HoldsNumber};
 ghost use Rattle.schedules.specs.Conditions.{says, is_words, is_id, all_of, are_words, exact, amount_at, is_between, is_date, is_keyed, is_flag, is_same_op, is_list_op, is_part_op, is_near_op, is_order_op, is_account_field, is_payee_field, is_id_field, is_words_field, is_id_test, is_words_test, is_amount_test, is_date_test, is_flag_test, is_test, is_set, asks_way, is_condition, is_set_op, is_words_op, is_setting, is_action};
 
 use crate::dates::day_of_text;
+use field_values::value::LARGEST;
 use serde_json::Value;
-
-/// The greatest amount that a value holds, in cents.
-const LARGEST: i64 = 9_007_199_254_740_991;
 
 /// Whether a value is this text.
 pub(crate) fn says(value: Option<&Value>, word: &str) -> bool

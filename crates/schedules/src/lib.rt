@@ -21,7 +21,6 @@ mod reading;
 mod recurrence;
 mod standing;
 mod terms;
-mod uncounted;
 mod upcoming;
 mod writing;
 

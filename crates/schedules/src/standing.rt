@@ -1,6 +1,6 @@
 //! The status of a schedule.
 ghost use Rattle.std.specs.Prelude.{◌≡◌, ◌<◌, ◌+◌, nat_le, true, IfSome};
-ghost use Rattle.std.specs.Option.{option_copied, option_map, option_and_then};
+ghost use Rattle.std.specs.Option.{option_copied, option_and_then};
 ghost use Rattle.book_rows.specs.Kinds.{is_day};
 ghost use Rattle.book_rows.specs.Live.{is_live_tx};
 ghost use Rattle.book_rows.specs.Parts.{is_text};
@@ -9,7 +9,7 @@ ghost use Rattle.schedules.specs.Months.{day_in};
 ghost use Rattle.schedules.specs.Status.{next_day, pays, is_paid, by_days, live_row, status_of, status_in};
 
 use crate::month::{day_in, day_of};
-use crate::uncounted::{tx, txs};
+use book_edits::uncounted::{tx, txs};
 use book_rows::{Book, ScheduleRow, TxRow};
 use field_values::Txt;
 use std::cmp::Ordering;

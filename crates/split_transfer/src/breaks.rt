@@ -1,10 +1,10 @@
 //! The pairs and splits that are wrong.
 ghost use Rattle.std.specs.Prelude.{◌≡◌, ◌++◌, ◌-ℤ◌, false, string_bytes, IfOk, OnOk};
 ghost use Rattle.split_transfer.specs.Pairs.{parts_sum};
-ghost use Rattle.split_transfer.specs.Broken.{same_day, are_opposite, is_paired, transfer_line, told_transfer, told_split, told_of, broken};
+ghost use Rattle.split_transfer.specs.Broken.{same_day, are_opposite, is_paired, told_transfer, told_split, told_of, broken};
 
 use crate::pairs::{is_live, partner_of, parts_sum};
-use crate::uncounted::{tx, txs};
+use book_edits::uncounted::{tx, txs};
 use book_rows::{Book, TxRow};
 use field_values::{NoMemory, Txt};
 use itoa::Buffer;

@@ -10,10 +10,12 @@ ghost use Rattle.split_transfer.specs.Changes.{set_date, set_amount, set_account
 
 use crate::checks::{live_tx, no_child, no_pair, stays_even, takes_category};
 use crate::edit::TxChange;
-use crate::fields::{day, flag, notes_value, text, text_or_null};
-use crate::given::{a_day, an_amount, live_account, maybe_live_payee, maybe_live_schedule};
+use crate::given::maybe_live_schedule;
 use crate::pairs::{partner_of, parts_of};
 use crate::writing::{one, push, push_each, push_maybe};
+use book_edits::checks::{live_account, maybe_live_payee};
+use book_edits::given::{a_day, an_amount};
+use book_edits::writing::{flag, notes_value, number, text, text_or_null};
 use book_rows::{Book, EditFault, Write};
 use field_values::{NoMemory, Txt, Value};
 use std::alloc::Global;
@@ -49,7 +51,7 @@ fn set_date(alloc: Global, book: &Book, id: &Txt, date: u32) -> Result<Vec<Write
     no_child(id, row)?;
     a_day(date)?;
     let partner = partner_of(book, id, row);
-    Ok(on_all(alloc, book, id, partner, "date", day(date))?)
+    Ok(on_all(alloc, book, id, partner, "date", number(date))?)
 }
 
 /// The writes of an amount into a transaction, and of another one into a transaction that may be there.
@@ -76,7 +78,7 @@ fn set_amount(alloc: Global, book: &Book, id: &Txt, amount: i64) -> Result<Vec<W
 {
     let row = live_tx(book, id)?;
     no_child(id, row)?;
-    an_amount(amount)?;
+    an_amount(i128::from(amount))?;
     stays_even(book, id, row, amount)?;
     let partner = partner_of(book, id, row);
     Ok(amount_writes(alloc, id, amount, partner, -amount)?)

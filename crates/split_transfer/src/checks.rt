@@ -5,9 +5,9 @@ ghost use Rattle.book_edits.specs.Faults.{IsEditFault};
 ghost use Rattle.split_transfer.specs.Pairs.{partner_of};
 ghost use Rattle.split_transfer.specs.Checks.{live_tx, no_child, no_parent, no_pair, is_off, is_beside, no_even_pair, takes_category, no_rest, stays_even};
 
-use crate::given::live_category;
 use crate::pairs::{live_row, partner_of, parts_sum};
-use crate::uncounted::tx;
+use book_edits::checks::live_category;
+use book_edits::uncounted::tx;
 use book_rows::{Book, EditFault, TxRow};
 use field_values::Txt;
 

@@ -16,11 +16,11 @@ mod making;
 mod pairs;
 mod splits;
 mod transfers;
-mod uncounted;
 mod writing;
 
 pub use breaks::broken;
 pub use edit::{PairEdit, SplitPart, TxChange};
+pub use fields::day_or_null;
 pub use laws::{
     broken_tells_all, links_are_told, pairs_and_splits_stay_right,
     plain_edits_keep_pairs_and_splits,

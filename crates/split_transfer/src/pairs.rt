@@ -6,21 +6,13 @@ ghost use Rattle.finite_sums.specs.Sums.{total, only_if};
 ghost use Rattle.finite_sums.specs.Maps.{value_or_zero};
 ghost use Rattle.book_rows.specs.Live.{is_live_tx};
 ghost use Rattle.book_rows.specs.Parts.{is_text};
-ghost use Rattle.book_edits.specs.Checks.{same_id};
 ghost use Rattle.split_transfer.specs.Pairs.{live_row, names_back, partner_of, is_kept, parts_of, parts_sum};
 
-use crate::uncounted::{children, tx};
+use book_edits::given::same_id;
+use book_edits::uncounted::{children, tx};
 use book_rows::{Book, TxRow};
 use field_values::{NoMemory, Txt};
 use std::alloc::Global;
-use std::cmp::Ordering;
-
-/// Whether two ids are the same.
-pub(crate) fn same_id(a: &Txt, b: &Txt) -> bool
-    ensures { result ≡ same_id a.now b.now }
-{
-    a.cmp(b) == Ordering::Equal
-}
 
 /// Whether the text is there and is this one.
 pub(crate) fn is_text(text: &Txt, own: &Option<Txt>) -> bool

@@ -13,10 +13,12 @@ ghost use Rattle.split_transfer.specs.Splits.{part_writes, parts_writes, split_w
 
 use crate::checks::{live_tx, no_child, no_pair, no_rest};
 use crate::edit::SplitPart;
-use crate::fields::{day_or_null, flag, text, text_or_null};
-use crate::given::{an_amount, maybe_live_category};
+use crate::fields::day_or_null;
 use crate::pairs::parts_of;
 use crate::writing::{push, push_each, push_entry, push_made};
+use book_edits::checks::maybe_live_category;
+use book_edits::given::an_amount;
+use book_edits::writing::{flag, text, text_or_null};
 use book_rows::{Book, EditFault, TxRow, Write};
 use field_values::{NoMemory, Txt, Value};
 use std::alloc::Global;
@@ -27,7 +29,7 @@ fn all_amounts(parts: &[SplitPart]) -> Result<(), EditFault>
     ensures err { IfErr result (IsEditFault (each (λ p. an_amount p.amount) parts.now)) }
 {
     for part in parts {
-        an_amount(part.amount)?;
+        an_amount(i128::from(part.amount))?;
     }
     Ok(())
 }

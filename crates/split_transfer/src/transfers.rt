@@ -4,10 +4,12 @@ ghost use Rattle.std.specs.Option.{option_copied};
 ghost use Rattle.book_edits.specs.Faults.{IsEditFault};
 ghost use Rattle.split_transfer.specs.Transfers.{stands_for, payee_for, half_writes, transfer};
 
-use crate::fields::{day, maybe_text, notes_value, text};
-use crate::given::{a_day, an_amount, live_account, two_ids};
+use crate::fields::maybe_text;
 use crate::pairs::is_text;
 use crate::writing::{push_entry, push_id, push_made};
+use book_edits::checks::live_account;
+use book_edits::given::{a_day, an_amount, two_ids};
+use book_edits::writing::{notes_value, number, text};
 use book_rows::{Book, EditFault, PayeeRow, Write};
 use field_values::{NoMemory, Txt};
 use std::alloc::Global;
@@ -45,7 +47,7 @@ fn push_half(
 ) -> Result<(), NoMemory>
     ensures { OnOk result (writes.new.items ≡ writes.old.items ++ half_writes at account.now date amount (option_copied payee.entry) notes.now other) }
 {
-    push_entry(alloc, writes, at, text(account)?, day(date), amount)?;
+    push_entry(alloc, writes, at, text(account)?, number(date), amount)?;
     push_made(alloc, writes, at, "description", maybe_text(payee)?)?;
     push_made(alloc, writes, at, "notes", notes_value(notes)?)?;
     push_id(alloc, writes, at, "transferred_id", other)
@@ -68,7 +70,7 @@ pub(crate) fn transfer(
     live_account(book, to)?;
     two_ids(from, to)?;
     a_day(date)?;
-    an_amount(amount)?;
+    an_amount(i128::from(amount))?;
     let mut writes = Vec::new(alloc);
     let there = payee_for(book, to);
     push_half(alloc, &mut writes, 0, from, date, -amount, there, notes, 6)?;

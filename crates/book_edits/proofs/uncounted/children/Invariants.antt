@@ -1,4 +1,4 @@
-use Rattle.split_transfer.proofs.uncounted.children.Given as goal
+use Rattle.book_edits.proofs.uncounted.children.Given as goal
 
 -- the counter's ledger is the blank one's
 abbrev pub ghosts-children_over : goal.ghosts-children_over

@@ -1,4 +1,4 @@
-use Rattle.split_transfer.proofs.uncounted.txs.Given as goal
+use Rattle.book_edits.proofs.uncounted.txs.Given as goal
 
 -- the counter's ledger is the blank one's
 abbrev pub ghosts-txs_over : goal.ghosts-txs_over

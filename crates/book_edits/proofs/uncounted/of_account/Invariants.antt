@@ -1,4 +1,4 @@
-use Rattle.bank_import.proofs.uncounted.of_account.Given as goal
+use Rattle.book_edits.proofs.uncounted.of_account.Given as goal
 
 -- the counter's ledger is the blank one's
 abbrev pub ghosts-of_account_over : goal.ghosts-of_account_over

@@ -1,4 +1,4 @@
-use Rattle.schedules.proofs.uncounted.tx.Given as goal
+use Rattle.book_edits.proofs.uncounted.tx.Given as goal
 
 -- the counter's ledger is the blank one's
 abbrev pub ghosts-tx_over : goal.ghosts-tx_over

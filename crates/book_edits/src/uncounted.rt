@@ -2,7 +2,7 @@
 ghost use Rattle.std.specs.Prelude.{◌≡◌, ◌≤◌, IfOk, false};
 ghost use Rattle.std.specs.Option.{option_copied};
 ghost use Rattle.std.specs.FinMap as map;
-ghost use Rattle.book_rows.specs.Parts.{children_of};
+ghost use Rattle.book_rows.specs.Parts.{children_of, account_txs};
 
 use book_rows::{Book, TxRow};
 use field_values::{Items, NoMemory, Steps, Txt};
@@ -22,7 +22,7 @@ fn tx_over<'a, G: Ledger>(book: &'a Book, id: &Txt, blank: Blank) -> Option<&'a 
 }
 
 /// The row of a transaction.
-pub(crate) fn tx<'a>(book: &'a Book, id: &Txt) -> Option<&'a TxRow>
+pub fn tx<'a>(book: &'a Book, id: &Txt) -> Option<&'a TxRow>
     ensures { option_copied result ≡ map.get book.now.rows.txs id.now }
 {
     tx_over::<Brand>(book, id, Blank::new(1))
@@ -40,7 +40,7 @@ fn txs_over<G: Ledger>(book: &Book, blank: Blank) -> &BTreeMap<Txt, TxRow>
 }
 
 /// The rows of all transactions, by id, dead or alive.
-pub(crate) fn txs(book: &Book) -> &BTreeMap<Txt, TxRow>
+pub fn txs(book: &Book) -> &BTreeMap<Txt, TxRow>
     ensures { result.now.entries ≡ map.entries book.now.rows.txs }
 {
     txs_over::<Brand>(book, Blank::new(1))
@@ -59,9 +59,29 @@ fn children_over<G: Ledger>(book: &Book, id: &Txt, blank: Blank) -> Result<Items
 }
 
 /// The ids of the parts of a transaction, dead or alive, in order.
-pub(crate) fn children(book: &Book, id: &Txt) -> Result<Items<Txt>, NoMemory>
+pub fn children(book: &Book, id: &Txt) -> Result<Items<Txt>, NoMemory>
     requires live { book.now.spent ≡ false }
     ensures { IfOk result (λ v. v ≡ children_of book.now.rows id.now) }
 {
     children_over::<Brand>(book, id, Blank::new(1))
+}
+
+/// The ids of the transactions of an account, over a counter of their own.
+fn of_account_over<G: Ledger>(book: &Book, id: &Txt, blank: Blank) -> Result<Items<Txt>, NoMemory>
+    requires name { blank.name ≡ G.name }
+    requires parts { blank.parts ≡ G.parts }
+    requires some { 1 ≤ G.parts }
+    requires live { book.now.spent ≡ false }
+    ensures { IfOk result (λ v. v ≡ account_txs book.now.rows id.now) }
+{
+    let mut steps = Steps::<G>::new(blank);
+    book.of_account(id, &mut steps)
+}
+
+/// The ids of the transactions of an account, dead or alive, in order.
+pub fn of_account(book: &Book, id: &Txt) -> Result<Items<Txt>, NoMemory>
+    requires live { book.now.spent ≡ false }
+    ensures { IfOk result (λ v. v ≡ account_txs book.now.rows id.now) }
+{
+    of_account_over::<Brand>(book, id, Blank::new(1))
 }
