@@ -2,13 +2,14 @@
 ghost use Rattle.std.specs.Prelude.{◌≡◌, IfOk, map};
 ghost use Rattle.rule_engine.specs.Running.{rules_of};
 ghost use Rattle.bank_import.specs.Matching.{facts_of};
-ghost use Rattle.bank_import.specs.Drafts.{new_tx, payee_of, wanted_by, draft_of};
+ghost use Rattle.bank_import.specs.Drafts.{new_tx, wanted_by, draft_of};
 ghost use Rattle.bank_import.specs.Named.{ArePayees};
 ghost use Rattle.bank_import.specs.declared.drafts.Draft.{Draft as DraftIs};
 
 use crate::entry::Entry;
-use crate::facts::{Facts, copied, facts_of};
+use crate::facts::{Facts, facts_of};
 use crate::payees::{payee_of, payees_of};
+use book_edits::writing::copied;
 use book_rows::{Book, TxRow};
 use field_values::{NoMemory, Txt};
 use rule_engine::{Rule, rules_of, run_rules};

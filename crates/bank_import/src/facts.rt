@@ -7,6 +7,7 @@ ghost use Rattle.rule_engine.specs.Days.{day_number};
 ghost use Rattle.bank_import.specs.Matching.{day_in, day_of, facts_of, candidate_of, are_same, days_apart, distance, is_near, meets, is_nearer};
 
 use book_edits::given::same_id;
+use book_edits::writing::copied;
 use book_rows::{TxRow, is_day};
 use field_values::{NoMemory, Txt};
 use jiff_core::civil::Date;
@@ -48,16 +49,6 @@ pub(crate) enum Pass {
     ByPayee,
     /// The amount, and nearly the day.
     ByAmount,
-}
-
-/// A copy of a text that may be absent.
-pub(crate) fn copied(text: &Option<Txt>) -> Result<Option<Txt>, NoMemory>
-    ensures { IfOk result (λ t. t ≡ text.now) }
-{
-    match text {
-        Some(text) => Ok(Some(text.copy()?)),
-        None => Ok(None),
-    }
 }
 
 impl Candidate {

@@ -13,11 +13,12 @@ use crate::matching::matched_by;
 use crate::names::{Names, new_names};
 use crate::reading::read_statement;
 use crate::writing::{
-    missing, missing_category, missing_payee, payee_value, payee_writes, place_behind,
-    push_cleared, push_entry, push_text, push_texts, push_value,
+    missing, missing_category, missing_payee, payee_value, payee_writes, push_cleared, push_entry,
+    push_text, push_texts, push_value,
 };
 use book_edits::checks::live_account;
 use book_edits::uncounted::tx;
+use book_edits::writing::place_behind;
 use book_rows::{Book, EditFault, RowName, TxRow, Write};
 use field_values::{NoMemory, Txt};
 use split_transfer::partner_of;

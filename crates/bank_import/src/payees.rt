@@ -1,13 +1,11 @@
 //! Payees by their names.
-ghost use Rattle.std.specs.Prelude.{◌≡◌, IfOk, option_map};
+ghost use Rattle.std.specs.Prelude.{◌≡◌, IfOk};
 ghost use Rattle.std.specs.BTreeMap as tree;
-ghost use Rattle.finite_sums.specs.Maps.{Text, text_cmp};
 ghost use Rattle.rule_engine.specs.Conditions.{folded};
-ghost use Rattle.bank_import.specs.Drafts.{key_of, payee_named, payee_of};
+ghost use Rattle.bank_import.specs.Drafts.{key_of, payee_of};
 ghost use Rattle.bank_import.specs.Named.{ArePayees};
 
 use crate::entry::Entry;
-use crate::facts::copied;
 use book_rows::{Book, PayeeRow};
 use caseless::default_case_fold_str;
 use field_values::{NoMemory, Txt};

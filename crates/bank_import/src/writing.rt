@@ -9,7 +9,7 @@ ghost use Rattle.bank_import.specs.Edits.{value_write, text_write, missing, paye
 
 use crate::drafts::Draft;
 use crate::names::Names;
-use book_edits::writing::text_or_null;
+use book_edits::writing::{place_behind, text_or_null};
 use book_rows::{RowName, TxRow, Write, WriteValue};
 use field_values::{NoMemory, Txt, Value};
 use split_transfer::day_or_null;
@@ -193,16 +193,6 @@ pub(crate) fn push_entry(
     push_tx(alloc, writes, row, "acct", text_or_null(&new.acct)?)?;
     push_tx(alloc, writes, row, "date", day_or_null(new.date))?;
     push_tx(alloc, writes, row, "amount", Value::Number(new.amount))
-}
-
-/// The place behind some writes. There is no memory for 4,294,967,296 of them.
-pub(crate) fn place_behind(writes: &Vec<Write>) -> Result<u32, NoMemory>
-    ensures { IfOk result (λ at. at ≡ length writes.now.items) }
-{
-    match u32::try_from(writes.len()) {
-        Ok(at) => Ok(at),
-        Err(_) => Err(NoMemory),
-    }
 }
 
 /// Puts the write of a new payee behind others.

@@ -1,11 +1,12 @@
 //! What is asked of an edit, where it asks for rows that have to be live. Each check tells its own fault.
 ghost use Rattle.std.specs.Prelude.{◌≡◌, OnOk, IfErr, Ok, false};
-ghost use Rattle.book_rows.specs.Live.{is_live_account, is_live_group, is_live_payee, is_live_category, is_live_category_row, has_income_group, is_income_category};
+ghost use Rattle.book_rows.specs.Live.{is_live_account, is_live_group, is_live_payee, is_live_category, is_live_category_row, has_income_group, is_income_category, is_live_tx};
 ghost use Rattle.book_edits.specs.Faults.{IsEditFault, if_there};
 ghost use Rattle.book_edits.specs.Checks.{live_account, live_group, live_category, live_payee, no_income, without_balance};
 ghost use Rattle.book_edits.specs.Categories.{takes_income};
 
-use book_rows::{Book, CategoryRow, EditFault};
+use crate::uncounted::tx;
+use book_rows::{Book, CategoryRow, EditFault, TxRow};
 use field_values::Txt;
 
 /// Whether a live account has this id.
@@ -87,6 +88,26 @@ fn is_income_category(book: &Book, id: &Txt) -> bool
 {
     match book.category(id) {
         Some(row) => is_live_row(book, row) && has_income_group(book, row),
+        None => false,
+    }
+}
+
+/// Whether a transaction was not deleted, and what it is a part of, if anything, is there and was not
+/// deleted.
+pub fn is_live(book: &Book, row: &TxRow) -> bool
+    ensures { result ≡ is_live_tx book.now.rows row.now }
+{
+    if row.tombstone {
+        return false;
+    }
+    if !row.is_child {
+        return true;
+    }
+    match &row.parent_id {
+        Some(id) => match tx(book, id) {
+            Some(parent) => !parent.tombstone,
+            None => false,
+        },
         None => false,
     }
 }

@@ -1,5 +1,6 @@
 //! What is asked of what an edit gives: ids, numbers, days and months.
 ghost use Rattle.std.specs.Prelude.{◌≡◌, OnOk, IfOk, IfErr, Ok};
+ghost use Rattle.book_rows.specs.Parts.{is_text};
 ghost use Rattle.book_edits.specs.Faults.{IsEditFault};
 ghost use Rattle.book_edits.specs.Checks.{is_name, may_be_chosen, a_name, given_row, same_id, two_ids, a_day, a_month, is_amount, an_amount, is_held, a_held};
 
@@ -58,6 +59,16 @@ pub fn same_id(a: &Txt, b: &Txt) -> bool
     ensures { result ≡ same_id a.now b.now }
 {
     a.cmp(b) == Ordering::Equal
+}
+
+/// Whether the text is there and is this one.
+pub fn is_text(text: &Txt, own: &Option<Txt>) -> bool
+    ensures { result ≡ is_text text.now own.now }
+{
+    match own {
+        Some(own) => same_id(own, text),
+        None => false,
+    }
 }
 
 /// Two ids that have to differ, or else `SameAccount`.

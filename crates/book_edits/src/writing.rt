@@ -1,5 +1,5 @@
 //! The writes of edits, one by one.
-ghost use Rattle.std.specs.Prelude.{◌≡◌, ◌++◌, ◌∷◌, [], pos, OnOk, IfOk};
+ghost use Rattle.std.specs.Prelude.{◌≡◌, ◌++◌, ◌∷◌, [], length, pos, OnOk, IfOk};
 ghost use Rattle.field_values.specs.declared.value.Value.TheVariants.{Number, Text as IsText};
 ghost use Rattle.book_rows.specs.declared.write.RowName.TheVariants.{Given};
 ghost use Rattle.book_edits.specs.Writing.{write, flag, text_or_null, notes_value, id_value};
@@ -39,6 +39,16 @@ pub fn text_or_null(text: &Option<Txt>) -> Result<Value, NoMemory>
     }
 }
 
+/// A copy of a text that may be absent.
+pub fn copied(text: &Option<Txt>) -> Result<Option<Txt>, NoMemory>
+    ensures { IfOk result (λ t. t ≡ text.now) }
+{
+    match text {
+        Some(text) => Ok(Some(text.copy()?)),
+        None => Ok(None),
+    }
+}
+
 /// Notes as a value, or null where they are empty.
 pub fn notes_value(notes: &Txt) -> Result<Value, NoMemory>
     ensures { IfOk result (λ v. v ≡ notes_value notes.now) }
@@ -56,6 +66,16 @@ pub(crate) fn id_value(row: &RowName) -> Result<WriteValue, NoMemory>
     match row {
         RowName::Given(id) => Ok(WriteValue::Plain(Value::Text(id.copy()?))),
         RowName::Made(at) => Ok(WriteValue::IdOf(*at)),
+    }
+}
+
+/// The place behind some writes. There is no memory for 4,294,967,296 of them.
+pub fn place_behind(writes: &Vec<Write>) -> Result<u32, NoMemory>
+    ensures { IfOk result (λ at. at ≡ length writes.now.items) }
+{
+    match u32::try_from(writes.len()) {
+        Ok(at) => Ok(at),
+        Err(_) => Err(NoMemory),
     }
 }
 

@@ -6,6 +6,7 @@ ghost use Rattle.rule_engine.specs.Running.{noted, if_given, takes_none, acted};
 use crate::holding::or_empty;
 use crate::rule::Action;
 use book_edits::checks::{is_live_category, is_live_payee};
+use book_edits::writing::copied;
 use book_rows::{Book, TxRow};
 use field_values::{NoMemory, Txt};
 use split_transfer::partner_of;
@@ -36,16 +37,6 @@ fn takes_none(book: &Book, row: &TxRow) -> bool
     ensures { result ≡ takes_none book.now.rows row.now }
 {
     row.is_parent || partner_of(book, &row.id, row).is_some()
-}
-
-/// A copy of a text that may be absent.
-fn copied(text: &Option<Txt>) -> Result<Option<Txt>, NoMemory>
-    ensures { IfOk result (λ t. t ≡ text.now) }
-{
-    match text {
-        Some(text) => Ok(Some(text.copy()?)),
-        None => Ok(None),
-    }
 }
 
 /// One text behind another.

@@ -2,17 +2,16 @@
 ghost use Rattle.std.specs.Prelude.{◌≡◌, ◌<◌, ◌+◌, nat_le, true, IfSome};
 ghost use Rattle.std.specs.Option.{option_copied, option_and_then};
 ghost use Rattle.book_rows.specs.Kinds.{is_day};
-ghost use Rattle.book_rows.specs.Live.{is_live_tx};
-ghost use Rattle.book_rows.specs.Parts.{is_text};
 ghost use Rattle.finite_sums.specs.Maps.{some_and};
 ghost use Rattle.schedules.specs.Months.{day_in};
 ghost use Rattle.schedules.specs.Status.{next_day, pays, is_paid, by_days, live_row, status_of, status_in};
 
 use crate::month::{day_in, day_of};
-use book_edits::uncounted::{tx, txs};
+use book_edits::checks::is_live;
+use book_edits::given::is_text;
+use book_edits::uncounted::txs;
 use book_rows::{Book, ScheduleRow, TxRow};
 use field_values::Txt;
-use std::cmp::Ordering;
 
 /// How a schedule stands on a day.
 #[derive(Clone, Copy, Debug, Drop, PartialEq, Eq)]
@@ -55,16 +54,6 @@ pub(crate) fn live_row<'a>(book: &'a Book, id: &Txt) -> Option<&'a ScheduleRow>
     }
 }
 
-/// Whether a text is there and is this one.
-fn is_text(id: &Txt, text: &Option<Txt>) -> bool
-    ensures { result ≡ is_text id.now text.now }
-{
-    match text {
-        Some(text) => text.cmp(id) == Ordering::Equal,
-        None => false,
-    }
-}
-
 /// Whether a day is not earlier than two days before the next day.
 fn is_near(date: Option<u32>, next: u32) -> bool
     ensures { result ≡ some_and (λ day. nat_le next (day + 2)) (option_and_then day_in date) }
@@ -83,26 +72,6 @@ fn pays(book: &Book, id: &Txt, next: u32, row: &TxRow) -> bool
     ensures { result ≡ pays book.now.rows id.now next row.now }
 {
     is_live(book, row) && is_text(id, &row.schedule) && is_near(row.date, next)
-}
-
-/// Whether a transaction was not deleted, and what it is a part of, if anything, is there and was not
-/// deleted.
-fn is_live(book: &Book, row: &TxRow) -> bool
-    ensures { result ≡ is_live_tx book.now.rows row.now }
-{
-    if row.tombstone {
-        return false;
-    }
-    if !row.is_child {
-        return true;
-    }
-    match &row.parent_id {
-        Some(id) => match tx(book, id) {
-            Some(parent) => !parent.tombstone,
-            None => false,
-        },
-        None => false,
-    }
 }
 
 /// Whether some transaction pays for the next day.

@@ -3,7 +3,8 @@ ghost use Rattle.std.specs.Prelude.{◌≡◌, ◌++◌, ◌-ℤ◌, false, stri
 ghost use Rattle.split_transfer.specs.Pairs.{parts_sum};
 ghost use Rattle.split_transfer.specs.Broken.{same_day, are_opposite, is_paired, told_transfer, told_split, told_of, broken};
 
-use crate::pairs::{is_live, partner_of, parts_sum};
+use crate::pairs::{partner_of, parts_sum};
+use book_edits::checks::is_live;
 use book_edits::uncounted::{tx, txs};
 use book_rows::{Book, TxRow};
 use field_values::{NoMemory, Txt};

@@ -4,42 +4,14 @@ ghost use Rattle.std.specs.Option.{option_copied};
 ghost use Rattle.std.specs.FinMap as map;
 ghost use Rattle.finite_sums.specs.Sums.{total, only_if};
 ghost use Rattle.finite_sums.specs.Maps.{value_or_zero};
-ghost use Rattle.book_rows.specs.Live.{is_live_tx};
-ghost use Rattle.book_rows.specs.Parts.{is_text};
 ghost use Rattle.split_transfer.specs.Pairs.{live_row, names_back, partner_of, is_kept, parts_of, parts_sum};
 
-use book_edits::given::same_id;
+use book_edits::checks::is_live;
+use book_edits::given::{is_text, same_id};
 use book_edits::uncounted::{children, tx};
 use book_rows::{Book, TxRow};
 use field_values::{NoMemory, Txt};
 use std::alloc::Global;
-
-/// Whether the text is there and is this one.
-pub(crate) fn is_text(text: &Txt, own: &Option<Txt>) -> bool
-    ensures { result ≡ is_text text.now own.now }
-{
-    match own {
-        Some(own) => same_id(own, text),
-        None => false,
-    }
-}
-
-/// Whether a transaction was not deleted, and what it is a part of, if anything, is there and was
-/// not deleted.
-pub(crate) fn is_live(book: &Book, row: &TxRow) -> bool
-    ensures { result ≡ is_live_tx book.now.rows row.now }
-{
-    if row.tombstone {
-        return false;
-    }
-    if !row.is_child {
-        return true;
-    }
-    match &row.parent_id {
-        Some(parent) => is_kept(book, parent),
-        None => false,
-    }
-}
 
 /// The row of a transaction, where it is live: it was not deleted, and what it is a part of, if
 /// anything, is there and was not deleted.

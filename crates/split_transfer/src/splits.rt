@@ -18,7 +18,7 @@ use crate::pairs::parts_of;
 use crate::writing::{push, push_each, push_entry, push_made};
 use book_edits::checks::maybe_live_category;
 use book_edits::given::an_amount;
-use book_edits::writing::{flag, text, text_or_null};
+use book_edits::writing::{flag, place_behind, text, text_or_null};
 use book_rows::{Book, EditFault, TxRow, Write};
 use field_values::{NoMemory, Txt, Value};
 use std::alloc::Global;
@@ -70,16 +70,6 @@ fn are_all(row: &TxRow, parts: &[SplitPart]) -> Result<(), EditFault>
     ensures { result ≡ no_rest (row.now.amount -ℤ total (λ p. p.amount) parts.now) }
 {
     no_rest(i128::from(row.amount) - sum_of(parts))
-}
-
-/// The place behind some writes. There is no memory for 4,294,967,296 of them.
-fn place_behind(writes: &Vec<Write>) -> Result<u32, NoMemory>
-    ensures { IfOk result (λ at. at ≡ length writes.now.items) }
-{
-    match u32::try_from(writes.len()) {
-        Ok(at) => Ok(at),
-        Err(_) => Err(NoMemory),
-    }
 }
 
 /// Says of a new transaction that it is a part of another one.

@@ -5,10 +5,9 @@ ghost use Rattle.book_edits.specs.Faults.{IsEditFault};
 ghost use Rattle.split_transfer.specs.Transfers.{stands_for, payee_for, half_writes, transfer};
 
 use crate::fields::maybe_text;
-use crate::pairs::is_text;
 use crate::writing::{push_entry, push_id, push_made};
 use book_edits::checks::live_account;
-use book_edits::given::{a_day, an_amount, two_ids};
+use book_edits::given::{a_day, an_amount, is_text, two_ids};
 use book_edits::writing::{notes_value, number, text};
 use book_rows::{Book, EditFault, PayeeRow, Write};
 use field_values::{NoMemory, Txt};
