@@ -7,10 +7,11 @@ use Rattle.budget_ports.specs.MemoryDoor.{RoomState, PutsLast, piece}
 abbrev written : List RoomState → List (List ℕ)
 written rooms = map (λ (room : RoomState). room.taken) rooms
 
--- one more of many is the same before them and behind them
+-- so many connections to which nothing was written
 abbrev many : ℕ → List (List ℕ)
 many n = replicate n []
 
+-- one more is the same before them and behind them
 one_more : (n : ℕ) → many n ++ [] ∷ [] ≡ [] ∷ many n
 one_more n = replicate-append-replicate n 1 [] ∙ ap many (omega arith) ∙ sym (replicate-append-replicate 1 n [])
 

@@ -30,7 +30,7 @@ Commits told old new done = (k : Contents) → new k → old k ⊎ (told × (k �
 abbrev pub LeavesNoMore : (Contents → Type 0) → (Contents → Type 0) → Type 0
 LeavesNoMore old new = (k : Contents) → new k → old k
 
--- a stop leaves this alone
+-- a stop leaves nothing but this
 abbrev pub Only : Contents → (Contents → Type 0) → Type 0
 Only now left = (k : Contents) → left k → k ≡ now
 
@@ -38,6 +38,6 @@ Only now left = (k : Contents) → left k → k ≡ now
 abbrev pub IsKnown : Type 0 → (Contents → Type 0) → Type 0
 IsKnown tells left = (k : Contents) → left k → tells
 
--- the same, and a stop leaves its contents alone
+-- the same, and a stop leaves nothing but its contents
 abbrev pub IsAlone : Type 0 → Contents → (Contents → Type 0) → Type 0
 IsAlone tells now left = (k : Contents) → left k → tells × (k ≡ now)

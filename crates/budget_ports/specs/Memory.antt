@@ -13,7 +13,7 @@ pub record SinkState : Type 0 where
   pub room : ℕ
   pub calls : CallState
 
--- a read gave n bytes, as many as fit: it moved them from the front of what is left to the front of the buffer
+-- a read gave n bytes, as many as are left and fit: it moved them from the front of what is left to the front of the buffer
 pub record GivesFront (old new : SourceState) (buffer filled : List ℕ) (n : ℕ) : Type 0 where
   pub most : n ≡ min (length buffer) (length old.left)
   pub bytes : filled ≡ take n old.left ++ drop n buffer

@@ -16,7 +16,7 @@ pub record Visitor : Type 0 where
 
 -- the connections that wait; what is left of the one that was let in last; what was written to those that were given and
 -- let in; how many were let in past the last that was given; whether one is open; the sizes of the pieces in which bytes come,
--- how many of them have come by the open one, and the calls
+-- how many reads of the one that was let in last did not fail, and the calls
 pub record DoorState : Type 0 where
   pub waiting : List Visitor
   pub left : List ℕ
@@ -52,8 +52,8 @@ to_come door = map (λ (visitor : Visitor). visitor.came) door.waiting
 abbrev pub outs : DoorState → List (List ℕ)
 outs door = map (λ (room : RoomState). room.taken) door.rooms ++ replicate door.past []
 
--- the most bytes that a read gives, where so many were read from the connection before: its piece, where the last one stands for
--- all later ones, and without pieces what the buffer has room for. A piece has at least one byte
+-- the most bytes that a read gives, where so many reads of the connection came before it: what the buffer has room for, and with pieces no more
+-- than its own, where the last one stands for all later ones. A piece has at least one byte
 abbrev pub piece : List ℕ → ℕ → ℕ → ℕ
 piece [] reads room = room
 piece (first ∷ more) reads room = min room (max (slice_index (first ∷ more) (min reads (length more))) 1)
@@ -85,7 +85,7 @@ opened door = by door.waiting
       calls = answered door.calls;
     }
 
--- a read gave n bytes, as many as the piece allows: it moved them from the front of what is left to the front of the buffer
+-- a read gave n bytes, as many as are left and the piece allows: it moved them from the front of what is left to the front of the buffer
 pub record GivesPiece (old new : DoorState) (buffer filled : List ℕ) (n : ℕ) : Type 0 where
   pub most : n ≡ min (piece old.pieces old.reads (length buffer)) (length old.left)
   pub bytes : filled ≡ take n old.left ++ drop n buffer
@@ -98,7 +98,7 @@ pub record PutsLast (old new : List RoomState) (bytes : List ℕ) : Type 0 where
   pub before : old ≡ earlier ++ last ∷ []
   pub after : new ≡ earlier ++ record last { taken = last.taken ++ bytes } ∷ []
 
--- bytes were written to the connection that was let in last, and nothing else has changed but the count
+-- bytes were put behind what was written to the last one, and nothing else has changed but the count
 pub record WritesAll (old new : DoorState) (bytes : List ℕ) : Type 0 where
   pub rooms : PutsLast old.rooms new.rooms bytes
   pub door : new ≡ record old { rooms = new.rooms; calls = answered old.calls }

@@ -3,7 +3,7 @@ use Rattle.std.specs.Prelude.{ℕ, List, [], ◌∷◌, ◌++◌, Option, None, 
 use Rattle.budget_ports.specs.Exchanges.{Exchange, begun}
 use Rattle.budget_ports.specs.Calls.{CallState, failed}
 
--- the exchanges, the bytes for which nothing has come back, the replies to come, and the calls
+-- the exchanges but the open one, the bytes that were sent in the open one, if there is one, the replies to come, and the calls
 pub record LinkState : Type 0 where
   pub ended : List Exchange
   pub asked : Option (List ℕ)

@@ -52,7 +52,7 @@ fn visits(
     Ok(visits)
 }
 
-/// The most bytes that a read gives, where so many were read before.
+/// The most bytes that a read gives, where so many reads came before it.
 fn piece(pieces: &[usize], reads: usize, room: usize) -> usize
     ensures { result ≡ piece pieces.now reads room }
 {

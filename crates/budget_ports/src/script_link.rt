@@ -17,7 +17,7 @@ use std::alloc::Global;
 use std::collections::VecDeque;
 use std::marker::Model;
 
-/// What was sent, and what came back for it.
+/// What was sent, and what came back for it, if anything did.
 #[derive(Drop)]
 struct Ended {
     sent: Items<u8>,

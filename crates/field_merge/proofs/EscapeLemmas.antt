@@ -149,7 +149,7 @@ bad_escape-over text at l is letter e =
     ∙ ap (place_after at) (bad_escape-pair (get_or text (at + 1) 0) (drop (at + 2) text) letter)
     ∙ place_after-twice at 2 (bad_escape (drop (at + 2) text))
 
--- the bytes that stand in no part: 0, TAB and LF
+-- the bytes that stand in no escaped text: 0, TAB and LF
 abbrev pub is_raw : ℕ → Bool
 is_raw b = (b == 0) || ((b == 9) || (b == 10))
 

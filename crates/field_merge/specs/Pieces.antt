@@ -7,7 +7,7 @@ use Rattle.field_merge.specs.Log.{ended_line}
 abbrev pub enough_bytes : ℕ
 enough_bytes = 65_536
 
--- a piece ends with the line by which it has enough bytes
+-- a piece ends with a line before which it has fewer bytes than enough
 abbrev pub IsJustEnough : List ℕ → Type 0
 IsJustEnough text = (front : List ℕ) × (last : Message) × (text ≡ front ++ ended_line last) × (length front < enough_bytes)
 

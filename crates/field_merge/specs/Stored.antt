@@ -28,12 +28,12 @@ pub record IsStored (entries : List (Stamp × Message)) (index : List (FieldName
   pub entries_stand : AreEntries entries
   pub index_right : spent ≡ false → IsIndex (values_of entries) index
 
--- whether a message with the timestamp s is later than the one that the index has
+-- whether a message with the timestamp s is later than the one that the index has, or it has none
 abbrev pub is_newer : Option Message → Stamp → Bool
 is_newer None s = true
 is_newer (Some m) s = is_lt (stamp_cmp m.stamp s)
 
--- `wins` says whether m is later than the message of its field in the index; the index then has m there, and is otherwise as before
+-- `wins` says whether m is later than the message of its field in the index, or there is none; the index then has m there, and is otherwise as before
 pub record Notes (index new_index : List (FieldNames × Message)) (m : Message) (wins : Bool) : Type 0 where
   pub is_later : wins ≡ is_newer (lookup (is_at (names_cmp m.field)) index) m.stamp
   pub now : (f : FieldNames) → lookup (is_at (names_cmp f)) new_index ≡ cond (wins && is_at (names_cmp m.field) f) (Some m) (lookup (is_at (names_cmp f)) index)

@@ -91,7 +91,7 @@ fn after_backslash(text: &str) -> (u8, &str)
     (92, text)
 }
 
-/// Cuts at the first escape.
+/// Cuts at the first backslash, which stands for itself where it begins no escape.
 fn cut_escape(part: &str) -> Option<Cut<'_>>
     ensures { MatchOption result (unescaped part.now ≡ part.now)
         (λ cut. (unescaped part.now ≡ cut.before.now ++ (cut.byte ∷ unescaped cut.after.now))

@@ -39,8 +39,8 @@ fn with_names_of(message: Message, field: &Field) -> Result<Message, NoMemory>
 }
 
 /// Enters a message into the index where it is later than the one of its
-/// field there, and says whether it is. Where the index has the field, the
-/// message shares its names.
+/// field there, or there is none, and says whether it did. Where the index
+/// has the field, the message shares its names.
 fn note(alloc: Global, index: &mut Index, message: Message) -> Result<(Shared, bool), NoMemory>
     ensures { IfOk result (λ r. (r.0 ≡ message) × Notes index.old.entries index.new.entries message r.1) }
 {

@@ -132,7 +132,7 @@ fn field_of_names(
     }
 }
 
-/// The field that three parts stand for. Parts without a backslash are not copied first.
+/// The field that three parts stand for. Where none has a backslash they are not copied first.
 fn field_in(alloc: Global, parts: &Parts<'_>) -> Result<Result<Field, NameFault>, NoMemory>
     ensures reading { let names = field_of (unescaped parts.now.dataset.now) (unescaped parts.now.row.now) (unescaped parts.now.column.now) in
         IfOk result (λ read. MatchResult read

@@ -17,7 +17,7 @@ use std::slice::Iter;
 /// A piece ends with the line by which it has so many bytes.
 const ENOUGH: usize = 1 << 16;
 
-/// Room for a piece.
+/// Room for most pieces.
 const ROOM: usize = ENOUGH + (1 << 12);
 
 /// Messages whose lines were not given yet. A contract sees their list.

@@ -34,7 +34,7 @@ both_more es fs h = fewer (has (below One es)) (has (below Two es)) (has (below 
   one : (d : Digit) → has (below d (es ++ fs)) ≡ false → has (below d es) ≡ false
   one d k = has_more (below d es) (below d fs) (sym (ap has (below_append d es fs)) ∙ k)
 
--- the trie of some entries is that of none or one of entries
+-- a hash that is added to the trie of no entries makes the same as one that is added to nothing
 from_below : (key : List Digit) (hash : ℕ) (es : List Entry) (p : List Digit) → added key hash (pruned es) p ≡ added key hash (pruned_below es) p
 from_below key hash [] p = from_nothing key hash p
 from_below key hash (e ∷ es) p = refl

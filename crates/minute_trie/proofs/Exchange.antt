@@ -58,7 +58,7 @@ below_is Zero es x h =
     let k = at_zero es x h in
     (k.1, λ p. pruned_zero es p ∙ ap (λ b. cond b None (pruned_below (below Zero es) p)) k.0 ∙ under_head (below Zero es) x k.1 p)
 
--- a smaller sibling that stands now stood before
+-- where One and Two are not both there now, they were not before
 both_before : (es es' : List Entry) → Grows es es' → has_both es' ≡ false → has_both es ≡ false
 both_before es es' g h = go (has (below One es)) (has (below Two es)) (has (below One es')) (has (below Two es')) (has_grown _ _ (grown_below One es es' g)) (has_grown _ _ (grown_below Two es es' g)) h
   where

@@ -14,7 +14,7 @@ abbrev pub value_at : List Digit → Data → Option Data
 value_at [] d = Some d
 value_at (c ∷ p) d = option_and_then (value_at p) (get (child_name c) d)
 
--- the one string is read before the other: it is a front of it, or has the lesser digit where they part
+-- the one string is read before the other: it is a shorter front of it, or has the lesser digit where they part
 abbrev pub IsBefore : List Digit → List Digit → Type 0
 IsBefore q [] = ⊥
 IsBefore [] (c ∷ p) = Unit {0}
@@ -25,8 +25,8 @@ pub record IsRight (p : List Digit) (value : Data) : Type 0 where
   pub node : is_node value ≡ true
   pub depth : length p ≤ 16
 
--- the value at this string is the first in reading order that isn't right, and this is told of it: its depth where it is no node, but for one that
--- stands where no string of a trie leads
+-- the value at this string is the first in reading order that isn't right, and this is told of it: that it is no node, with its depth, or that it
+-- stands at the depth 17, where no string of a trie leads
 pub record IsFirstFault (d : Data) (f : TrieFault) : Type 0 where
   pub place : List Digit
   pub value : Data

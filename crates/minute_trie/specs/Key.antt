@@ -1,4 +1,4 @@
--- The key of a minute: its sixteen digits to the base 3.
+-- The key of a minute: its lowest sixteen digits to the base 3.
 use Rattle.std.specs.Prelude.{ℕ, zero, suc, ◌/◌, ◌%◌, ◌^◌, List, [], ◌∷◌, map, Bool, true, false}
 use Rattle.minute_trie.specs.declared.key.Digit.{Digit}
 use Rattle.minute_trie.specs.declared.key.Digit.TheVariants.{Zero, One, Two}

@@ -80,7 +80,7 @@ abbrev pub IsOneSidedBelow : Held → Held → List Digit → Type 0
 IsOneSidedBelow f g p =
     (d : Digit) × AreSameBefore f g p d × (f (p ++ d ∷ []) ≢ g (p ++ d ∷ [])) × ((f (p ++ d ∷ []) ≡ None) ⊎ (g (p ++ d ∷ []) ≡ None))
 
--- the string leads down to the first difference, by so many digits at most
+-- the string leads down to the first difference, or ends before it where it has so many digits
 pub record LeadsDown (digits : ℕ) (f g : Held) (s : List Digit) : Type 0 where
   -- the two differ at each prefix of the string
   pub differs : (p q : List Digit) → s ≡ p ++ q → DifferAt f g p

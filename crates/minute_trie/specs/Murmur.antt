@@ -28,7 +28,7 @@ all_mixed h rest = bit_xor h (scrambled (tail_of rest))
 unfoldable pub xor_shifted : ℕ → ℕ → ℕ
 xor_shifted h n = bit_xor h (h / 2 ^ n)
 
--- the finalization, which lets each bit of the state have its part in each bit of the hash
+-- the finalization, which spreads the bits of the state
 unfoldable pub finalized : ℕ → ℕ
 finalized h = xor_shifted (xor_shifted (xor_shifted h 16 * 0x85ebca6b % 2 ^ 32) 13 * 0xc2b2ae35 % 2 ^ 32) 16
 

@@ -36,7 +36,7 @@ Sides = List Pair × List Pair
 abbrev pub end_of_sides : Sides → List Digit
 end_of_sides s = end_of_walk (trie_of s.0) (trie_of s.1)
 
--- the moment from which on the tries of both sides differ, or none where they have one hash at the root
+-- the moment that is told of the tries of both sides, or none where they have one hash at the root
 abbrev pub difference_of_sides : Sides → Option ℕ
 difference_of_sides s = difference (trie_of s.0) (trie_of s.1)
 

@@ -41,7 +41,7 @@ is_spent trie = trie.spent
 pub record IsTrieOf (pairs : List Pair) (trie : Trie) : Type 0 where
   pub same : held trie ≡ trie_of pairs
 
--- the minute has a key, and the hash has 32 bits
+-- the minute is in the window of timestamps, and the hash has 32 bits
 pub record IsPair (p : Pair) : Type 0 where
   pub within : p.0 < window
   pub fits : FitsSigned w32 p.1

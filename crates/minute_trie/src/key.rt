@@ -39,7 +39,7 @@ fn digit_of(minute: u32, place: u32) -> Digit
     }
 }
 
-/// The minute to the base 3, with 16 digits.
+/// The lowest 16 digits of the minute to the base 3, of which the first has the greatest worth.
 #[tactic(auto, unfolding(crate::specs::Key::key))]
 pub fn key_of(minute: u32) -> [Digit; 16]
     ensures { result ≡ key minute }

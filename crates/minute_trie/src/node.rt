@@ -14,7 +14,7 @@ pub const HASH: &str = "hash";
 /// A hash, as a pattern of 32 bits, and the children that are there.
 #[derive(Drop)]
 pub struct Node {
-    /// The XOR of the hashes below, or what the text of a trie gave.
+    /// The XOR of the hashes that were added here or below, and of what the text of a trie gave.
     pub hash: u32,
     /// The child behind the digit 0, if it is there.
     pub zero: Option<Box<Node>>,
@@ -37,7 +37,7 @@ impl Node {
         }
     }
 
-    /// The hash as a pattern of 32 bits, which is 0 where the text of a trie gave none.
+    /// The hash as a pattern of 32 bits.
     pub fn hash(&self) -> u32
         ensures { at_node self.now [] ≡ Some result }
     {

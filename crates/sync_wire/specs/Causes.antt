@@ -45,7 +45,7 @@ pub record IsShort (bytes : List ℕ) : Type 0 where
   pub spelled : IsNumber len number
   pub short : length rest < number
 
--- what a field of a type holds is not there whole
+-- what a field of a type holds is not there whole, or begins with a number that is too long or too large
 abbrev pub IsBodyFault : ℕ → ℕ → List ℕ → WireFault → Type 0
 IsBodyFault kind end bytes f =
     ((kind ≡ 0) × IsNumberFault end bytes f)
@@ -53,7 +53,7 @@ IsBodyFault kind end bytes f =
     ⊎ ((kind ≡ 1) × (f ≡ Truncated end) × (length bytes < 8))
     ⊎ ((kind ≡ 5) × (f ≡ Truncated end) × (length bytes < 4))
 
--- a tag is spelled, and it isn't allowed in the message, or what follows it is not there whole
+-- a tag is spelled, and it isn't allowed in the message, or what follows it has such a fault
 pub record IsTagged (layout : Layout) (end : ℕ) (bytes : List ℕ) (f : WireFault) : Type 0 where
   pub tag : List ℕ
   pub rest : List ℕ
@@ -64,7 +64,7 @@ pub record IsTagged (layout : Layout) (end : ℕ) (bytes : List ℕ) (f : WireFa
   pub small : kind < 8
   pub fault : ((allows layout number kind ≡ false) × (f ≡ BadTag (end - length bytes))) ⊎ ((allows layout number kind ≡ true) × IsBodyFault kind end rest f)
 
--- no tag is spelled, or there is one
+-- no tag is spelled, or one is, and the fault is its own or that of what follows it
 abbrev pub IsFieldFault : Layout → ℕ → List ℕ → WireFault → Type 0
 IsFieldFault layout end bytes f = IsNumberFault end bytes f ⊎ IsTagged layout end bytes f
 

@@ -47,11 +47,11 @@ number_of (Number n) = Some n
 number_of Fixed = None
 number_of (Bytes end bytes) = None
 
--- the bytes, or the number, that a field of number n holds
+-- the bytes that a field of number n holds, with the place where they end
 abbrev pub bytes_in : ℕ → Tagged → Option (ℕ × List ℕ)
 bytes_in n t = if t.number == n then bytes_of t.payload else None
 
--- a number that is not 0
+-- whether a number is not 0, where there is one
 abbrev pub is_set : Option ℕ → Option Bool
 is_set None = None
 is_set (Some n) = Some (nat_lt 0 n)
@@ -71,7 +71,7 @@ or a (Some b) = b
 abbrev pub last_else : {A : Type 0} → A → (Tagged → Option A) → List Tagged → A
 last_else a find fields = or a (last_or None (filter_map find fields))
 
--- the last text of number n, or else none
+-- the last text of number n, or else an empty one
 abbrev pub text : ℕ → List Tagged → List ℕ
 text n fields = last_else [] (text_in n) fields
 

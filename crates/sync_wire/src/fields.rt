@@ -64,7 +64,7 @@ fn number_at(end: usize, bytes: &[u8]) -> Result<(u64, &[u8]), WireFault>
     }
 }
 
-/// A field of this many bytes.
+/// What a field of this many bytes holds.
 #[tactic(auto, unfolding(crate::specs::Fields::fixed_at))]
 fn fixed_at<'a>(
     width: usize,
