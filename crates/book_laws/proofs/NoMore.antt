@@ -111,7 +111,7 @@ module _ (ids : Ids) where
     budget_cell : with_writes ids r (budget_writes r category month (column_name c) v) ≡ with_budget r category month (budget_table.set c v)
     budget_cell = by_row (get r.budgets key) refl
 
--- what is written of a category in a month is what the row says, if it is there
+-- the amount of a row, or 0 where it is not there, is that of the row or of another one, with the amount 0, in its place
 pub given_as : (o : Option BudgetRow) (other : BudgetRow) → other.amount ≡ pos 0 → value_or_zero (λ b. b.amount) o ≡ (unwrap_or o other).amount
 given_as None other h = sym h
 given_as (Some b) other h = refl

@@ -63,7 +63,7 @@ pub record PlainEditsDo (ids : Ids) (rows : Rows) (ws : List Write) : Type 0 whe
       → map.get rows.txs (new_id ids id) ≡ None → (x : TxRow) × (map.get (with_writes ids rows ws).txs (new_id ids id) ≡ Some x) × (x.acct ≡ Some account) × (x.date ≡ Some date)
       × (x.amount ≡ amount) × (x.description ≡ payee) × (x.category ≡ category) × (notes ≢ [] → x.notes ≡ Some notes) × (notes ≡ [] → x.notes ≡ None)
       × (x.tombstone ≡ false) × (x.is_parent ≡ false) × (x.is_child ≡ false) × (x.transferred_id ≡ None)
-  -- a category has what it is given in the month, and carries over where it is to
+  -- a category has what it is given in the month, and carries over where it is to, and the month holds back what it is to
   pub given : (month : ℕ) (category : Text) (amount : ℤ) → budget rows month category amount ≡ Ok ws
       → (b : BudgetRow) × (map.get (with_writes ids rows ws).budgets (budget_id category month) ≡ Some b) × (b.amount ≡ amount)
   pub carries : (month : ℕ) (category : Text) (flag : Bool) → carryover rows month category flag ≡ Ok ws

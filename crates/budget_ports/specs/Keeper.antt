@@ -30,10 +30,6 @@ Commits told old new done = (k : Contents) → new k → old k ⊎ (told × (k �
 abbrev pub LeavesNoMore : (Contents → Type 0) → (Contents → Type 0) → Type 0
 LeavesNoMore old new = (k : Contents) → new k → old k
 
--- a stop leaves nothing but this
-abbrev pub Only : Contents → (Contents → Type 0) → Type 0
-Only now left = (k : Contents) → left k → k ≡ now
-
 -- a keeper of which a stop may leave anything tells
 abbrev pub IsKnown : Type 0 → (Contents → Type 0) → Type 0
 IsKnown tells left = (k : Contents) → left k → tells

@@ -1,7 +1,7 @@
 -- A link in memory, whose replies are written before.
 use Rattle.std.specs.Prelude.{ℕ, List, [], ◌∷◌, ◌++◌, Option, None, Some, Bool, true, false}
 use Rattle.budget_ports.specs.Exchanges.{Exchange, begun}
-use Rattle.budget_ports.specs.Calls.{CallState, failed}
+use Rattle.budget_ports.specs.Calls.{CallState}
 
 -- the exchanges but the open one, the bytes that were sent in the open one, if there is one, the replies to come, and the calls
 pub record LinkState : Type 0 where
@@ -27,7 +27,3 @@ has_reply link = by link.asked link.to_come
     by None replies = false
     by (Some sent) [] = false
     by (Some sent) (reply ∷ replies) = true
-
--- a link after a call that failed: nothing has changed but the counts
-abbrev pub failed_link : LinkState → LinkState
-failed_link old = record old { calls = failed old.calls }

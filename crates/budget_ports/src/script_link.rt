@@ -1,7 +1,7 @@
 //! A link in memory, for tests.
-ghost use Rattle.std.specs.Prelude.{◌≡◌, ◌↔◌, ◌||◌, ◌∷◌, [], not, None, Some, IsTrue, IsErrOf, IfOk, OnOk, OnErr};
+ghost use Rattle.std.specs.Prelude.{◌≡◌, ◌↔◌, ◌||◌, ◌∷◌, [], not, None, Some, IsTrue, IsErrOf, IfOk, OnOk, OnErr, if◌then◌else◌};
 ghost use Rattle.budget_ports.specs.Faults.{count_after};
-ghost use Rattle.budget_ports.specs.Calls.{no_calls, is_listed};
+ghost use Rattle.budget_ports.specs.Calls.{no_calls, is_listed, failed};
 ghost use Rattle.budget_ports.specs.Exchanges.{Adds, Gets, begun};
 ghost use Rattle.budget_ports.specs.Script.{exchanges, has_reply};
 ghost use Rattle.budget_ports.specs.Keeper.{has_failed};
@@ -92,6 +92,7 @@ impl Link for ScriptLink {
         // what this one does
         ensures fails { IsErrOf result HasFailed ↔ IsTrue (is_listed self.old.calls) }
         ensures counts { self.new.calls ≡ counted self.old.calls }
+        ensures kept { self.new.to_come ≡ self.old.to_come }
     {
         self.calls.begin(true)?;
         let sent = copied(self.alloc, bytes)?;
@@ -119,6 +120,8 @@ impl Link for ScriptLink {
         // what this one does
         ensures fails { IsErrOf result HasFailed ↔ IsTrue (is_listed self.old.calls || not (has_reply self.old)) }
         ensures next { IfOk result (λ got. self.old.to_come ≡ got.items ∷ self.new.to_come) }
+        ensures kept { OnErr result (self.new.to_come ≡ self.old.to_come) }
+        ensures counts { self.new.calls ≡ (if has_reply self.old then counted self.old.calls else failed self.old.calls) }
     {
         let possible = self.asked.is_some() && !self.replies.is_empty();
         self.calls.begin(possible)?;

@@ -55,7 +55,7 @@ stamp_named s valid =
 pub at_valid : (first : Stamp) (n : ℕ) → IsStamp first → first.counter + n ≤ 65_535 → IsStamp (stamp_at first n)
 at_valid first n valid room = record { within = valid.within; counter = room; node = valid.node }
 
--- where so many counters are left
+-- the id of a row is a name, where so many counters are left
 pub row_named : (first : Stamp) (left : ℕ) (row : RowName) → IsStamp first → first.counter + left ≤ 65_536 → IsRowName left row → IsName (row_of first row)
 row_named first left (Given id) valid room is = is
 row_named first left (Made n) valid room is = stamp_named (stamp_at first n) (at_valid first n valid (omega arith))

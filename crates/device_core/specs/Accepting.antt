@@ -27,7 +27,7 @@ IsLine text = All (λ b. b ≢ 10) text
 pub record IsJoined (before : State) (accepted : Accepted) : Type 0 where
   -- some messages have joined, and the records of the new ones are pending, and no others
   pub brings : Brings before.messages (left_by accepted)
-  -- no id that was made has a line feed
+  -- no id that was made has a line feed, where the clock stood at a valid timestamp
   pub lines : IsStamp before.clock → AllByRecursion IsLine accepted.made
   -- the clock keeps its node
   pub own : accepted.state.clock.node ≡ before.clock.node

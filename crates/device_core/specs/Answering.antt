@@ -45,7 +45,7 @@ pub record AreAnswered (s : State) (ns : List Message) (reading : ℕ) : Type 0 
   pub accepted : (greatest clock : Stamp) → greatest_of ns ≡ Some greatest → receive s.clock reading greatest ≡ Ok clock → IsAcceptedAt (received s ns reading) clock
   -- where it does not, they are refused for its fault
   pub no_stamp : (greatest : Stamp) (fault : ClockFault) → greatest_of ns ≡ Some greatest → receive s.clock reading greatest ≡ Err fault → received s ns reading ≡ Err (OfClock fault)
-  -- no messages are always accepted, and the clock stays
+  -- where there are no messages, that is always accepted, and the clock stays
   pub none : ns ≡ [] → IsAcceptedAt (received s ns reading) s.clock
 
 -- messages are accepted or refused for the clock alone

@@ -24,5 +24,5 @@ pub record BooksFollowMessages : Type 0 where
   pub no_other : (ms : List Message) (rows : Rows) → AreRowsOf (value_in ms) rows → rows ≡ rows_of ms
   -- where the fields have the same values, the rows are the same
   pub same_values : (ms ns : List Message) → ((f : FieldNames) → value_in ms f ≡ value_in ns f) → rows_of ms ≡ rows_of ns
-  -- where equal timestamps mean equal messages, the order and the number in which messages come do not matter
+  -- where equal timestamps mean equal messages, the order and the number in which messages join a message set do not matter
   pub any_order : (ms ns ps : List Message) → IsRising ms → HasOneEach ns → HaveSame ns ps → rows_of (join ms ns) ≡ rows_of (join ms ps)

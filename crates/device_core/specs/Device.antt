@@ -79,7 +79,7 @@ accepted_as device count = record { state = device.state; batch = device.batch; 
 abbrev pub first_in_row : Stamp → ℕ → Stamp
 first_in_row clock n = record clock { counter = clock.counter - (n - 1) }
 
--- writes under the timestamp that the clock drew, or its refusal
+-- writes under the timestamps that the clock drew, at the last of which it stands, or its refusal
 abbrev pub written : State → Turn → List Write → Result Stamp ClockFault → Result Accepted LineRefusal
 written s turn ws (Err fault) = Err (OfClock fault)
 written s turn ws (Ok clock) = Ok (accepted_as (with_writes s turn (first_in_row clock (length ws)) ws clock) (length ws))
@@ -113,12 +113,12 @@ redone s reading = writing s Redo reading (writes_back NothingToRedo (latest_of 
 abbrev pub later_of : Stamp → Stamp → Stamp
 later_of s t = if is_lt (stamp_cmp s t) then t else s
 
--- the greatest timestamp of messages, beside one timestamp and by themselves
+-- the greatest of a timestamp and those of messages
 abbrev pub greatest : Stamp → List Message → Stamp
 greatest s [] = s
 greatest s (m ∷ ms) = greatest (later_of s m.stamp) ms
 
--- of no messages there is none
+-- the greatest timestamp of messages; of no messages there is none
 abbrev pub greatest_of : List Message → Option Stamp
 greatest_of [] = None
 greatest_of (m ∷ ms) = Some (greatest m.stamp ms)

@@ -34,7 +34,7 @@ value_of first (IdOf n) = Text (id_at first n)
 abbrev pub message_at : Stamp → ℕ → Write → Message
 message_at first n w = record { stamp = stamp_at first n; field = field_of w.dataset (row_of first w.row) w.column; value = value_of first w.value }
 
--- the messages of writes, from the one at a place on
+-- the messages of writes that stand from a place on
 abbrev pub messages_from : Stamp → ℕ → List Write → List Message
 messages_from first n [] = []
 messages_from first n (w ∷ ws) = message_at first n w ∷ messages_from first (n + 1) ws
@@ -48,7 +48,7 @@ abbrev pub makes_row : ℕ → RowName → Bool
 makes_row n (Given id) = false
 makes_row n (Made at) = at == n
 
--- the ids that writes make, from the one at a place on
+-- the ids that writes make, which stand from a place on
 abbrev pub ids_from : Stamp → ℕ → List Write → List (List ℕ)
 ids_from first n [] = []
 ids_from first n (w ∷ ws) = if makes_row n w.row then id_at first n ∷ ids_from first (n + 1) ws else ids_from first (n + 1) ws

@@ -76,7 +76,7 @@ pub record WritesAreJoined : Type 0 where
   -- where it draws none, they are refused for its fault; more of them are refused for their number
   pub no_stamp : (s : State) (turn : Turn) (reading : ℕ) (w : Write) (ws : List Write) (fault : ClockFault) → length (w ∷ ws) ≤ 65_536 → draw s.clock reading (length (w ∷ ws)) ≡ Err fault → writing s turn reading (Ok (w ∷ ws)) ≡ Err (OfClock fault)
   pub too_many : (s : State) (turn : Turn) (reading : ℕ) (ws : List Write) → 65_536 < length ws → writing s turn reading (Ok ws) ≡ Err (OfEdit (TooManyWrites (length ws)))
-  -- no writes are accepted, and all stays
+  -- where there are no writes, that is accepted, and all stays
   pub none : (s : State) (turn : Turn) (reading : ℕ) → writing s turn reading (Ok []) ≡ Ok (accepted_as (at_rest s) 0)
 
 -- what an accepted edit leaves of a state

@@ -30,7 +30,7 @@ pub record IsTakenBack (s : State) (turn : Turn) (entries : List (List Before)) 
   -- what is accepted has made the writes that undo the entry, and no others, whatever has come since the entry was made, where the clock is behind no message
   pub made : (entry : List Before) (after : Accepted) → IsAhead s.clock s.messages → latest_of entries ≡ Some entry → answer ≡ Ok after → AreJoinedWrites s turn (undo_writes entry) after
 
--- so it is with each undo and each redo
+-- so it is with each undo and each redo, where the entries are valid
 pub record EntriesAreTakenBack : Type 0 where
   pub undos : (s : State) (reading : ℕ) → AreEntries s.history → IsTakenBack s Undo s.history.undo NothingToUndo reading (undone s reading)
   pub redos : (s : State) (reading : ℕ) → AreEntries s.history → IsTakenBack s Redo s.history.redo NothingToRedo reading (redone s reading)

@@ -319,7 +319,7 @@ impl Device {
         }
     }
 
-    /// Goes on with what messages write over, that are to join.
+    /// Moves on what can be undone and redone, with what messages write over that are to join.
     fn write_over(&mut self, turn: Turn, messages: &[Message]) -> Result<(), NoMemory>
         requires live { self.old.spent ≡ false }
         requires valid { AreMessages messages.now }
@@ -395,7 +395,8 @@ impl Device {
         self.batch.as_slice()
     }
 
-    /// The ids that were made for rows: `prepare` and `incoming` say which.
+    /// The ids that the last accepted line made for rows, as `prepare` says. Messages that were
+    /// received make none.
     pub fn made(&self) -> &Items<Txt>
         requires { self.now.spent ≡ false }
         ensures { result.now ≡ self.now.made }

@@ -19,7 +19,8 @@ use std::alloc::Global;
 /// Why a device refuses a line.
 #[derive(Debug, PartialEq, Eq, Drop)]
 pub enum LineRefusal {
-    /// The edit makes no writes. A want of memory is told as `NoMemory` of this enum.
+    /// The edit itself is refused, or there is none to undo or redo. A want of memory is told as
+    /// `NoMemory` of this enum.
     Edit(EditFault),
     /// The clock does not move.
     Clock(ClockFault),

@@ -46,7 +46,7 @@ pub fn edits_read_back()
 /// each the text of the timestamp of the row's first write; no message of before was of such a row, where none
 /// was of a row with the id of a timestamp past the clock. At most 65,536 writes are accepted, where the clock
 /// draws their timestamps; more are refused for their number, else they are refused for the fault of the clock.
-/// No writes are accepted and leave all as it was.
+/// Where there are no writes, the line is accepted and leaves all as it was.
 pub fn writes_are_joined()
     ensures { WritesAreJoined }
 {}
@@ -86,7 +86,8 @@ pub fn greatest_is_told()
 
 /// A law: an undo, and so a redo, is refused where there is no entry, else for the fault of the clock where it draws no timestamps for
 /// the writes that undo the latest entry; else it is accepted. The writes that it makes are those of the entry, as `writes_are_joined`
-/// says, whatever messages have come since, where the clock is behind no message, as that of a device never is.
+/// says, whatever messages have come since, where the clock is behind no message, as that of a device never is. It is asked that
+/// the entries are valid, as those of a device are.
 pub fn entries_are_taken_back()
     ensures { EntriesAreTakenBack }
 {}

@@ -21,7 +21,7 @@ use Rattle.device_sync.specs.Talk.{Outcome, going_on, agreed, out_of_sync, not_t
 use Rattle.device_sync.specs.Sync.{Told, Carries, text_of, IsUnanswered, TakesTurn, further, IsLeft, reached, IsLateTurn, IsCut, IsRound, IsCutOff, IsAnswered, MayBeLeft, IsNumber, IsCounted, HasConversed, HasTalked, synced_name, UnlessSpoilt, IfUsable}
 use Rattle.device_sync.proofs.Turns.{carries_same, carries_both}
 
--- The turns so far, after which the conversation goes on from a text with so many requests more than one
+-- The turns so far, after which the conversation goes on from a text, and may have one request and so many more
 pub record Goes (target : Target) (group : List ℕ) (reading : ℕ) (first : List ℕ) (s : State) (old now : Told) (since : List ℕ) (left : ℕ) (here : State) : Type 0 where
   pub done : List Turn
   pub adds : Adds old.exchanges now.exchanges (map exchange_of done)

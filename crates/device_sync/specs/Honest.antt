@@ -15,7 +15,7 @@ use Rattle.device_sync.specs.Requests.{IsAsked}
 abbrev pub front_of : List ℕ → List ℕ
 front_of text = take 268_435_457 text
 
--- so many bytes are an answer with the status 200 to the request, of a server whose group has the messages r, and s then
+-- the bytes are an answer with the status 200 to the request, of a server whose group has the messages r, and s then
 pub record Answers (r : List Message) (q : SyncRequest) (text : List ℕ) (s : List Message) : Type 0 where
   pub body : List ℕ
   pub reply : IsReply text 200 body

@@ -50,7 +50,7 @@ pub record Converges (m r : List Message) (turns : List Exchange) (n s : List Me
   -- with at most eighteen requests
   pub few : length turns ≤ 18
   pub fair : IsFair o
-  -- at the end the tries have one hash at the root
+  -- where both agreed, the tries have one hash at the root
   pub roots : o ≡ agreed → trie_of (pairs_of n) [] ≡ trie_of (pairs_of s) []
   -- where that means that the timestamps are the same, and equal timestamps mean equal messages, both have joined both sets
   pub sets : o ≡ agreed → (trie_of (pairs_of n) [] ≡ trie_of (pairs_of s) [] → HaveSameStamps n s) → HaveOneEach m r

@@ -37,7 +37,7 @@ pub record HasGroup (k : Contents) (q : SyncRequest) (r : List Message) : Type 0
   pub file : get k.texts (file_name q.file) ≡ Some q.group
   pub set : kept_set (records_after k q.group []) ≡ Ok r
 
--- the bytes are fewer than eighteen digits can count
+-- eighteen digits can write how many bytes there are
 abbrev pub IsCountable : List ℕ → Type 0
 IsCountable bytes = length bytes < 10 ^ 18
 

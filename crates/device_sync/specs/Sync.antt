@@ -73,7 +73,7 @@ abbrev pub AreCompared : Held → Held → Compared → Type 0
 AreCompared mine theirs Agreed = difference mine theirs ≡ None
 AreCompared mine theirs (Differ moment my_root their_root) = (difference mine theirs ≡ Some moment) × ((my_root ≡ root_of mine) × (their_root ≡ root_of theirs))
 
--- what was exchanged was left as it is
+-- some exchanges were added, or none, of which this holds beside the text that was to be sent
 pub record IsLeft (text : List ℕ) (old new : Option (List Exchange)) (IsLate : List ℕ → List Exchange → Type 0) : Type 0 where
   pub late : List Exchange
   pub adds : Adds old new late
@@ -105,7 +105,7 @@ pub record IsLateTurn (target : Target) (group : List ℕ) (reading : ℕ) (sinc
   pub is_late : late ≡ exchange_of turn ∷ []
   pub kept : IsKept group s turn.got reading before now
 
--- a round was cut off: what was exchanged, and what a stop may leave, where it could leave the contents alone before
+-- a round was cut off: what was exchanged, and what a stop may leave, where a stop before the round could leave nothing but the contents
 pub record IsCut (target : Target) (group : List ℕ) (reading : ℕ) (since : List ℕ) (s : State) (old new : Told) (text : List ℕ) (late : List Exchange) : Type 0 where
   pub unjudged : IsUnjudged text late
   pub stops : IsAlone old.tells old.contents old.left → (c : Contents) → new.left c → old.tells × ((c ≡ old.contents) ⊎ IsLateTurn target group reading since s late old.contents c)

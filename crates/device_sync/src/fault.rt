@@ -1,4 +1,4 @@
-//! Why a sync does not come to an end.
+//! What a sync came to, and why it tells no agreement.
 use hybrid_clock::ClockFault;
 
 /// Why a sync does not tell an agreement. What its turns brought before is kept.

@@ -96,8 +96,7 @@ fn judge_body(alloc: Global, bytes: &[u8], body: &[u8]) -> Result<Judged, NoMemo
     }
 }
 
-/// Judges a reply: first by its length, then by its head, its status, the bytes of its body, its envelopes and its trie. It goes through
-/// the bytes once.
+/// Judges a reply: first by its length, then by its head, its status, the bytes of its body, its envelopes and its trie.
 pub fn judge(alloc: Global, bytes: &[u8]) -> Result<Judged, NoMemory>
     ensures judged { IfOk result (λ judged. IsJudged bytes.now (got_of judged)) }
     ensures valid { IfOk result (λ judged. AreMessages (messages_in judged)) }

@@ -45,7 +45,7 @@ pub(crate) fn moment(alloc: Global, millis: u64) -> Result<Txt, NoMemory>
 {
     match Txt::make(alloc, &moment_text(millis)) {
         Ok(text) => Ok(text),
-        // It is a text of digits and signs.
+        // It is a text of digits, letters and signs.
         Err(TxtFault::NotUtf8 { .. }) => Err(NoMemory),
         Err(TxtFault::NoMemory) => Err(NoMemory),
     }

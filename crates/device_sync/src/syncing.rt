@@ -158,7 +158,7 @@ pub fn sync<K: Keeper, L: Link, G: Ledger>(
     if reading / 60_000 >= WINDOW {
         return Err(SyncFault::Clock(ClockFault::Beyond { reading }));
     }
-    // That the messages of a log rise is said of their number.
+    // The contract of `len` says that the messages of a log rise.
     let _count = device.log().len();
     let found = match last_synced(alloc, keeper, target) {
         Ok(found) => found,

@@ -29,7 +29,7 @@ field_of dataset row column = record { dataset = dataset; row = row; column = co
 abbrev pub cut_names : List ℕ → ℕ → ℕ → FieldNames
 cut_names text row_at column_at = field_of (take row_at text) (slice_range text row_at column_at) (drop column_at text)
 
--- the places stand in their order, and each between two characters
+-- the places stand in their order, and no character is cut at either
 pub record IsCut (text : List ℕ) (row_at column_at : ℕ) : Type 0 where
   pub in_order : row_at ≤ column_at
   pub row : IsCharBoundary text row_at

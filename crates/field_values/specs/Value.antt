@@ -23,7 +23,7 @@ value_text (Number n) = codes "N:" ++ signed_decimal n
 value_text (Text t) = codes "S:" ++ t
 value_text (Other t) = t
 
--- the text is that of no null, no number and no text
+-- the text is that of no null, no number that a value may hold and no text
 pub record IsOtherText (text : List ℕ) : Type 0 where
   pub no_null : text ≡ codes "0:" → ⊥
   pub no_number : (n : ℤ) → HoldsNumber n → text ≡ codes "N:" ++ signed_decimal n → ⊥
@@ -54,7 +54,7 @@ abbrev pub number_or_other : List ℕ → Option ℤ → Value
 number_or_other text None = Other text
 number_or_other text (Some n) = Number n
 
--- the text is that of the number; or it is the text of no number
+-- the text is that of the number; or it is the text of no number that a value may hold
 abbrev pub IsNumberText : List ℕ → Option ℤ → Type 0
 IsNumberText digits (Some n) = HoldsNumber n × (digits ≡ signed_decimal n)
 IsNumberText digits None = (n : ℤ) → HoldsNumber n → digits ≡ signed_decimal n → ⊥

@@ -105,7 +105,7 @@ impl Names {
     }
 }
 
-/// The names in memory of their own, of which they are the only owner.
+/// The names in a block of memory that copies of a field can share.
 fn shared(alloc: Global, names: Names) -> Result<Rc<Names>, NoMemory>
     ensures { IfOk result (λ block. block.value ≡ names) }
 {

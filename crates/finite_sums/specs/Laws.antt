@@ -34,7 +34,7 @@ SumsFollowBatches V =
     (f g : V → ℤ) (m n : Texts V) (ks : List Text) → AgreeOff V f g m n ks
     → total_of f m +ℤ total (λ k. value_or_zero g (map.get n k)) ks ≡ total_of g n +ℤ total (λ k. value_or_zero f (map.get m k)) ks
 
--- an addend counts in a class where the test says so, and in one class at most
+-- where each addend is of at most one class, as the test says, the sums of all classes weigh no more than all addends together
 abbrev pub ClassesCountOnce : Type 0 → Type 0
 ClassesCountOnce V =
     (t : Text → V → Bool) (a : V → ℤ) (ks : List Text) (xs : List V) → ((x : V) → hits (λ k. t k x) ks ≤ 1)

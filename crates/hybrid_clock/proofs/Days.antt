@@ -1,4 +1,4 @@
--- The day of a number is the date with that many days before it, and no other date is.
+-- The day of a number below 73,000 is the date with that many days before it, and no other date is.
 use Rattle.std.proofs.Common.{◌≡◌, ℕ, zero, suc, ◌+◌, ◌-◌, ◌*◌, ◌/◌, ◌<◌, ◌≤◌, ℤ, pos, ◌≤ℤ◌, ◌+ℤ◌, arith, refl, true, nat_lt, subst, sym, ◌∙◌, ap, inl, inr, None, Some, if◌then◌else◌, unsigned_abs}
 use Rattle.std.proofs.lemmas.Bool.{cases_lt, cond_both, ltb-true, ltb-false, and_from, le-leb, cond-true}
 use Rattle.std.proofs.lemmas.Int.{ints, by_lt_z}

@@ -58,7 +58,7 @@ past_form n [] i l h = refl
 past_form n (p ∷ ps) zero l h = absurd (omega arith)
 past_form n (p ∷ ps) (suc i) l h = past_form (n - 1) ps i (omega arith) (omega arith)
 
--- a place where the form has something
+-- a place where the form has something is below 46
 pub within_form : (i p : ℕ) → get_or form i 0 ≡ suc p → i < 46
 within_form i p e = elim (cases_lt i 46) [ inl h ↦ h | inr h ↦ absurd (omega (arith, past_form 46 form i refl h, e)) ]
 

@@ -36,7 +36,7 @@ draw clock reading n =
     then moved clock reading (max clock.millis reading) (first_counter clock (max clock.millis reading) + (n - 1))
     else Err (Beyond reading)
 
--- the counter that follows those of the clock and the message at the greatest time of both and the reading
+-- the counter that follows those of the clock and the message at a time, which is before neither
 abbrev pub next_counter : Stamp → Stamp → ℕ → ℕ
 next_counter clock message time =
     if clock.millis == time

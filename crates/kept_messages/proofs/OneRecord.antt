@@ -65,14 +65,14 @@ none_above g e (f ∷ es) low all =
     over Equal b is h = ap (text_cmp g) (sym (text_same e.0.0 f.0.0 is)) ∙ low
     over Greater b is h = absurd (cc)
 
--- entries with one more, whose place is not there
+-- entries with one more, where its place is not there
 abbrev with_entry : Place → Text → List (Place × Text) → List (Place × Text)
 with_entry p b es = cond (is_some (find place_cmp p es)) es (put place_cmp p b es)
 
 absent : (p : Place) (b : Text) (es : List (Place × Text)) → find place_cmp p es ≡ None → with_entry p b es ≡ put place_cmp p b es
 absent p b es h = ap (λ o. cond (is_some o) es (put place_cmp p b es)) h
 
--- records with one more, whose key is not there
+-- records with one more, where its key is not there
 abbrev pub add_record : List Record → Record → List Record
 add_record [] r = r ∷ []
 add_record (s ∷ rs) r = by_order (text_cmp r.key s.key) (r ∷ s ∷ rs) (s ∷ rs) (s ∷ add_record rs r)

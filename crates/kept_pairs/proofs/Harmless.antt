@@ -1,4 +1,4 @@
--- Writes that touch no link, no day and no amount of a transaction that was there leave pairs and splits right.
+-- Writes that delete no transaction that was there, bring none back, and touch none of its links, its day or its amount leave pairs and splits right.
 use Rattle.std.proofs.Common.{◌≡◌, Bool, true, false, cond, List, [], ◌∷◌, Option, Some, None, refl, ap, sym, ◌∙◌, subst}
 use Rattle.std.specs.Prelude.{◌≢◌, ◌&&◌, not, unwrap_or}
 use lib.IntN.{ℤ, ◌+ℤ◌}
@@ -29,7 +29,7 @@ use Rattle.split_transfer.proofs.SameSums.{total_of-same_values}
 use Rattle.split_transfer.proofs.Single.{clash, no_part}
 use Rattle.split_transfer.proofs.Elsewhere.{IsOther}
 
--- the later row has the links, the day and the amount of the earlier one
+-- the later row has the links, the day and the amount of the earlier one, and is deleted where that is
 pub record IsSame (x y : TxRow) : Type 0 where
   pub transferred : y.transferred_id ≡ x.transferred_id
   pub child : y.is_child ≡ x.is_child
@@ -91,11 +91,11 @@ elsewhere ids r w is = record { step = λ m k. record { rows = λ q. subst (λ t
 
 -- ---- a write into a transaction
 
--- a column that leaves links, day and amount
+-- a column that leaves links, day and amount, and whether the transaction is deleted
 pub record IsPlain (c : TxColumn) : Type 0 where
   pub same : (v : Value) (x : TxRow) → IsSame x (with_column c v x)
 
--- a column that leaves links
+-- a column that links no transaction to another, and splits none
 pub record IsLoose (c : TxColumn) : Type 0 where
   pub alone : (v : Value) (x : TxRow) → IsAlone x → IsAlone (with_column c v x)
 

@@ -28,15 +28,15 @@ pub record AsksGroup (sent : List ℕ) : Type 0 where
 abbrev pub answered : List Exchange → List Exchange
 answered xs = filter (λ x. is_some x.got) xs
 
--- All exchanges, the messages of the server's group, and how often a call has failed. Where an answer was made and could not be given, the
--- messages are not told any more.
+-- All exchanges, the messages of the server's group, and how often a call has failed. Where the server was asked and its answer could not
+-- be given, the messages are not told any more.
 pub record PeerState : Type 0 where
   pub exchanges : List Exchange
   pub messages : Option (List Message)
   pub faults : ℕ
 
 -- What came back was said by an honest server, which began with an empty group and has these messages now. Each time it was asked for its
--- group by a device, and what it said was not too long. Once an answer was lost nothing more comes back.
+-- group by a device, and what it said was not too long. Once an answer was lost, nothing has come back for what was sent last.
 pub record IsPeer (p : PeerState) : Type 0 where
   pub honest : (ms : List Message) → p.messages ≡ Some ms → Honest token [] (answered p.exchanges) ms
   pub within : AreWithin (answered p.exchanges)
@@ -70,7 +70,7 @@ pub record Answers (old new : Option (List Message)) (came reply : List ℕ) : T
 abbrev pub IsLast : PeerState → List ℕ → Type 0
 IsLast p sent = (front : List Exchange) × (p.exchanges ≡ front ++ begun sent ∷ [])
 
--- what was sent last, if anything, is no request of a device for the group
+-- what was sent last and has no reply yet, if anything, is no request of a device for the group
 abbrev pub IsForeign : PeerState → Type 0
 IsForeign p = (sent : List ℕ) → IsLast p sent → AsksGroup sent → ⊥
 

@@ -71,7 +71,7 @@ fn body_of(bytes: &[u8]) -> &[u8]
     }
 }
 
-/// Whether bytes are all that a text is.
+/// Whether bytes are those of a text.
 fn is_text(bytes: &[u8], text: &str) -> bool
     ensures { result ≡ bytes_eq bytes.now text.now }
 {
@@ -94,7 +94,7 @@ pub(crate) fn asks_group(alloc: Global, bytes: &[u8]) -> Result<bool, NoMemory>
     ensures foreign { IfOk result (λ asks. asks ≡ false → AsksGroup bytes.now → ⊥) }
 {
     bytes_are_read();
-    // That there are fewer than 2 to the 64 is said of their number.
+    // There are fewer bytes than 2 to the 64, since their number is a `usize`.
     let _count = count_of(bytes);
     let request = match read_request(alloc, body_of(bytes)) {
         Ok(request) => request,

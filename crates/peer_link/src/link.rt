@@ -74,7 +74,7 @@ impl PeerLink {
 }
 
 /// What comes back for bytes: where they are the request of a device, and there is a server still, what it replies, and a copy of that.
-/// Where memory does not suffice for the reply the server is lost, since it may have kept what came.
+/// Where it gives no reply, or memory does not suffice for the copy of the reply, the server is lost, since it may have kept what came.
 fn answer(
     alloc: Global,
     server: &mut Option<Server>,

@@ -41,7 +41,7 @@ fn sync_peer<K: Keeper, G: Ledger>(
     ensures usable { IfUsable result ((device.new.spent ≡ false) × (device.new.batch ≡ [])) }
 {
     received_are_joined();
-    // What is so of each link is said of its count.
+    // The contract of `count` says what is so of each link.
     let _before = link.count();
     let ended = sync(alloc, device, keeper, link, group, target, reading, steps);
     let _after = link.count();
@@ -49,7 +49,8 @@ fn sync_peer<K: Keeper, G: Ledger>(
 }
 
 /// Lets two devices sync in turns with one server whose group is empty: the first one, the other, and the first one again, each at its
-/// reading of the wall clock. Each keeps what comes in a group of its own keeper, which keeps its messages.
+/// reading of the wall clock. Each has its own keeper, to keep what comes in a group of it; what a keeper then has, this contract
+/// does not say.
 ///
 /// # Errors
 ///
@@ -78,7 +79,7 @@ pub fn meet<K: Keeper, N: Keeper, G: Ledger>(
         Ok(target) => target,
         Err(_) => return Err(SyncFault::NoMemory),
     };
-    // That the messages of a log rise is said of their number.
+    // The contract of `len` says that the messages of a log rise.
     let _one = one.log().len();
     let _other = other.log().len();
     let [at_first, at_other, at_again] = readings;

@@ -21,7 +21,7 @@ use sync_wire::meanings_are_valid;
 /// The most bytes of a reply that find room.
 const MOST_BYTES: usize = 16_777_216;
 
-/// The most bytes of a request that are taken.
+/// The most bytes of a request that the server is given.
 const MOST_ASKED: usize = 268_435_456;
 
 /// A server whose keeper is in memory. A contract sees the messages of its group.
@@ -87,7 +87,7 @@ fn reply_at(alloc: Global, door: &MemoryDoor) -> Option<Vec<u8>>
     }
 }
 
-/// Serves a request of a device, and gives the reply, where memory suffices for it.
+/// Serves a request of a device, and gives the reply, where memory suffices and neither is too long.
 fn serve_at(
     alloc: Global,
     state: &mut ServerState,
@@ -127,8 +127,8 @@ impl Server {
         Ok(Server { state, keeper })
     }
 
-    /// Serves a request of a device, and gives the server as it is then, with the reply. Where memory does not suffice for the reply the
-    /// server is lost, since it may have kept what came.
+    /// Serves a request of a device, and gives the server as it is then, with the reply. Where there is no reply, for want of memory or
+    /// since the request or the reply is too long, the server is lost, since it may have kept what came.
     pub(crate) fn serve(self, alloc: Global, came: Items<u8>) -> Option<(Server, Vec<u8>)>
         requires { AsksGroup came }
         ensures { IfSome result (λ r. IsAnswered self came r.1.items r.0) }

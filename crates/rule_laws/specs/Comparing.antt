@@ -48,7 +48,7 @@ pub record AmountsAreCompared : Type 0 where
 
 -- how days are compared
 pub record DaysAreCompared : Type 0 where
-  -- no day meets no test, and a recurrence is met by none
+  -- where there is no day no test is met, and no day meets a recurrence
   pub none : (op : CondOp) (value : CondValue) → day_holds op value None ≡ false
   pub recurrence : (op : CondOp) (day : Option ℕ) → day_holds op Recurrence day ≡ false
   pub is : (n day : ℕ) → (day_holds Is (Day n) (Some day) ≡ true) ↔ (day ≡ n)

@@ -20,7 +20,8 @@ IsNamedBy m Last = m.place ≡ month_length m.month
 abbrev pub IsMeant : Said → MonthDay → Type 0
 IsMeant r m = ((r.patterns ≡ []) × (m.place ≡ (month_day r.start).place)) ⊎ ((p : Pattern) × Contains r.patterns p × IsNamedBy m p)
 
--- raw days are whole steps away from the start, and none lies before it
+-- raw days are whole steps away from the start, where the interval is at least 1, and none lies before it, or behind 2199, whose last day
+-- is 84,005
 pub record RawDaysAreTold (r : Said) (some : 1 ≤ r.interval) : Type 0 where
   pub days : r.frequency ≡ Daily → (d : ℕ) → (is_raw r d ≡ true) ↔ ((d < 84_006) × ((k : ℕ) × (d ≡ r.start + k * r.interval)))
   pub weeks : r.frequency ≡ Weekly → (d : ℕ) → (is_raw r d ≡ true) ↔ ((d < 84_006) × ((k : ℕ) × (d ≡ r.start + k * (7 * r.interval))))

@@ -28,7 +28,7 @@ use Rattle.rule_laws.specs.Scheduling.{IsThere}
 pub record IsPlain (recur : Text) (d : Data) : Type 0 where
   -- it is this value
   pub is : read recur ≡ Some d
-  -- its numbers are whole. No key that is read wants another one
+  -- its numbers are whole and of at most 64 bits, and none is `-0`. No key that is read wants another one
   pub whole : has_float d ≡ false
   -- it nests no deeper than the reader of the conditions goes, in which it stands two deep. No key that is read wants more than 3
   pub flat : depth d ≤ 125

@@ -40,7 +40,7 @@ abbrev pub gone_on : Option ℕ → ScheduleRow → ScheduleRow
 gone_on None row = record row { completed = true }
 gone_on (Some date) row = record row { next_date = Some date }
 
--- the rule of a new schedule: no stage, all its conditions, and no actions
+-- the rule of a new schedule: it has no stage, all its conditions have to hold, and it has no actions
 abbrev pub rule_of_new : Text → Text → RuleRow
 rule_of_new id conditions = record { id = id; stage = None; conditions_op = Some (codes "and"); conditions = Some conditions; actions = Some (codes "[]"); tombstone = false }
 

@@ -13,7 +13,8 @@ ghost use Rattle.rule_laws.specs.Acting.{ActionsAreTold};
 ghost use Rattle.rule_laws.specs.Saying.{SchedulesReadBack};
 ghost use Rattle.rule_laws.specs.Asking.{RuleEditsAreJudged, ScheduleEditsAreJudged};
 
-/// A law: raw days lie whole steps of days, weeks, months or years from the start on, and by months on a day that is meant.
+/// A law: raw days lie whole steps of days, weeks, months or years from the start on, where the interval is at least 1, and by months on a
+/// day that is meant.
 pub fn raw_days_are_told()
     ensures { (r : Said) (some : 1 ≤ r.interval) → RawDaysAreTold r some }
 {}
@@ -93,7 +94,7 @@ pub fn schedule_edits_are_judged()
 
 /// A law: a schedule that is added says the account, the payee, the amount and the days that were given, and its rule tests for them but
 /// for the days, of which its test has only that there is a recurrence. It is asked before that both rows are new, and that the recurrence
-/// has whole numbers alone, and isn't nested deeper than 125.
+/// has whole numbers of at most 64 bits alone, none of them `-0`, and isn't nested deeper than 125.
 pub fn schedules_read_back()
     ensures { (ids : Ids) (rows : Rows) (ws : List Write) → SchedulesReadBack ids rows ws }
 {}

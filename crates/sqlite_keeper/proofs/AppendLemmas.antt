@@ -37,7 +37,7 @@ use Rattle.sqlite_keeper.proofs.Maps.{one_changed, get_found, get_missing}
 use Rattle.sqlite_keeper.proofs.RowRules.{Rules, fit_rules, items_typed, items_once, texts_same, same_texts, equal_values}
 use Rattle.sqlite_keeper.proofs.PutLemmas.{went, same_value, mode, cast_null}
 
--- the record is there, and nothing else has changed
+-- the record was added, where its key was not there, and nothing else has changed
 pub record Added (db next : Trees) (group key body : List ℕ) : Type 0 where
   pub records : (contents_of next).records ≡ with_record group (contents_of db).records (record { key = key; body = body })
   pub texts : next 2 ≡ db 2

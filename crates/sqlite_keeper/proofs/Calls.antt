@@ -217,6 +217,6 @@ module _ {S T E : Type 0} (g : Ghosts S) (old mid new : Held S) (r : Result T E)
       go (Ok x) d o = λ k left. (d.0.is_open, o k left)
       go (Err e) d o = tt
 
--- a stop leaves the contents of a connection that stands alone
+-- of a connection that stands, a stop leaves its contents alone
 pub left_alone : {S : Type 0} (g : Ghosts S) (h : Held S) (k : Contents) → ((db : Trees) → IsTrue (state g h).is_open → (state g h).may_leave db → db ≡ (state g h).committed.trees) → Stands g h → MayLeave g h k → k ≡ contents_now g h
 left_alone g h k settled stands left = left.2 ∙ ap contents_of (settled left.0 stands.is_open left.1 ∙ ap (λ (d : Database). d.trees) (sym stands.settled))

@@ -74,7 +74,7 @@ module _ (old new : State) (e : Error) (has : old.now.schema ≡ keeper_schema) 
       let db : it.0 ≡ old.now = subst (λ b. IsSourceOf b old.now it.0) (ap (λ s. reads_listing s get_text) has ∙ get_unlisted) it.1 in
       refuses it.0 db (subst (λ k. RefusesToRead old.step_limit k it.0 version_row e) (ap command_of known) it.2)
 
--- what has a reason after a call that changed nothing had it since before that call
+-- what has a reason after a call had it since before that call, where no fault was forgotten and the limit is the same
 pub has_since : (old mid new : State) → old.faults ≤ mid.faults → mid.step_limit ≡ old.step_limit → HasReason mid new → HasReason old new
 has_since old mid new less limit (inl more) = inl (omega arith)
 has_since old mid new less limit (inr some) = inr (subst IsSome limit some)

@@ -68,7 +68,7 @@ shown_unchanged sql params old new rows plain h =
     let none = (subst IsPlain h.1.is plain).0 in
     (subst (ShowsRows old new sql h.0 (timed params h.0.formats h.1.now) rows) none h.2).3
 
--- nor does one that fails
+-- nor does one that fails, unless what was not committed is rolled back
 pub query_err : (sql : List ℕ) (params : Row) (old new : State) (e : Error) → IsPlain (understood old.now.schema sql) → FailsToQuery sql params old new e → IsUnchanged old new ⊎ IsRolledBack old new
 unfolding FailsToQuery
 query_err sql params old new e plain (inl h) = not_run sql params old new e h

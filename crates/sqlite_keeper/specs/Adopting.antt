@@ -31,7 +31,7 @@ new_contents = with_text nothing version_name version_one
 abbrev pub TellsNone : Contents → Type 0
 TellsNone k = (t : Text) → get k.texts version_name ≡ Some t → IsUtf8 t → ⊥
 
--- the text is the version of the contents, or is empty where they tell none, and else they are not of this version
+-- the text is the version of the contents, or is empty where they tell none; where it is not `1`, they are not of this version
 pub record IsVersion (k : Contents) (t : Text) : Type 0 where
   pub is : (get k.texts version_name ≡ Some t) ⊎ ((t ≡ []) × TellsNone k)
   pub other : t ≢ version_one → get k.texts version_name ≢ Some version_one

@@ -72,7 +72,7 @@ pub record Adds {S : Type 0} (g : Ghosts S) (old new : Held S) (group : Text) (b
   pub contents : contents_now g new ≡ appended (contents_now g old) group batch
   pub committed : (state g new).committed ≡ (state g old).committed
 
--- a failure has ended the transaction, or has changed nothing
+-- where the connection is open after a failure, it was open before, and nothing more is committed
 pub record Fell {S : Type 0} (g : Ghosts S) (old new : Held S) : Type 0 where
   pub was_open : IsTrue (state g new).is_open → IsTrue (state g old).is_open
   pub committed : IsTrue (state g new).is_open → (state g new).committed ≡ (state g old).committed

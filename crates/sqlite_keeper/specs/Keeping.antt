@@ -26,7 +26,7 @@ pub record TellsAll {S : Type 0} (g : Ghosts S) (k : Keeping S) : Type 0 where
   pub clean : HasCleanDisk (state g k.conn)
   pub is_open : IsTrue (state g k.conn).is_open
 
--- what a stop at this moment may leave
+-- what a stop at this moment may leave of a keeper that is not shut, over its own tables and a clean disk: of any other nothing is said
 pub record MayBeLeft {S : Type 0} (g : Ghosts S) (k : Keeping S) (c : Contents) : Type 0 where
   pub unshut : k.is_shut ≡ false
   pub ours : k.is_ours ≡ true

@@ -20,7 +20,7 @@ use Rattle.budget_ports.specs.declared.keeper.Record.{Record}
 use Rattle.sqlite_keeper.specs.Contents.{Contents, Text as Bytes, text_cmp}
 use Rattle.sqlite_keeper.specs.Tables.{keeper_schema}
 
--- over the keeper's tables the text is a query of them, which reads no time
+-- over the keeper's tables the text is a statement without RETURNING, which reads neither the time nor the list of the tables
 abbrev pub IsQuery : List ℕ → Type 0
 IsQuery sql = IsPlain (understood keeper_schema sql) × (reads_listing keeper_schema sql ≡ false)
 
@@ -28,7 +28,7 @@ IsQuery sql = IsPlain (understood keeper_schema sql) × (reads_listing keeper_sc
 abbrev pub IsUnread : Schema → List ℕ → Type 0
 IsUnread schema sql = (fault : CompileError) × (understood schema sql ≡ Err fault)
 
--- nothing was changed, a stop leaves no more, and only a fault of the disk has shut the connection
+-- nothing was changed, or what was not committed was rolled back; a stop leaves no more, and only a fault of the disk has shut the connection
 pub record LeavesAll {S : Type 0} (g : Ghosts S) (old new : Held S) : Type 0 where
   pub back : IsUnchanged (state g old) (state g new) ⊎ IsRolledBack (state g old) (state g new)
   pub left : (db : Trees) → (state g new).may_leave db → (state g old).may_leave db

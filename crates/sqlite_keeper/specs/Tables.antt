@@ -43,7 +43,7 @@ keeper_schema = created (created no_schema (items 0)) (named 0)
 
 -- ---- the same, part by part
 
--- no rowid column, check, reference or default that is computed
+-- no rowid column, check, reference, default that is computed, or AUTOINCREMENT
 pub record IsBare (t : Table) : Type 0 where
   pub key : t.key ≡ None
   pub checks : t.checks ≡ []

@@ -1,4 +1,4 @@
-//! The queries of the keeper's texts.
+//! How the keeper asks a query of its connection.
 ghost use Rattle.std.specs.Prelude.{◌≡◌, ◌≤◌, false, IsTrue, IfOk, IfErr, OnOk};
 ghost use Rattle.sqlite.specs.State.{HasCleanDisk, Shown, FailsToQuery};
 ghost use Rattle.sqlite.specs.Held.{state};

@@ -24,7 +24,7 @@ use std::marker::Model;
 /// A keeper over a connection to a store with the keeper's two tables.
 ///
 /// It tells its contents while it is not shut, its tables are the keeper's alone, and the connection
-/// is open over a disk that has returned what was written. A shut keeper fails at each call.
+/// is open over a disk that has returned what was written. A shut keeper tells nothing.
 #[derive(Drop)]
 pub struct SqliteKeeper<S: Alter> {
     conn: Connection<S>,
@@ -76,19 +76,23 @@ pub enum AdoptFault {
 pub struct Unadopted<S: Alter> {
     /// Why it was not taken.
     pub fault: AdoptFault,
-    /// The connection as it was given, with the contents that it had.
+    /// The connection: while it is open, with the contents that it had.
     pub connection: Connection<S>,
 }
 
 impl<S: Alter> SqliteKeeper<S> {
     /// Takes a store: one of this version as it is, and where it has no tables it makes them.
     ///
-    /// The first statement asks for the text `version`. Where it is `1` the store is taken, and where it
-    /// is another the fault tells it. Where the connection refuses the statement, the tables and the
-    /// version are made in one commit; where it refuses that as well, the keeper is shut, its count is 1,
-    /// and the contents are as before. Over an open connection to a store of this layout, or to one with
-    /// no tables, a keeper is shut only if the disk failed or a limit was set on the steps of a query.
-    /// What `in_order` gives is what `ordered` asks.
+    /// The first statement asks for the text `version`. Where it is `1` the store is taken, and
+    /// where it is another, or there is none, the fault tells it. Where the connection refuses the
+    /// statement and the store lacks the keeper's tables, they and the version are made in one
+    /// commit. Where it has them, or the making is refused as well, the keeper is shut, its count
+    /// is 1, and the contents are as before while the connection is open. Want of memory is a fault
+    /// instead.
+    ///
+    /// Over an open connection to a store of this layout, or to one where nothing is listed, a
+    /// keeper is shut only if the disk failed or returned something else, or a limit was set on the
+    /// steps of a query. What `in_order` gives is what `ordered` asks.
     pub fn adopt(alloc: Global, connection: Connection<S>) -> Result<SqliteKeeper<S>, Unadopted<S>>
         requires idle { connection.in_transaction ≡ false }
         requires ordered { IsInOrder S.Store connection }
@@ -199,7 +203,7 @@ impl<S: Alter> SqliteKeeper<S> {
         }
     }
 
-    /// Whether the keeper is shut: each call fails then.
+    /// Whether the keeper is shut: it tells nothing then.
     pub fn is_shut(&self) -> bool
         ensures { result ≡ self.now.is_shut }
     {

@@ -27,7 +27,7 @@ fn is_words(column: &Column, name: &str) -> bool
         && matches!(column.collation, Collation::Binary)
 }
 
-/// Whether the table has no more than columns and one unique key.
+/// Whether the table has no rowid column, check, reference, computed default or AUTOINCREMENT.
 fn is_bare(table: &Table) -> bool
     ensures same { IsTrue result → IsBare table.now }
     ensures whole { IsBare table.now → IsTrue result }

@@ -12,10 +12,11 @@ use sqlite::{Alter, Connection, Error, ErrorCode};
 use std::alloc::Global;
 
 /// Rolls back what is not committed, and reads and checks the store again: so the connection is known
-/// to keep the rows of its tables in order, as `SqliteKeeper::adopt` asks.
+/// to keep the rows of the keeper's tables in order, as `SqliteKeeper::adopt` asks.
 ///
-/// Where the store cannot be read again, it is let go, and the error says why: memory was wanting, the
-/// connection was shut, or the disk failed meanwhile.
+/// Where the store cannot be read again, it is let go. The error tells want of memory; with any
+/// other, the connection was shut or the disk failed meanwhile, unless the disk has returned
+/// something else.
 pub fn in_order<S: Alter + Drop>(
     alloc: Global,
     connection: Connection<S>,

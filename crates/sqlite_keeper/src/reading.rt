@@ -44,7 +44,7 @@ pub(crate) fn try_get<S: Alter>(conn: &mut Connection<S>, name: &Txt) -> Result<
     text_in(&rows)
 }
 
-/// Whether the key is above that of each record so far, and not empty.
+/// Whether the key is above that of the last record so far, if there is one, and not empty.
 fn is_above(found: &[Record], key: &Txt) -> bool
     ensures { result ≡ is_lt (text_cmp (last_key found.now) key.now) }
 {

@@ -21,7 +21,7 @@ use std::alloc::Global;
 /// Why there is no keeper over a store.
 #[derive(Debug, Drop)]
 pub enum StoreFault {
-    /// The store could not be read again.
+    /// The store could not be opened, or not be read again.
     Unopened,
     /// It is of another version, or of one that it does not tell: then `found` is empty.
     Version {
@@ -38,9 +38,11 @@ pub enum StoreFault {
 /// A keeper that tells has what was committed last, or, where nothing was listed, what a new store has;
 /// over the keeper's tables it tells, unless it is shut or the disk has returned something else.
 ///
-/// Over the keeper's tables, or where nothing was listed, it is shut only if the disk has failed since the
-/// store was read again. The faults are told each for its reason: `Unopened` where the connection was shut
-/// or the disk failed meanwhile, `Version` where the store tells another version.
+/// Unless the disk has returned something else: over the keeper's tables, or where nothing was
+/// listed, a keeper is shut only if the disk has failed since the store was read again. And the
+/// faults are told each for its reason: `Unopened` where the connection was shut or the disk failed
+/// meanwhile, `Version` where something is listed, and if it is the keeper's tables, where they
+/// tell another version or none. Want of memory needs no reason.
 pub fn take<S: Alter + Drop>(
     alloc: Global,
     connection: Connection<S>,

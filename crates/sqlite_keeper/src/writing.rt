@@ -9,7 +9,7 @@ use budget_ports::Record;
 use field_values::Txt;
 use sqlite::{Alter, Connection, Error, Transaction, params};
 
-/// Replaces a text.
+/// Puts a text under a name, in place of the one that was there.
 fn put<S: Alter>(conn: &mut Connection<S>, name: &str, text: &str) -> Result<(), Error>
     ensures done { HasCleanDisk (state S.Store conn.new) → Stands S.Store conn.old → OnOk result (Stands S.Store conn.new × (contents_now S.Store conn.new ≡ with_text (contents_now S.Store conn.old) name.now text.now)) }
     ensures failed { HasCleanDisk (state S.Store conn.new) → Stands S.Store conn.old → IsTrue (state S.Store conn.new).is_open → OnErr result (Stands S.Store conn.new × (contents_now S.Store conn.new ≡ contents_now S.Store conn.old)) }
@@ -25,7 +25,7 @@ fn put<S: Alter>(conn: &mut Connection<S>, name: &str, text: &str) -> Result<(),
     Ok(())
 }
 
-/// Replaces a text, where the connection is still open.
+/// Puts a text under a name, in place of the one that was there, where the connection is open.
 pub(crate) fn try_put<S: Alter>(
     conn: &mut Connection<S>,
     name: &str,
@@ -45,7 +45,7 @@ pub(crate) fn try_put<S: Alter>(
     put(conn, name, text)
 }
 
-/// Adds one record within a transaction.
+/// Adds one record within a transaction, where its key is not there.
 fn add<S: Alter>(tx: &mut Transaction<'_, S>, group: &Txt, kept: &Record) -> Result<(), Error>
     ensures same_reference { tx.new.conn.ghost_name ≡ tx.old.conn.ghost_name }
     ensures done { HasCleanDisk (state S.Store tx.new.conn.now) → Inside S.Store tx.old.conn.now → OnOk result (Adds S.Store tx.old.conn.now tx.new.conn.now group.now (kept.now ∷ [])) }
@@ -62,7 +62,7 @@ fn add<S: Alter>(tx: &mut Transaction<'_, S>, group: &Txt, kept: &Record) -> Res
     }
 }
 
-/// Adds the records within a transaction, in turn.
+/// Adds the records whose key is not there within a transaction, in turn.
 fn add_all<S: Alter>(
     tx: &mut Transaction<'_, S>,
     group: &Txt,

@@ -1,6 +1,7 @@
 //! What more holds of a keeper over a store.
 //!
-//! There is no code here but calls of the keeper: the laws say in the words of the store what each call of it does.
+//! There is no code here but calls of the keeper: the laws say in the words of the store what each call of it does. A store that tells
+//! its contents is one that tells them after the call, and so told them before.
 #![tactic(auto)]
 
 mod laws;

@@ -22,7 +22,7 @@ pub record CountsEnvelopes (messages : List Tagged → List Message) (encrypted 
   -- with an encrypted one, which has none, the whole is encrypted
   pub is_sealed : (before after : List Tagged) (end : ℕ) (bytes : List ℕ) → envelope_at end bytes ≡ Ok None
       → (messages (before ++ envelope_of end bytes ∷ after) ≡ messages (before ++ after)) × (encrypted (before ++ envelope_of end bytes ∷ after) ≡ true)
-  -- other fields make nothing of both
+  -- a field of another number changes neither
   pub others : (before after : List Tagged) (t : Tagged) → t.number ≢ 1 → (messages (before ++ t ∷ after) ≡ messages (before ++ after)) × (encrypted (before ++ t ∷ after) ≡ encrypted (before ++ after))
 
 pub record EnvelopesCount : Type 0 where

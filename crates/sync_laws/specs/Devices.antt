@@ -48,7 +48,7 @@ pub record IsAnsweredBy (s : State) (edit : Edit) (reading : ℕ) (meant : Resul
   -- with at most 65,536 it is accepted where the clock draws a timestamp for each, and else refused for the fault of the clock
   pub accepted : (w : Write) (ws : List Write) (clock : Stamp) → meant ≡ Ok (w ∷ ws) → length (w ∷ ws) ≤ 65_536 → draw s.clock reading (length (w ∷ ws)) ≡ Ok clock → IsAcceptedAt (edited s edit reading) clock
   pub no_stamp : (w : Write) (ws : List Write) (fault : ClockFault) → meant ≡ Ok (w ∷ ws) → length (w ∷ ws) ≤ 65_536 → draw s.clock reading (length (w ∷ ws)) ≡ Err fault → edited s edit reading ≡ Err (OfClock fault)
-  -- and what is accepted has made these writes
+  -- and what is accepted has made these writes, where the clock was behind no message
   pub made : (w : Write) (ws : List Write) (after : Accepted) → IsAhead s.clock s.messages → meant ≡ Ok (w ∷ ws) → edited s edit reading ≡ Ok after → AreJoinedWrites s New (w ∷ ws) after
 
 -- each kind of edit is answered by the writes of its kind, in the book of the messages

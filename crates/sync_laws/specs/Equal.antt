@@ -10,7 +10,7 @@ use Rattle.sync_server.specs.Serving.{found_in, Visit, IsServed}
 abbrev pub HaveEqualGroups : Contents → Contents → Type 0
 HaveEqualGroups k c = (q : SyncRequest) → found_in k q ≡ found_in c q
 
--- of two connections with equal bytes, each answered with 200 over such contents, the answers are equal bytes
+-- of two connections with equal bytes, each answered with 200 over such contents by servers with one token, the answers are equal bytes
 abbrev pub ServersAnswerEqually : Type 0
 ServersAnswerEqually = (token : Text) (k c : Contents) (one other : Visit) → HaveEqualGroups k c → one.came ≡ other.came → IsServed token (HasFound k) one (served.Answered 200)
     → IsServed token (HasFound c) other (served.Answered 200) → one.wrote ≡ other.wrote

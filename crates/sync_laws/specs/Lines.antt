@@ -52,11 +52,13 @@ pub record TakesLatest (target : Target) (r : Running) (turn : Turn) (entries : 
   pub no_stamp : (entry : List Before) (fault : ClockFault) → latest_of entries ≡ Some entry → draw r.state.clock i.given.reading (length (undo_writes entry)) ≡ Err fault
       → Refuses r (OfClock fault) (step target r i).0 (step target r i).1
 
--- what fields had before a line they have again, or read as having none, after it and one that takes it back
+-- what fields had before a line they have again after it and one that takes it back. One that had none reads as having none, where its row was
+-- there or can't be deleted; and a row that the line made is deleted, where it can be
 abbrev pub Restores : Target → Running → Input → Input → Type 0
 Restores target r i j = IsRestored r.state (step target r i).0.state (step target (step target r i).0 j).0.state
 
 pub record LinesAreTakenBack : Type 0 where
+  -- an undo and a redo, where the entries are valid and the clock is behind no message, as in each device
   pub undos : (target : Target) (r : Running) (i : Input) → Says i.line Undo → AreEntries r.state.history → IsAhead r.state.clock r.state.messages
       → TakesLatest target r Undoing r.state.history.undo NothingToUndo i
   pub redos : (target : Target) (r : Running) (i : Input) → Says i.line Redo → AreEntries r.state.history → IsAhead r.state.clock r.state.messages

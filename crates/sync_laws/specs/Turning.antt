@@ -18,7 +18,8 @@ use Rattle.device_sync.specs.Talk.{Outcome, going_on, agreed, out_of_sync, not_t
 pub record TalksBegin : Type 0 where
   -- from the text of the last sync on, where that is a timestamp's
   pub synced : (s : Stamp) (reading : ℕ) → IsStamp s → first_since (Some (stamp_text s)) reading ≡ stamp_text s
-  -- where there is none: what is later than the text asked from is what is at most five minutes older than the reading
+  -- where there is none: what is later than the text asked from is what is at most five minutes older than the reading, which lies in the window of
+  -- timestamps
   pub fresh : (reading : ℕ) (s : Stamp) → reading / 60_000 < window → IsStamp s → is_gt (slice_cmp nat_cmp (stamp_text s) (first_since None reading)) ≡ nat_le reading (s.millis + 300_000)
   -- and so it is where it is no timestamp's
   pub no_stamp : (text : List ℕ) (reading : ℕ) → ((s : Stamp) → IsStamp s → stamp_text s ≢ text) → first_since (Some text) reading ≡ first_since None reading

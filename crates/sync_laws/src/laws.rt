@@ -53,8 +53,8 @@ pub fn statuses_are_written()
     ensures { StatusesAreWritten }
 {}
 
-/// A law: servers whose files have the same groups, and whose groups have the same message sets, answer connections with equal bytes by
-/// equal bytes, where they answer with 200, however the messages came there.
+/// A law: servers with one token, whose files have the same groups, and whose groups have the same message sets, answer connections with
+/// equal bytes by equal bytes, where they answer with 200, however the messages came there.
 pub fn servers_answer_equally()
     ensures { ServersAnswerEqually }
 {
@@ -75,7 +75,7 @@ pub fn replies_are_whole()
 {}
 
 /// A law: a device asks first from the timestamp of the last sync on, where the text of that is a timestamp's. Else it asks from five
-/// minutes before the reading: it hands in and gets what is of that moment or later.
+/// minutes before the reading, where that lies in the window of timestamps: it hands in and gets what is of that moment or later.
 pub fn talks_begin()
     ensures { TalksBegin }
 {}
@@ -102,8 +102,8 @@ pub fn last_syncs_are_apart()
     ensures { LastSyncsAreApart }
 {}
 
-/// A law: the device of a plan says the plan's token, file and group. A server of a plan with the same file and group has, from its first
-/// connection on, the group for which that device asks.
+/// A law: the device of a plan says the plan's token, file and group. A server of a plan with the same file and group has, when its first
+/// connection comes, the group for which that device asks.
 pub fn plans_meet()
     ensures { PlansMeet }
 {
@@ -117,7 +117,8 @@ pub fn devices_begin_anew()
 
 /// A law: each kind of edit is answered by the writes that its own crate makes of it in the book of the messages. It is refused for
 /// just the refusal of its checks, else, with at most 65,536 writes, for the fault of the clock where that draws no timestamps; what is
-/// accepted has made just these writes, and without any all stays. More are refused for their number, as `writes_are_joined` says.
+/// accepted has made just these writes, where the clock was behind no message, and without any all stays. More are refused for their
+/// number, as `writes_are_joined` says.
 pub fn edits_are_of_their_kind()
     ensures { EditsAreOfTheirKind }
 {
@@ -133,7 +134,8 @@ pub fn ids_are_made_in_order()
 /// A law: what a line `undo` or `redo` makes of a run. Where there is no entry, it is refused for that, and where the clock draws no
 /// timestamps, for its fault; all stays then. Else exactly the writes that undo the latest entry have joined, whatever has come since
 /// the entry was made, and the reply tells them. An `undo` right behind an edit with writes restores what the edit wrote over, and so
-/// does a `redo` behind an `undo`, and an `undo` behind a `redo`.
+/// does a `redo` behind an `undo`, and an `undo` behind a `redo`. It is asked before that the entries are valid, and that the clock is
+/// behind no message, as in each device.
 pub fn lines_are_taken_back()
     ensures { LinesAreTakenBack }
 {

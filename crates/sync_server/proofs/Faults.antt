@@ -1,4 +1,4 @@
--- Faults that are free.
+-- Faults of the keeper and want of memory, for which a request is refused whatever it asks.
 use Rattle.std.proofs.Common.{◌≡◌, ◌≢◌, ℕ, List, refl, inl, inr, sym, subst}
 use Rattle.budget_ports.specs.declared.keeper.PortFault.{PortFault}
 use Rattle.budget_ports.specs.declared.keeper.PortFault.TheVariants as faults

@@ -58,7 +58,7 @@ comes None left taken c = record { came = taken; back = []; all = tt; split = sy
 comes (Some b) None taken c = absurd c
 comes (Some b) (Some rest) taken c = record { came = b; back = rest; all = refl; split = c; over = λ e. e }
 
--- some bytes are all, where nothing else is known
+-- whatever is known of the bytes that were left, some bytes are all of them
 pub any : (old : Option (List ℕ)) → (came : List ℕ) × IsAll old came
 any None = ([], tt)
 any (Some b) = (b, refl)

@@ -30,7 +30,7 @@ body_failed ends.Ended = false
 body_failed ends.Failed = true
 body_failed ends.NoMemory = false
 
--- a request that is neither encrypted nor without a timestamp to ask from
+-- a request that is neither encrypted nor without a text to ask from, and whose messages are valid
 pub record IsPlain (request : SyncRequest) : Type 0 where
   pub plain : request.encrypted ≡ false
   pub since : 0 < length request.since

@@ -43,12 +43,12 @@ keeper_failed (Err refusal) = is_fault refusal
 abbrev pub IsFree : Refusal → Type 0
 IsFree refusal = (refusal ≡ KeeperFault) ⊎ (refusal ≡ NoMemory)
 
--- the file has the group that the request names, or it is refused for that
+-- the file has the group that the request names; or it is refused for that, or the keeper failed, or memory ran out
 abbrev pub JudgesGroup : {T : Type 0} → SyncRequest → Option Text → Result T Refusal → Type 0
 JudgesGroup q group (Ok value) = group ≡ Some q.group
 JudgesGroup q group (Err refusal) = ((set : Result (List Message) ℕ) → judge_found q group set ≡ Refuses refusal) ⊎ IsFree refusal
 
--- the group has this message set, or a record that keeps no message
+-- the group has this message set, or a record that keeps no message; or the keeper failed, or memory ran out
 abbrev pub JudgesSet : Result (List Message) ℕ → Result (List Message) Refusal → Type 0
 JudgesSet set (Ok kept) = set ≡ Ok kept
 JudgesSet set (Err refusal) = ((index : ℕ) × (set ≡ Err index) × (refusal ≡ BadRecord)) ⊎ IsFree refusal

@@ -80,7 +80,7 @@ HeadsAreJudged = (token : List ℕ) (h : RequestHead) (r : Result ℕ Refusal) �
 
 -- ---- what a request decides
 
--- a request with a timestamp to ask from, none of whose envelopes is encrypted
+-- a request with a text to ask from, none of whose envelopes is encrypted
 abbrev pub IsFair : SyncRequest → Type 0
 IsFair q = (q.encrypted ≡ false) × (q.since ≢ [])
 

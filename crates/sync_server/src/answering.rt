@@ -55,7 +55,7 @@ pub fn answer(alloc: Global, log: &Log, request: &SyncRequest) -> Result<SyncRes
     ensures answer { IfOk result (λ a. a ≡ answer_of log.now.messages request.now) }
     ensures valid { IfOk result (λ a. AreMessages a.messages) }
 {
-    // That the messages of a log rise is said of their number.
+    // The contract of `len` says that the messages of a log rise.
     let _count = log.len();
     let known = log.since(b"")?;
     let mut copy = Log::new(alloc);

@@ -154,7 +154,7 @@ fn question_at(target: &[u8]) -> Option<usize>
     target.iter().position(|b| *b == 63)
 }
 
-/// What stands before the first question mark.
+/// What stands before the first question mark, or all where there is none.
 fn before_question(target: &[u8]) -> &[u8]
     ensures { result.now ≡ path_of target.now }
 {

@@ -15,7 +15,7 @@ pub fn heads_are_judged()
     ensures { HeadsAreJudged }
 {}
 
-/// A law: a request is refused for the first row that holds of it. These are an encrypted envelope, no timestamp to ask from, a file
+/// A law: a request is refused for the first row that holds of it. These are an encrypted envelope, no text to ask from, a file
 /// that the keeper doesn't have, another group than the file's, and a record of the group that keeps no message. Where none of them
 /// holds, and only there, it is accepted, over the messages of its group.
 pub fn requests_are_judged()
