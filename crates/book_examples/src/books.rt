@@ -257,7 +257,7 @@ fn uncounted(alloc: Global, book: &Book, question: &str, id: &Txt) -> Result<Str
     Ok(String::from_str(alloc, told.as_str())?)
 }
 
-/// What a book tells where no step is counted.
+/// What a book answers to a question.
 fn told(alloc: Global, book: &Book, question: &str, id: &Txt) -> Result<String, Fail>
     requires { book.now.spent ≡ false }
 {

@@ -159,8 +159,8 @@ fn tell_store(rt: &HostRuntime, fault: &StoreFault) {
 }
 
 /// Runs over the store in a file, which is made where it isn't there. Where there is none, that is told, and
-/// the run goes over a keeper whose every call fails; nothing in the file has changed then. Where memory runs
-/// out at the opening there is no run.
+/// the run goes over a keeper whose every call fails, so it leaves the file alone. Where memory runs out at
+/// the opening there is no run.
 fn run_over_store<D: Door>(
     rt: &HostRuntime,
     words: &Items<Txt>,

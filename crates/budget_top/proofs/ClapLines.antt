@@ -1,4 +1,4 @@
--- clap takes exactly the lines, and its rows are their pairs.
+-- clap takes exactly what `taken` takes, where the pairs are those of a line, and its rows are these pairs.
 use Rattle.std.proofs.Common.{◌≡◌, ℕ, ◌&&◌, ◌||◌, List, [], ◌∷◌, ◌++◌, map, length, Bool, true, false, cond, Option, Some, None, refl, sym, ap, ◌∙◌, subst, inl, inr, append_assoc, append-nil}
 use Rattle.std.specs.Bool.{MatchBool}
 use Rattle.std.specs.Prelude.{if◌then◌else◌}
@@ -356,6 +356,6 @@ sim (word ∷ words) spelled =
       value = λ ps n m e once name. value_word words later ps n m e once name word spelled.0;
     }
 
--- clap takes the words of a line, and its rows are their pairs
+-- clap takes words where `taken` has the pairs of a line for them, and its rows are these pairs; other words have a fault
 pub line_is : (words : List Text) → AreSpelled words → Agrees [] (taken anywhere words) (faults (walk_from nothing_held) words) (rows_end (walk_from nothing_held) words)
 line_is words spelled = (sim words spelled).anywhere [] nothing false refl refl tt

@@ -1,4 +1,4 @@
--- clap's answer at a command line is that of `Words`.
+-- clap's answer at a command line is that of `taken`, where the pairs are those of a line.
 use Rattle.std.specs.Bool.{MatchBool}
 use Rattle.budget_top.specs.Line.{Pair, is_line, anywhere}
 use Rattle.budget_top.specs.Clap.{row}

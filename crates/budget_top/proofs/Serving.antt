@@ -44,7 +44,7 @@ both_same : {A : Type 0} (b : Bool) (x : A) → cond b x x ≡ x
 both_same true x = refl
 both_same false x = refl
 
--- a line that is too long asks the same as one of which nothing is kept
+-- what is kept of a line asks the same as the line
 pub asked-kept_line : (line : List ℕ) → asked_kept_line (kept_line line) ≡ asked line
 asked-kept_line line =
     let no_command : Result Command ℕ = Err 0 in

@@ -41,7 +41,7 @@ abbrev pub wants : Look → Bool
 wants (long name None) = true
 wants shape = false
 
--- whether a word is an option that wants the next word for its value
+-- whether a word is written as an option that wants the next word for its value
 abbrev pub wants_value : List ℕ → Bool
 wants_value word = wants (look word)
 

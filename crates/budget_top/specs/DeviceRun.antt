@@ -89,7 +89,7 @@ abbrev pub TellsBadRecord : ℕ → Option (List ℕ) → Option (List ℕ) → 
 TellsBadRecord index taken new_taken faults new_faults =
     (new_faults ≡ faults) × Appends taken new_taken (bad_record_text index) ⊎ (new_faults ≡ risen faults) × AppendsFront taken new_taken (bad_record_text index)
 
--- such a record is the first one, and was reported
+-- such a record is the first one, where the keeper tells, and was reported, unless the sink failed at that
 pub record BadRecord (faults new_faults : ℕ) (old now : Seen) : Type 0 where
   pub index : ℕ
   pub first_bad : now.tells → kept_set (device_records old.contents) ≡ Err index

@@ -45,7 +45,7 @@ EndsAs SourceFailed e alone session read now = (length read ≤ most_input) × H
 EndsAs TooMuch e alone session read now = (most_input < length read) × Handles e (whole_lines (take most_input read)) now
 EndsAs (Stopped stop) e alone session read now = BreaksAs stop e alone (whole_lines (take most_input read)) now
 
--- it ended by itself
+-- it ended, and was not stopped while it dealt with bytes
 abbrev pub IsWhole : End DeviceStop → Type 0
 IsWhole (Stopped stop) = ⊥
 IsWhole end = Unit {0}

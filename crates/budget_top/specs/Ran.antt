@@ -17,7 +17,7 @@ ends_with_keeper Device = true
 ends_with_keeper Serve = false
 
 -- A run of the words with this status. Each mode says what was read, written and kept, and the counts say which object a
--- status blames: it has failed once more then, and in no other run that says so.
+-- status blames: it has failed once more then, and at no other status. Of the sink this is not said at status 3, nor of the keeper in the mode `serve`.
 pub record Ran (asked : List (List ℕ)) (status : ℕ) (old now : Outside) : Type 0 where
   -- words
   pub words : status ≡ 2 → IsErr (planned asked)

@@ -49,6 +49,6 @@ abbrev pub seen : Option (List ℕ) → Option Readings → Option (List Exchang
 seen taken readings exchanges link_faults tells contents left =
     record { taken = taken; readings = readings; exchanges = exchanges; link_faults = link_faults; tells = tells; contents = contents; left = left }
 
--- what objects in memory tell: all that they hold, and a stop leaves it alone
+-- what objects in memory tell: all that they hold; a stop leaves just what the keeper holds
 abbrev pub seen_in_memory : SinkState → Readings → LinkState → KeeperState → Seen
 seen_in_memory sink clock link keeper = seen (Some sink.taken) (Some clock) (Some (exchanges link)) link.calls.faults (Unit {0}) keeper.contents (holds keeper)

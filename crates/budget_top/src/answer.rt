@@ -286,7 +286,7 @@ fn asked_by(alloc: Global, line: &Begun) -> Result<Result<Command, u32>, NoMemor
     }
 }
 
-/// Whether it asks for a sync.
+/// Whether a line asks for a sync.
 fn is_sync(asked: &Result<Command, u32>) -> bool
     ensures sync { result ≡ true → asked.now ≡ Ok Command.Sync }
     ensures plain { result ≡ false → IsPlain asked.now }

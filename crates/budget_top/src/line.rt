@@ -66,7 +66,7 @@ fn plan_matches<'a>(alloc: Global, words: &'a [&'a str]) -> Result<ArgMatches<'a
     command.try_get_matches_from(words)
 }
 
-/// Whether a word is an option without its value.
+/// Whether a word is written as an option without its value.
 fn is_alone(word: &str) -> bool
     ensures { result ≡ wants_value word.now }
 {

@@ -15,7 +15,7 @@ Plain text = Lacks 10 text
 pub both : (xs ys : List ℕ) → Plain xs → Plain ys → Plain (xs ++ ys)
 both xs ys = Fails-append (λ b. b == 10) xs ys
 
--- a text that is written out is tested
+-- a text in which the test finds no line feed has none
 pub tested : (text : List ℕ) → list_any (λ b. b == 10) text ≡ false → Plain text
 tested [] h = tt
 tested (b ∷ bs) h = let parts = or_parts (b == 10) (list_any (λ b. b == 10) bs) h in (parts.0, tested bs parts.1)

@@ -17,7 +17,7 @@ starts_written (x ∷ p) (y ∷ text) h = by (nat_eq x y) refl (starts_written p
     by true e rest is = let first : x ≡ y = nat_same x y e in let more = rest is in λ i. first i ∷ more i
     by false e rest is = absurd (cc)
 
--- a text that is another one with no text behind it doesn't begin with it
+-- a text that is not another one with some text behind it doesn't begin with that one
 pub no_prefix : (p text : List ℕ) → ((rest : List ℕ) → text ≡ p ++ rest → ⊥) → starts_with nat_eq text p ≡ false
 no_prefix p text h = by (starts_with nat_eq text p) refl
   where

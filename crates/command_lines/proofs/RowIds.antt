@@ -10,7 +10,7 @@ use Rattle.command_lines.specs.ReplyLines.{IsLine}
 pub name_line : (id : Text) → IsName id → IsLine id
 name_line id name k d l e = let high : 32 ≤ _ = (name.bytes k d l).0 in omega (arith, high, e)
 
--- a row that passes a test is there
+-- the id of a row that passes a test is a name
 pub there_named : {X : Type 0} (rows : Texts X) (p : X → Bool) (id : Text) → AreNamed rows → some_and p (map.get rows id) ≡ true → IsName id
 there_named {X} rows p id named h = by (map.get rows id) refl h
   where

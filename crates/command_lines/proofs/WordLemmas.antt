@@ -65,7 +65,7 @@ pub err_by : {A : Type 0} (meant other : List ℕ → Result Command ℕ) (r : R
 err_by meant other (Ok a) same h = tt
 err_by meant other (Err fault) same h = λ id. subst (λ m. IsCommandFault m fault) (same id) (h id)
 
--- a line has at most one word more than bytes
+-- a line that is not too long has few words: at most one more than bytes
 pub few_words : (line name : List ℕ) (ws : List (List ℕ)) → parts line ≡ name ∷ ws → length line ≤ 1_048_576 → length ws < 2 ^ 31
 few_words line name ws e short =
     omega (arith, ap length e, length-slice_split (λ b. b == 9) line, count_by-le-length (λ b. b == 9) line)

@@ -80,7 +80,7 @@ fn cell_value<G: Ledger>(
     requires month { IsTrue (is_month name.now.month) }
     ensures { IfOk result (λ value. value ≡ cell_of (budget_of book.now.rows) name.now) }
 {
-    // The sheet of the month has exactly its cells.
+    // What a sheet tells of a cell of its month is what the cell tells.
     sheets_tell_cells();
     let sheet = sheet(alloc, book, name.month, steps)?;
     Ok(sheet.cell(name))

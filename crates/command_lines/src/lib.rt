@@ -1,7 +1,7 @@
 //! The lines of a device: how a line is read as a command, and how it is replied to.
 //!
-//! A line is words with a TAB between them, escaped as the parts of a message's line. It edits the books, brings a message, or
-//! asks of the messages or of the books, which are the rows that the messages make.
+//! A line is words with a TAB between them, escaped as the parts of a message's line. It edits the books, brings a message, syncs
+//! with the server, or asks of the messages or of the books, which are the rows that the messages make.
 #![tactic(auto)]
 
 mod answer;

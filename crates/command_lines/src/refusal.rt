@@ -1,4 +1,4 @@
-//! The replies to edits that were refused.
+//! The replies to edits that were refused. Lines that ask of the books have some of them too.
 ghost use Rattle.std.specs.Prelude.{◌≡◌, ◌++◌, ◌∷◌, [], IfOk, Some};
 ghost use Rattle.std.specs.Fmt.{decimal, signed_decimal};
 ghost use Rattle.command_lines.specs.declared.reply.Reply.TheVariants.{Refused};
@@ -91,7 +91,7 @@ fn rule_text(part: RulePart) -> &'static str
     }
 }
 
-/// The name of a part of a recurrence: of the key that is bad, or of what is.
+/// The name of a part of a recurrence: a key of its object, or more than that.
 fn recur_text(part: RecurPart) -> &'static str
     ensures { result.now ≡ recur_part part }
 {

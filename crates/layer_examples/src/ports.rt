@@ -32,7 +32,8 @@ fn source_goes_on_after_a_fault(rt: HostRuntime) -> Result<(), Fail> {
     Ok(())
 }
 
-/// A room of four bytes: the flush is call 1, and the write of three bytes finds room for two.
+/// A room of four bytes: call 1, which is the first flush, fails, and the write of three bytes finds
+/// room for two.
 #[test]
 fn sink_refuses_what_finds_no_room(rt: HostRuntime) -> Result<(), Fail> {
     let calls = [1].to_vec(rt.alloc())?;

@@ -47,7 +47,7 @@ const ROWS: [(Pieces, Pieces); 15] = [
     ),
     // nothing that says from where on it asks
     (&[ASK, "12", BODY, HOME], &["failed"]),
-    // nothing of all that was kept
+    // of all those nothing was kept
     (&[ASK, "15", BODY, HOME, ALL], &[TELL, "12", BODY, NONE]),
     // a device hands in messages, which are not told to it, and then another one
     (

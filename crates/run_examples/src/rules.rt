@@ -55,7 +55,7 @@ rules-run>t = ok 1|writes 0
 set>rules>act>actions>S:[{"op":"set","field":"notes","value":"x"}] = ok 1|writes 1
 rules-run>t = ok 1|writes 1
 value>transactions>t>notes = ok 1|S:x"#,
-    // the columns in their order, each transaction once; what an id isn't live of changes nothing
+    // the columns in their order, each transaction once; a category that isn't live changes nothing
     r#"payee-add>p>Shop = ok 1|writes 1
 tx-set>t>notes>a note = ok 1|writes 1
 rule-add>->none>or>[{"field":"amount","op":"lt","value":0},{"field":"cleared","op":"is","value":true}]>[{"op":"set","field":"cleared","value":true},{"op":"link-schedule","value":"s"},{"op":"append-notes","value":"!"},{"op":"prepend-notes","value":"? "},{"op":"set","field":"category","value":"food"},{"op":"set","field":"category","value":"none"},{"field":"description","value":"p"}] = ok 2|writes 4|made 2024-01-05T10:00:00.000Z-0018-00000000000000aa

@@ -1,4 +1,4 @@
-//! Runs of `merge` and of devices, while calls fail.
+//! Runs of `merge`, of devices and of a server, also while calls fail.
 use crate::table::{DEVICE, Run, T0, outcome};
 use budget_ports::{Keeper, MemoryKeeper, PortFault, Record};
 use field_values::Txt;

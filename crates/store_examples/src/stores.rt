@@ -65,7 +65,7 @@ fn store_of(alloc: Global, sql: &str) -> Result<Connection<MemStore>, Error> {
     Ok(connection)
 }
 
-/// What becomes of the store that the keeper's tables and these statements make.
+/// What becomes of the store that these statements make.
 fn taken_of(alloc: Global, sql: &str, script: &str) -> Result<String, Fail> {
     taken(alloc, store_of(alloc, sql)?, script)
 }

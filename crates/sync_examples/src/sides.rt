@@ -17,7 +17,7 @@ const FOOD: &str =
 const MEALS: &str =
     "\x0aS\x0a.2024-01-05T10:00:01.000Z-0000-00000000000000bb\x1a!\x0a\x0acategories\x12\x04food\x1a\x04name\"\x07S:Meals";
 
-/// A text with the messages and the tries in place of their signs.
+/// A text with the messages, their timestamps and the tries in place of their signs.
 fn with_messages(alloc: Global, side: &str) -> Result<String, Fail> {
     let text = side.replace(alloc, '#', FOOD)?;
     let text = text.as_str().replace(alloc, '%', MEALS)?;

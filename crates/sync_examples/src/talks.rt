@@ -1,4 +1,4 @@
-//! Syncs of a device over a link whose replies were written before, by `sync`.
+//! Syncs of a device, by `sync`, over a link whose replies were written before.
 ghost use Rattle.std.specs.Prelude.{◌≡◌, ◌≤◌, [], IfOk, false};
 ghost use Rattle.device_sync.specs.Sync.{IfUsable};
 
@@ -217,7 +217,7 @@ const TALKS: [Talk; 13] = [
             }),
         ],
     },
-    // a reading past the window: neither the link nor the keeper is asked
+    // a reading past the window: the link is not asked
     Talk {
         node: b"aa",
         record: None,

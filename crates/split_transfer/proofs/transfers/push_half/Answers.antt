@@ -25,8 +25,8 @@ returns c =
     on_ok c.push_id.result
     (λ e. four_more items (entry (IsText c.args.account.now) (Number (pos c.args.date)) c.args.amount) (record { dataset = codes "transactions"; row = Made c.args.at; column = codes "transferred_id"; value = IdOf c.args.other } ∷ [])
     c.push_entry.new.writes.items c.push_made.new.writes.items c.push_made-2.new.writes.items c.push_id.new.writes.items (put (codes "description") (text_or_null (option_copied c.args.payee))) (put (codes "notes") (notes_value c.args.notes.now))
-    (c.in_ok-push_entry.ensures ∙ ap (λ n. items ++ entry c.in_ok-text.field-0 c.day.result n) same
-    ∙ ap (λ v. items ++ entry v c.day.result c.args.amount) c.in_ok-text.ensures ∙ ap (λ v. items ++ entry (IsText c.args.account.now) v c.args.amount) c.day.ensures)
+    (c.in_ok-push_entry.ensures ∙ ap (λ n. items ++ entry c.in_ok-text.field-0 c.number.result n) same
+    ∙ ap (λ v. items ++ entry v c.number.result c.args.amount) c.in_ok-text.ensures ∙ ap (λ v. items ++ entry (IsText c.args.account.now) v c.args.amount) c.number.ensures)
     (c.in_ok-push_made.ensures ∙ ap (λ v. c.push_entry.new.writes.items ++ put (codes "description") v ∷ []) c.in_ok-maybe_text.ensures)
     (c.in_ok-push_made-2.ensures ∙ ap (λ v. c.push_made.new.writes.items ++ put (codes "notes") v ∷ []) c.in_ok-notes_value.ensures)
     e)
