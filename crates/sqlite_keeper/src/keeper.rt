@@ -1,11 +1,13 @@
 //! The keeper over a connection.
-ghost use Rattle.std.specs.Prelude.{◌≡◌, ◌≢◌, ◌≤◌, ◌⊎◌, true, false, if◌then◌else◌, Some, Result, Err, IsTrue, IfOk, IfErr};
-ghost use Rattle.std.specs.FinMap.{get};
+ghost use Rattle.std.specs.Prelude.{◌≡◌, ◌≢◌, ◌≤◌, ◌⊎◌, true, false, if◌then◌else◌, Some, Result, Err, IsTrue, IsErrOf, IfOk, IfErr, OnOk, OnErr};
+ghost use Rattle.std.specs.FinMap.{get, keys};
 ghost use Rattle.sqlite.specs.State.{HasCleanDisk};
 ghost use Rattle.sqlite.specs.Held.{state};
 ghost use Rattle.sqlite_trees.specs.View.{doubt};
 ghost use Rattle.budget_ports.specs.Faults.{count_after};
-ghost use Rattle.budget_ports.specs.Keeper.{has_failed, IsAlone};
+ghost use Rattle.budget_ports.specs.Keeper.{has_failed, Commits, IsAlone, IsKnown, LeavesNoMore, Rise, HaveKeys};
+ghost use Rattle.budget_ports.specs.Contents.{records_after, appended, with_text};
+ghost use Rattle.budget_ports.specs.declared.keeper.PortFault.TheVariants.{Failed as HasFailed};
 ghost use Rattle.sqlite_keeper.specs.Contents.{contents_now};
 ghost use Rattle.sqlite_keeper.specs.Keeping.{TellsAll, MayBeLeft};
 ghost use Rattle.sqlite_keeper.specs.Tables.{keeper_schema, no_schema};
@@ -24,7 +26,8 @@ use std::marker::Model;
 /// A keeper over a connection to a store with the keeper's two tables.
 ///
 /// It tells its contents while it is not shut, its tables are the keeper's alone, and the connection
-/// is open over a disk that has returned what was written. A shut keeper tells nothing.
+/// is open over a disk that has returned what was written. A shut keeper tells nothing and
+/// fails at each call.
 #[derive(Drop)]
 pub struct SqliteKeeper<S: Alter> {
     conn: Connection<S>,
@@ -203,7 +206,7 @@ impl<S: Alter> SqliteKeeper<S> {
         }
     }
 
-    /// Whether the keeper is shut: it tells nothing then.
+    /// Whether the keeper is shut: it tells nothing then, and each call fails.
     pub fn is_shut(&self) -> bool
         ensures { result ≡ self.now.is_shut }
     {
@@ -227,7 +230,22 @@ impl<S: Alter> Keeper for SqliteKeeper<S> {
 
     ghost faults = { λ k. k.faults };
 
-    fn append(&mut self, group: &Txt, batch: &[Record]) -> Result<(), PortFault> {
+    fn append(&mut self, group: &Txt, batch: &[Record]) -> Result<(), PortFault>
+        requires { HaveKeys batch.now }
+
+        // what each keeper promises
+        ensures told { TellsAll S.Store self.new → TellsAll S.Store self.old }
+        ensures ok { TellsAll S.Store self.new → OnOk result (contents_now S.Store self.new.conn ≡ appended (contents_now S.Store self.old.conn) group.now batch.now) }
+        ensures err { TellsAll S.Store self.new → OnErr result (contents_now S.Store self.new.conn ≡ contents_now S.Store self.old.conn) }
+        ensures left { Commits (TellsAll S.Store self.old) (MayBeLeft S.Store self.old) (MayBeLeft S.Store self.new) (appended (contents_now S.Store self.old.conn) group.now batch.now) }
+        ensures alone { OnOk result (IsAlone (TellsAll S.Store self.new) (contents_now S.Store self.new.conn) (MayBeLeft S.Store self.new)) }
+        ensures here { TellsAll S.Store self.new → MayBeLeft S.Store self.new (contents_now S.Store self.new.conn) }
+        ensures count { self.new.faults ≡ count_after (has_failed result) self.old.faults }
+
+        // what this one does
+        ensures fails { self.old.is_shut ≡ true → IsErrOf result HasFailed }
+        ensures stays { self.old.is_shut ≡ true → self.new ≡ record self.old { faults = count_after true self.old.faults } }
+    {
         if self.is_shut {
             self.faults = self.faults.saturating_add(1);
             return Err(PortFault::Failed);
@@ -238,7 +256,21 @@ impl<S: Alter> Keeper for SqliteKeeper<S> {
         }
     }
 
-    fn since(&mut self, group: &Txt, after: &Txt) -> Result<Items<Record>, PortFault> {
+    fn since(&mut self, group: &Txt, after: &Txt) -> Result<Items<Record>, PortFault>
+        // what each keeper promises
+        ensures told { TellsAll S.Store self.new → TellsAll S.Store self.old }
+        ensures records { TellsAll S.Store self.new → IfOk result (λ rs. rs ≡ records_after (contents_now S.Store self.old.conn) group.now after.now) }
+        ensures rise { IfOk result Rise }
+        ensures same { TellsAll S.Store self.new → contents_now S.Store self.new.conn ≡ contents_now S.Store self.old.conn }
+        ensures left { LeavesNoMore (MayBeLeft S.Store self.old) (MayBeLeft S.Store self.new) }
+        ensures known { OnOk result (IsKnown (TellsAll S.Store self.new) (MayBeLeft S.Store self.new)) }
+        ensures here { TellsAll S.Store self.new → MayBeLeft S.Store self.new (contents_now S.Store self.new.conn) }
+        ensures count { self.new.faults ≡ count_after (has_failed result) self.old.faults }
+
+        // what this one does
+        ensures fails { self.old.is_shut ≡ true → IsErrOf result HasFailed }
+        ensures stays { self.old.is_shut ≡ true → self.new ≡ record self.old { faults = count_after true self.old.faults } }
+    {
         if self.is_shut {
             self.faults = self.faults.saturating_add(1);
             return Err(PortFault::Failed);
@@ -249,7 +281,20 @@ impl<S: Alter> Keeper for SqliteKeeper<S> {
         }
     }
 
-    fn put(&mut self, name: &Txt, text: &Txt) -> Result<(), PortFault> {
+    fn put(&mut self, name: &Txt, text: &Txt) -> Result<(), PortFault>
+        // what each keeper promises
+        ensures told { TellsAll S.Store self.new → TellsAll S.Store self.old }
+        ensures ok { TellsAll S.Store self.new → OnOk result (contents_now S.Store self.new.conn ≡ with_text (contents_now S.Store self.old.conn) name.now text.now) }
+        ensures err { TellsAll S.Store self.new → OnErr result (contents_now S.Store self.new.conn ≡ contents_now S.Store self.old.conn) }
+        ensures left { Commits (TellsAll S.Store self.old) (MayBeLeft S.Store self.old) (MayBeLeft S.Store self.new) (with_text (contents_now S.Store self.old.conn) name.now text.now) }
+        ensures alone { OnOk result (IsAlone (TellsAll S.Store self.new) (contents_now S.Store self.new.conn) (MayBeLeft S.Store self.new)) }
+        ensures here { TellsAll S.Store self.new → MayBeLeft S.Store self.new (contents_now S.Store self.new.conn) }
+        ensures count { self.new.faults ≡ count_after (has_failed result) self.old.faults }
+
+        // what this one does
+        ensures fails { self.old.is_shut ≡ true → IsErrOf result HasFailed }
+        ensures stays { self.old.is_shut ≡ true → self.new ≡ record self.old { faults = count_after true self.old.faults } }
+    {
         if self.is_shut {
             self.faults = self.faults.saturating_add(1);
             return Err(PortFault::Failed);
@@ -260,7 +305,20 @@ impl<S: Alter> Keeper for SqliteKeeper<S> {
         }
     }
 
-    fn get(&mut self, name: &Txt) -> Result<Option<Txt>, PortFault> {
+    fn get(&mut self, name: &Txt) -> Result<Option<Txt>, PortFault>
+        // what each keeper promises
+        ensures told { TellsAll S.Store self.new → TellsAll S.Store self.old }
+        ensures text { TellsAll S.Store self.new → IfOk result (λ text. text ≡ get (contents_now S.Store self.old.conn).texts name.now) }
+        ensures same { TellsAll S.Store self.new → contents_now S.Store self.new.conn ≡ contents_now S.Store self.old.conn }
+        ensures left { LeavesNoMore (MayBeLeft S.Store self.old) (MayBeLeft S.Store self.new) }
+        ensures known { OnOk result (IsKnown (TellsAll S.Store self.new) (MayBeLeft S.Store self.new)) }
+        ensures here { TellsAll S.Store self.new → MayBeLeft S.Store self.new (contents_now S.Store self.new.conn) }
+        ensures count { self.new.faults ≡ count_after (has_failed result) self.old.faults }
+
+        // what this one does
+        ensures fails { self.old.is_shut ≡ true → IsErrOf result HasFailed }
+        ensures stays { self.old.is_shut ≡ true → self.new ≡ record self.old { faults = count_after true self.old.faults } }
+    {
         if self.is_shut {
             self.faults = self.faults.saturating_add(1);
             return Err(PortFault::Failed);
@@ -271,7 +329,20 @@ impl<S: Alter> Keeper for SqliteKeeper<S> {
         }
     }
 
-    fn names(&mut self) -> Result<Items<Txt>, PortFault> {
+    fn names(&mut self) -> Result<Items<Txt>, PortFault>
+        // what each keeper promises
+        ensures told { TellsAll S.Store self.new → TellsAll S.Store self.old }
+        ensures names { TellsAll S.Store self.new → IfOk result (λ names. names ≡ keys (contents_now S.Store self.old.conn).texts) }
+        ensures same { TellsAll S.Store self.new → contents_now S.Store self.new.conn ≡ contents_now S.Store self.old.conn }
+        ensures left { LeavesNoMore (MayBeLeft S.Store self.old) (MayBeLeft S.Store self.new) }
+        ensures known { OnOk result (IsKnown (TellsAll S.Store self.new) (MayBeLeft S.Store self.new)) }
+        ensures here { TellsAll S.Store self.new → MayBeLeft S.Store self.new (contents_now S.Store self.new.conn) }
+        ensures count { self.new.faults ≡ count_after (has_failed result) self.old.faults }
+
+        // what this one does
+        ensures fails { self.old.is_shut ≡ true → IsErrOf result HasFailed }
+        ensures stays { self.old.is_shut ≡ true → self.new ≡ record self.old { faults = count_after true self.old.faults } }
+    {
         if self.is_shut {
             self.faults = self.faults.saturating_add(1);
             return Err(PortFault::Failed);
