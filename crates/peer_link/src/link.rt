@@ -83,6 +83,7 @@ fn answer(
     ensures answers { IfOk result (λ r. Answers server.old server.new sent.now r.0 × (r.1.items ≡ r.0)) }
     ensures failed { IsErrOf result HasFailed → (server.new ≡ server.old) × ((AsksGroup sent.now → ⊥) ⊎ (server.old ≡ None)) }
     ensures lost { OnErr result ((server.new ≡ server.old) ⊎ (server.new ≡ None)) }
+    ensures foreign { OnErr result ((AsksGroup sent.now → ⊥) → server.new ≡ server.old) }
 {
     let came = copied(alloc, sent)?;
     if !asks_group(alloc, sent)? {
@@ -144,6 +145,7 @@ impl Link for PeerLink {
         ensures receives { IfOk result (λ got. Receives self.old self.new got.items) }
         ensures failed { IsErrOf result HasFailed → (self.new.messages ≡ self.old.messages) × (IsForeign self.old ⊎ (self.old.messages ≡ None)) }
         ensures lost { OnErr result ((self.new.messages ≡ self.old.messages) ⊎ (self.new.messages ≡ None)) }
+        ensures foreign { OnErr result (IsForeign self.old → self.new.messages ≡ self.old.messages) }
     {
         if self.ended.reserve(1).is_err() {
             return Err(PortFault::NoMemory);
