@@ -10,7 +10,7 @@ use Rattle.book_rows.specs.declared.rows.Rows.{Rows}
 use Rattle.book_rows.specs.declared.rows.TxRow.{TxRow}
 use Rattle.book_rows.specs.declared.write.RowName.TheVariants.{Made}
 use Rattle.book_rows.specs.declared.write.WriteValue.TheVariants.{IdOf}
-use Rattle.book_rows.specs.Kinds.{is_day, text_of}
+use Rattle.book_rows.specs.Kinds.{is_day}
 use Rattle.book_edits.specs.Checks.{same_id, live_account, two_ids, a_day, an_amount}
 use Rattle.book_edits.specs.Writing.{text_or_null, notes_value}
 use Rattle.book_edits.proofs.Valid.{inside, passed, was_so}
@@ -20,10 +20,9 @@ use Rattle.book_laws.specs.Moving.{IsHalf, IsTransferred, TransfersMove}
 use Rattle.split_transfer.proofs.Columns.{TxColumn, Acct, Date, Amount, Description, Notes, TransferredId, with_column, blank, Put, put}
 use Rattle.split_transfer.proofs.Basics.{same_refl, not_same}
 use Rattle.split_transfer.proofs.After.{with_writes-append, get-with_writes}
-
-text_back : (t : Option Text) → text_of (text_or_null t) ≡ t
-text_back None = refl
-text_back (Some t) = refl
+use Rattle.book_laws.proofs.Done.{text_back}
+use Rattle.book_laws.proofs.NoMore.{notes_are}
+use Rattle.book_laws.proofs.Unchanged.{InTxs, both_in, puts_in}
 
 abbrev set : Text → Bool → TxColumn → Value → Option TxRow → Option TxRow
 set q b c v o = cond b (Some (with_column c v (unwrap_or o (blank q)))) o
@@ -52,7 +51,7 @@ get-half ids m n acct date amount payee notes k q = get-with_writes ids m (six n
 
 -- a row with these six columns
 is_half : (rows : Rows) (id account : Text) (amount : ℤ) (day : ℕ) (payee : Option Text) (notes other : Text) → is_day day ≡ true
-    → get rows.txs id ≡ Some (half account day amount payee notes other (blank id)) → IsHalf rows id account amount day payee other
+    → get rows.txs id ≡ Some (half account day amount payee notes other (blank id)) → IsHalf rows id account amount day payee notes other
 is_half rows id account amount day payee notes other is there = record {
   tx = half account day amount payee notes other (blank id);
   there = there;
@@ -60,11 +59,13 @@ is_half rows id account amount day payee notes other is there = record {
   moves = refl;
   dated = ap (λ b. cond b (Some day) None) is;
   to = text_back payee;
+  noted = notes_are notes;
   free = refl;
   paired = refl;
   alive = refl;
   whole = refl;
   single = refl;
+  bare = refl;
 }
 
 module _ (ids : Ids) (r : Rows) (from to : Text) (day : ℕ) (amount : ℤ) (notes : Text) (no_first : get r.txs (ids 0) ≡ None) (no_second : get r.txs (ids 6) ≡ None) (apart : ids 0 ≢ ids 6) (is : is_day day ≡ true) where
@@ -97,11 +98,18 @@ module _ (ids : Ids) (r : Rows) (from to : Text) (day : ℕ) (amount : ℤ) (not
       last_at (ids 6) true (same_refl (ids 6))
       ∙ ap (λ o. Some (upper (unwrap_or o (blank (ids 6))))) (mid_at (ids 6) false (not_same (ids 6) (ids 0) (λ e. apart (sym e))) ∙ no_second)
 
-  transferred : IsTransferred ids r last from to day amount
+  -- each half is written into transactions
+  in_txs : InTxs r last
+  in_txs =
+      both_in r mid last (puts_in ids r (six 0 from day (neg_ℤ amount) (payee_for r to) notes 6))
+      (puts_in ids mid (six 6 to day amount (payee_for r from) notes 0))
+
+  transferred : IsTransferred ids r last from to day amount notes
   transferred = record {
     out_of = is_half last (ids 0) from (neg_ℤ amount) day (payee_for r to) notes (ids 6) is first_is;
     into = is_half last (ids 6) to amount day (payee_for r from) notes (ids 0) is second_is;
     others = λ q a b. last_at q false (not_same q (ids 6) b) ∙ mid_at q false (not_same q (ids 0) a);
+    elsewhere = in_txs;
   }
 
 pub moved : TransfersMove
@@ -113,5 +121,5 @@ moved ids rows from to day amount notes ws h no_first no_second apart =
     let e = passed (an_amount amount) _ _ d.2 in
     let same : transfer_writes rows from to day amount notes ≡ ws = inside _ _ e.2 in
     let split = with_writes-append ids rows (half_writes 0 from day (neg_ℤ amount) (payee_for rows to) notes 6) (half_writes 6 to day amount (payee_for rows from) notes 0) in
-    subst (λ s. IsTransferred ids rows s from to day amount) (sym split ∙ ap (with_writes ids rows) same)
+    subst (λ s. IsTransferred ids rows s from to day amount notes) (sym split ∙ ap (with_writes ids rows) same)
     (transferred ids rows from to day amount notes no_first no_second apart (was_so (is_day day) _ d.0 d.1))

@@ -125,6 +125,17 @@ module _ (f : Text → ℤ) (gs : List _) (g : _) (h : group_named gs g.id ≡ S
 pub adds_up : (b : Budget) → CellsAddUp b
 adds_up b = record {
   moved = λ m. sym (split (λ c. b.category_sum c m) b.groups);
+  whole = λ month. record {
+    income = refl;
+    from_last = refl;
+    available = refl;
+    overspent = refl;
+    budgeted = refl;
+    held = refl;
+    to_budget = refl;
+    spent = refl;
+    left = refl;
+  };
   sum = λ month g h. group_is (λ c. b.category_sum c (month_number month)) b.groups g h;
   budget = λ month g h. group_is (λ c. b.budgeted c (month_number month)) (expense_groups b) g h;
   left = λ month g h. group_is (λ c. leftover b c (month_number month)) (expense_groups b) g h;

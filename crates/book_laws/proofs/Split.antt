@@ -33,6 +33,7 @@ use Rattle.split_transfer.proofs.Links.{parts_are}
 use Rattle.split_transfer.proofs.Promise.{live_is}
 use Rattle.book_laws.specs.Splitting.{part_row, part_at, IsSplitInto, AreNewIds, SplitsMakeParts}
 use Rattle.book_laws.proofs.Done.{text_back}
+use Rattle.book_laws.proofs.Unchanged.{InTxs, both_in, puts_in, each_in}
 
 abbrev set : Text → Bool → TxColumn → Value → Option TxRow → Option TxRow
 set q b c v o = cond b (Some (with_column c v (unwrap_or o (blank q)))) o
@@ -91,6 +92,13 @@ module _ (ids : Ids) (id : Text) (x : TxRow) where
       stays ps (n + 7) (with_writes ids m (part_writes n id x p)) q (λ i l e. h (i + 1) (omega arith) (e ∙ ap ids (omega arith)))
       ∙ one_part m n p q
       ∙ ap (λ b. cond b (Some (child id x p (unwrap_or (get m.txs q) (blank q)))) (get m.txs q)) (not_same q (ids n) (λ e. h 0 (omega arith) (e ∙ ap ids (omega arith))))
+
+  -- the parts are transactions, and nothing else changes
+  parts_in : (ps : List SplitPart) (n : ℕ) (m : Rows) → InTxs m (with_writes ids m (parts_writes n id x ps))
+  parts_in [] n m = refl
+  parts_in (p ∷ ps) n m =
+      let mid = with_writes ids m (part_writes n id x p) in
+      both_in m mid (with_writes ids mid (parts_writes (n + 7) id x ps)) (puts_in ids m (seven n id x p)) (parts_in ps (n + 7) mid)
 
   -- the place of the first part, and those of the others
   first_place : (ws : List Write) (ps : List SplitPart) (n : ℕ) (p : SplitPart) → ((i : ℕ) → i < length (p ∷ ps) → makes ws (n + 7 * i) ≡ true) → makes ws n ≡ true
@@ -195,6 +203,12 @@ module _ (ids : Ids) (r : Rows) (id : Text) (x : TxRow) (ps : List SplitPart) (t
       ∙ each_none ids r Tombstone (flag true) (parts_of r id) q (parts_are r id q ∙ ap (some_and (is_part id)) none)
       ∙ none
 
+  in_txs : InTxs r last
+  in_txs =
+      let a : InTxs r two = both_in r one two (each_in ids Tombstone (flag true) r (parts_of r id)) (each_in ids IsParent (flag true) one (id ∷ [])) in
+      let b : InTxs r three = both_in r two three a (each_in ids Category Null two (id ∷ [])) in
+      both_in r three last b (parts_in ids id x ps (length (parts_of r id) + 2) three)
+
   into_parts : IsSplitInto ids r last id x ps
   into_parts = record {
     whole = whole;
@@ -204,6 +218,7 @@ module _ (ids : Ids) (r : Rows) (id : Text) (x : TxRow) (ps : List SplitPart) (t
         part_got ids id x ws new.different ps (length (parts_of r id) + 2) three made none_three i p h
         ∙ ap (λ (y : TxRow). Some y) (child_is k id x p dated);
     others = other;
+    elsewhere = in_txs;
   }
 
 pub splits_make : SplitsMakeParts

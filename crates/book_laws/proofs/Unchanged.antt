@@ -1,5 +1,5 @@
 -- Which transactions changes change, and that they change nothing else.
-use Rattle.std.proofs.Common.{◌≡◌, ℕ, Bool, true, false, cond, List, [], ◌∷◌, ◌++◌, Option, None, Some, Ok, refl, ap, sym, ◌∙◌, subst}
+use Rattle.std.proofs.Common.{◌≡◌, ℕ, Bool, true, false, cond, List, [], ◌∷◌, ◌++◌, Option, None, Some, Ok, refl, ap, sym, ◌∙◌, subst, map as list_map}
 use Rattle.std.specs.Prelude.{unwrap_or, option_to_list}
 use Rattle.std.specs.Option.{option_map}
 use lib.IntN.{ℤ, pos, neg_ℤ}
@@ -25,10 +25,10 @@ use Rattle.split_transfer.specs.Pairs.{partner_of, parts_of}
 use Rattle.split_transfer.specs.Changes.{set_date, set_amount, set_account, set_payee, set_category, set_cleared, set_schedule, set_notes, tx_delete}
 use Rattle.split_transfer.specs.Checks.{live_tx, live_schedule, no_child, no_pair, takes_category, stays_even}
 use Rattle.split_transfer.specs.Right.{IsLiveRow}
-use Rattle.split_transfer.specs.After.{Ids, with_write, with_writes}
+use Rattle.split_transfer.specs.After.{Ids, row_of, value_in, with_write, with_writes}
 use Rattle.split_transfer.proofs.After.{each_after}
 use Rattle.split_transfer.proofs.Basics.{some_is}
-use Rattle.split_transfer.proofs.Columns.{TxColumn, Acct, Date, Amount, Description, Category, Notes, Cleared, Schedule, Tombstone, blank, on_each, named, with_column}
+use Rattle.split_transfer.proofs.Columns.{TxColumn, Acct, Date, Amount, Description, Category, Notes, Cleared, Schedule, Tombstone, blank, Put, as_write, on_each, with_column}
 use Rattle.split_transfer.proofs.Links.{AreThere}
 use Rattle.split_transfer.proofs.Single.{some_are_there, partner_is_there, row_is_there, both_are_there, all_are_there}
 use Rattle.split_transfer.proofs.Promise.{live_is}
@@ -37,23 +37,38 @@ use Rattle.book_laws.specs.Leaving.{notes_or_none}
 use Rattle.book_laws.proofs.Done.{text_back, flag_back, cell}
 use Rattle.book_laws.proofs.NoMore.{notes_are}
 
-module _ (ids : Ids) (c : TxColumn) (v : Value) where
-  -- one write into a transaction changes no other dataset
-  one_only : (s : Rows) (t : Text) → with_write ids s (named t c v) ≡ record s { txs = (with_write ids s (named t c v)).txs }
-  one_only s t =
-      let e : with_write ids s (named t c v) ≡ record s { txs = with_cell_of tx_table t c.0 v s.txs } = cell ids s Transactions (Given t) c.0 (Plain v) in
-      e ∙ ap (λ (m : Texts TxRow). record s { txs = m }) (ap (λ (r : Rows). r.txs) (sym e))
+-- the rows differ in transactions alone
+abbrev pub InTxs : Rows → Rows → Type 0
+InTxs before after = after ≡ record before { txs = after.txs }
 
-  tx_only : (s : Rows) (ts : List Text) → with_writes ids s (on_each c v ts) ≡ record s { txs = (with_writes ids s (on_each c v ts)).txs }
-  tx_only s [] = refl
-  tx_only s (t ∷ ts) =
-      let mid = with_write ids s (named t c v) in
-      tx_only mid ts ∙ ap (λ (r : Rows). record r { txs = (with_writes ids mid (on_each c v ts)).txs }) (one_only s t)
+-- and so do the rows after them, where those differ in transactions alone
+pub both_in : (a b c : Rows) → InTxs a b → InTxs b c → InTxs a c
+both_in a b c first last = last ∙ ap (λ (r : Rows). record r { txs = c.txs }) first
+
+-- writes into transactions change no other dataset
+put_in : (ids : Ids) (s : Rows) (p : Put) → InTxs s (with_write ids s (as_write p))
+put_in ids s p =
+    let e : with_write ids s (as_write p) ≡ record s { txs = with_cell_of tx_table (row_of ids p.row) p.column.0 (value_in ids p.value) s.txs } = cell ids s Transactions p.row p.column.0 p.value in
+    e ∙ ap (λ (m : Texts TxRow). record s { txs = m }) (ap (λ (r : Rows). r.txs) (sym e))
+
+pub puts_in : (ids : Ids) (s : Rows) (ps : List Put) → InTxs s (with_writes ids s (list_map as_write ps))
+puts_in ids s [] = refl
+puts_in ids s (p ∷ ps) =
+    let mid = with_write ids s (as_write p) in
+    both_in s mid (with_writes ids mid (list_map as_write ps)) (put_in ids s p) (puts_in ids mid ps)
+
+module _ (ids : Ids) (c : TxColumn) (v : Value) where
+  pub each_in : (s : Rows) (ts : List Text) → InTxs s (with_writes ids s (on_each c v ts))
+  each_in s [] = refl
+  each_in s (t ∷ ts) =
+      let p : Put = record { row = Given t; column = c; value = Plain v } in
+      let mid = with_write ids s (as_write p) in
+      both_in s mid (with_writes ids mid (on_each c v ts)) (put_in ids s p) (each_in mid ts)
 
   changed_so : (s : Rows) (ts : List Text) (change : TxRow → TxRow) → AreThere s ts → ((y : TxRow) → with_column c v y ≡ change y) → AreChanged s (with_writes ids s (on_each c v ts)) ts change
   changed_so s ts change are is = record {
     txs = λ q. each_after ids s c v ts q ∙ by q (get s.txs q) refl (is_among text_cmp ts q) refl;
-    others = tx_only s ts;
+    others = each_in s ts;
   }
     where
       by : (q : Text) (o : Option TxRow) → get s.txs q ≡ o → (b : Bool) → is_among text_cmp ts q ≡ b → cond b (Some (with_column c v (unwrap_or o (blank q)))) o ≡ cond b (option_map change o) o

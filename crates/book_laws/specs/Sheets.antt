@@ -1,14 +1,14 @@
 -- How the months of a sheet are numbered, and what its cells add up.
-use Rattle.std.specs.Prelude.{ℕ, ◌≡◌, ◌≢◌, ◌↔◌, ◌+◌, ◌*◌, ◌/◌, ◌%◌, true, pos, ◌+ℤ◌, ℤ, List, Some, unwrap_or}
+use Rattle.std.specs.Prelude.{ℕ, ◌≡◌, ◌≢◌, ◌↔◌, ◌+◌, ◌*◌, ◌/◌, ◌%◌, true, pos, ◌+ℤ◌, ℤ, List, [], Some, unwrap_or}
 use Rattle.std.specs.FinMap.{get}
 use Rattle.finite_sums.specs.Sums.{total}
 use Rattle.finite_sums.specs.Maps.{Text, text_cmp, value_or_zero, is_among, AreDistinct}
 use Rattle.envelope_cells.specs.Budget.{Budget, expense_groups, categories}
-use Rattle.envelope_cells.specs.Cells.{total_income, total_spent}
+use Rattle.envelope_cells.specs.Cells.{total_income, from_last_month, available_funds, last_month_overspent, total_budgeted, to_budget, total_spent, total_leftover}
 use Rattle.envelope_cells.specs.CellOf.{cell_of, group_named}
 use Rattle.envelope_cells.specs.Ids.{month_number, month_at}
 use Rattle.envelope_cells.specs.declared.name.CellKind.{CellKind}
-use Rattle.envelope_cells.specs.declared.name.CellKind.TheVariants.{GroupSum, GroupBudget, GroupLeftover, Sum, Budget as OfBudget, Leftover}
+use Rattle.envelope_cells.specs.declared.name.CellKind.TheVariants.{TotalIncome, FromLastMonth, AvailableFunds, LastMonthOverspent, TotalBudgeted, Buffered, ToBudget, TotalSpent, TotalLeftover, GroupSum, GroupBudget, GroupLeftover, Sum, Budget as OfBudget, Leftover}
 use Rattle.book_rows.specs.declared.rows.Rows.{Rows}
 use Rattle.book_rows.specs.declared.rows.TxRow.{TxRow}
 use Rattle.book_rows.specs.Live.{is_counted}
@@ -44,10 +44,28 @@ SumsAreOfTransactions = (rows : Rows) (c : Text) (m : ℕ) → (ids : List Text)
 abbrev pub told : Budget → ℕ → CellKind → Text → ℤ
 told b month kind id = unwrap_or (cell_of b (record { month = month; kind = kind; id = id })) (pos 0)
 
+-- what the cells of the whole month tell in a month YYYYMM, which has number m: each of them what its name says
+pub record MonthIsTold (b : Budget) (month m : ℕ) : Type 0 where
+  -- what came in, what the month before left to budget and held back, and both of these
+  pub income : told b month TotalIncome [] ≡ total_income b m
+  pub from_last : told b month FromLastMonth [] ≡ from_last_month b m
+  pub available : told b month AvailableFunds [] ≡ available_funds b m
+  -- what overspent categories of expenses take from the month, and what all of them are given, as it goes out
+  pub overspent : told b month LastMonthOverspent [] ≡ last_month_overspent b m
+  pub budgeted : told b month TotalBudgeted [] ≡ total_budgeted b m
+  -- what is held back for the next month, and what is still to budget
+  pub held : told b month Buffered [] ≡ b.buffered m
+  pub to_budget : told b month ToBudget [] ≡ to_budget b m
+  -- what went out, and what is left in all categories of expenses
+  pub spent : told b month TotalSpent [] ≡ total_spent b m
+  pub left : told b month TotalLeftover [] ≡ total_leftover b m
+
 -- how the cells of groups and of the whole month add up
 pub record CellsAddUp (b : Budget) : Type 0 where
   -- what came in and what went out is all that was moved in live categories
   pub moved : (m : ℕ) → total_income b m +ℤ total_spent b m ≡ total (λ c. b.category_sum c m) (categories b)
+  -- the cells of the whole month tell what their names say
+  pub whole : (month : ℕ) → MonthIsTold b month (month_number month)
   -- the cells of a group add up those of its categories
   pub sum : (month : ℕ) (g : _) → group_named b.groups g.id ≡ Some g → told b month GroupSum g.id ≡ total (told b month Sum) g.categories
   pub budget : (month : ℕ) (g : _) → group_named (expense_groups b) g.id ≡ Some g → told b month GroupBudget g.id ≡ total (told b month OfBudget) g.categories

@@ -22,7 +22,7 @@ part_row own id x part = record (blank_row tx_table own) { acct = x.acct; date =
 abbrev pub part_at : Rows → Text → ℕ → ℕ
 part_at rows id i = (length (parts_of rows id) + 2) + 7 * i
 
--- the transactions are those before a split, but for the one that is split, its earlier parts and its new ones
+-- the rows are those before a split, but for the transaction that is split, its earlier parts and its new ones
 pub record IsSplitInto (ids : Ids) (before after : Rows) (id : Text) (x : TxRow) (parts : List SplitPart) : Type 0 where
   -- the transaction is split and has no category, and keeps all else
   pub whole : map.get after.txs id ≡ Some (record x { is_parent = true; category = None })
@@ -32,6 +32,8 @@ pub record IsSplitInto (ids : Ids) (before after : Rows) (id : Text) (x : TxRow)
   pub part : (i : ℕ) (part : SplitPart) → slice_get parts i ≡ Some part → map.get after.txs (ids (part_at before id i)) ≡ Some (part_row (ids (part_at before id i)) id x part)
   -- no other transaction changes
   pub others : (q : Text) → q ≢ id → is_among text_cmp (parts_of before id) q ≡ false → ((i : ℕ) → i < length parts → q ≢ ids (part_at before id i)) → map.get after.txs q ≡ map.get before.txs q
+  -- and nothing but transactions does
+  pub elsewhere : after ≡ record before { txs = after.txs }
 
 -- no transaction has the id of a row that the writes make, and these ids differ
 pub record AreNewIds (ids : Ids) (rows : Rows) (ws : List Write) : Type 0 where

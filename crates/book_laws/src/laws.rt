@@ -70,8 +70,8 @@ pub fn sheets_are_in_order()
     ensures { (rows : Rows) → SheetsAreInOrder rows }
 {}
 
-/// A law: the cells of a group add up those of its categories, and what came in and what went out is all that was moved in live
-/// categories.
+/// A law: the cells of a group add up those of its categories, what came in and what went out is all that was moved in live categories,
+/// and each cell of the whole month tells what its name says.
 pub fn cells_add_up()
     ensures { (b : Budget) → CellsAddUp b }
 {}
@@ -83,15 +83,16 @@ pub fn edits_show_on_sheets()
 {}
 
 /// A law: a transfer that is accepted takes its amount out of the one account and brings it into the other one, by two transactions of
-/// one day that name each other, and changes no other transaction. It is asked before that the ids of both are new and differ.
+/// one day that name each other, have its notes and say nothing more, and changes nothing else. It is asked before that the ids of both
+/// are new and differ.
 pub fn transfers_move()
     ensures { TransfersMove }
 {}
 
 /// A law: a split that is accepted makes a transaction for each part, with its amount and its category, and of the day, the account and
-/// the payee of what is split, which has no category then; earlier parts are deleted, and no other transaction changes. It is asked before
-/// that no transaction has the id of a row that is made, that these ids differ, and that the day of what is split, if it has one, is one
-/// of the calendar.
+/// the payee of what is split, which has no category then; earlier parts are deleted, and nothing else changes. It is asked before that no
+/// transaction has the id of a row that is made, that these ids differ, and that the day of what is split, if it has one, is one of the
+/// calendar.
 pub fn splits_make_parts()
     ensures { SplitsMakeParts }
 {}
