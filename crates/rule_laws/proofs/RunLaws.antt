@@ -1,6 +1,6 @@
 -- What running the rules on transactions leaves.
 use Rattle.std.proofs.Common.{◌≡◌, ℕ, zero, suc, ◌<◌, Bool, true, false, cond, List, [], ◌∷◌, ◌++◌, filter, length, get_or, Option, Some, None, Ok, Err, inl, inr, refl, sym, ap, ◌∙◌, subst, arith, codes}
-use Rattle.std.specs.Prelude.{◌⊎◌, ◌&&◌, ◌||◌, not, flat_map, option_map, unwrap_or}
+use Rattle.std.specs.Prelude.{◌≢◌, ◌⊎◌, ◌&&◌, ◌||◌, not, flat_map, option_map, unwrap_or}
 use Rattle.std.specs.List.{AllByRecursion, Contains, fold}
 use Rattle.std.proofs.lemmas.List.Elements.{Contains-append_cases}
 use Rattle.std.specs.FinMap.{get}
@@ -541,6 +541,85 @@ are_changes rows named ws w h c =
     let new = is_new found.0 there.tx (run rows (rules_of rows) there.tx) w (subst (λ (o : Option TxRow). Contains (changes_of rows (rules_of rows) found.0 o) w) there.live found.2) in
     record { id = found.0; tx = there.tx; among = among; there = there.there; column = new.column; made = new.made; other = new.other; written = new.written }
 
+-- ---- no column is written twice
+
+-- writes into two fields
+abbrev AreApart : Write → Write → Type 0
+AreApart w v = v.row ≡ w.row → v.column ≢ w.column
+
+-- no two writes are into one field
+abbrev AllApart : List Write → Type 0
+AllApart [] = Unit {0}
+AllApart (w ∷ ws) = ((v : Write) → Contains ws v → AreApart w v) × AllApart ws
+
+apart_append : (xs ys : List Write) → AllApart xs → AllApart ys → ((w v : Write) → Contains xs w → Contains ys v → AreApart w v) → AllApart (xs ++ ys)
+apart_append [] ys a b f = b
+apart_append (x ∷ xs) ys a b f = (
+  λ v c. elim (Contains-append_cases xs ys v c) [ inl i ↦ a.0 v i | inr j ↦ f x v (0, omega arith, refl) j ],
+  apart_append xs ys a.1 b (λ w v i j. f w v (suc i.0, omega (arith, i.1), i.2) j),
+)
+
+apart_behind : (before after : List Write) (w v : Write) → AllApart (before ++ w ∷ after) → Contains after v → AreApart w v
+apart_behind [] after w v a c = a.0 v c
+apart_behind (b ∷ before) after w v a c = apart_behind before after w v a.1 c
+
+one_apart : (b : Bool) (v : Write) → AllApart (cond b [] (v ∷ []))
+one_apart true v = tt
+one_apart false v = (λ w c. nothing w c, tt)
+
+-- writes into these columns, each at most once
+record IntoEach (names : List Text) (ws : List Write) : Type 0 where
+  apart : AllApart ws
+  among : (w : Write) → Contains ws w → is_among text_cmp names w.column ≡ true
+
+into_one_more : (names : List Text) (ws : List Write) (id name : Text) (v : Value) (b : Bool) → is_among text_cmp names name ≡ false → IntoEach names ws
+    → IntoEach (name ∷ names) (ws ++ cond b [] (tx_write (Given id) name v ∷ []))
+into_one_more names ws id name v b new t = record {
+  apart = apart_append ws (cond b [] (tx_write (Given id) name v ∷ [])) t.apart (one_apart b (tx_write (Given id) name v)) (λ w u c d row column.
+      true_false (is_among text_cmp names name) (subst (λ (q : Text). is_among text_cmp names q ≡ true) (sym column ∙ is_name u d) (t.among w c)) new);
+  among = λ w c. elim (Contains-append_cases ws (cond b [] (tx_write (Given id) name v ∷ [])) w c) [
+    | inl a ↦ or_right (same_id w.column name) (is_among text_cmp names w.column) (t.among w a)
+    | inr d ↦ or_left (same_id w.column name) (is_among text_cmp names w.column) (subst (λ (q : Text). same_id q name ≡ true) (sym (is_name w d)) (same_refl name))
+  ];
+}
+  where
+    is_name : (u : Write) → Contains (cond b [] (tx_write (Given id) name v ∷ [])) u → u.column ≡ name
+    is_name u d = ap (λ (x : Write). x.column) (one_write b (tx_write (Given id) name v) u d).1
+
+changed_apart : (id : Text) (old new : TxRow) → AllApart (changed id old new)
+changed_apart id old new =
+    let none : IntoEach [] [] = record { apart = tt; among = λ w c. nothing w c } in
+    let d = into_one_more [] [] id (codes "description") (text_or_null new.description) (same_text old.description new.description) refl none in
+    let k = into_one_more _ _ id (codes "category") (text_or_null new.category) (same_text old.category new.category) refl d in
+    let n = into_one_more _ _ id (codes "notes") (text_or_null new.notes) (same_text old.notes new.notes) refl k in
+    let s = into_one_more _ _ id (codes "schedule") (text_or_null new.schedule) (same_text old.schedule new.schedule) refl n in
+    let f = into_one_more _ _ id (codes "cleared") (flag new.cleared) (same_flag old.cleared new.cleared) refl s in
+    f.apart
+
+module _ (rows : Rows) (rules : List Rule) where
+  changes_apart : (id : Text) (o : Option TxRow) → AllApart (changes_of rows rules id o)
+  changes_apart id None = tt
+  changes_apart id (Some x) = changed_apart id x (run rows rules x)
+
+  row_is : (id : Text) (o : Option TxRow) (w : Write) → Contains (changes_of rows rules id o) w → w.row ≡ Given id
+  row_is id None w c = nothing w c
+  row_is id (Some x) w c = ap (λ (v : Write). v.row) (is_new id x (run rows rules x) w c).written
+
+  given_is : (a b : Text) → Given a ≡ Given b → a ≡ b
+  given_is a b h = cc
+
+  all_apart : (ds : List Text) → AreDistinct text_cmp ds → AllApart (flat_map (changes rows rules) ds)
+  all_apart [] h = tt
+  all_apart (d ∷ ds) h = apart_append (changes rows rules d) (flat_map (changes rows rules) ds) (changes_apart d (live_row rows d)) (all_apart ds h.1) (λ w v c e row column.
+      let more = of_some (changes rows rules) ds v e in
+      let same : more.0 ≡ d = given_is more.0 d (sym (row_is more.0 (live_row rows more.0) v more.2) ∙ row ∙ row_is d (live_row rows d) w c) in
+      true_false (is_among text_cmp ds d) (subst (λ (q : Text). is_among text_cmp ds q ≡ true) same more.1) h.0)
+
+written_once : (rows : Rows) (named : List Text) (before after : List Write) (w v : Write) → rules_run rows named ≡ Ok (before ++ w ∷ after) → Contains after v → v.row ≡ w.row → v.column ≢ w.column
+written_once rows named before after w v h c =
+    let a = is_accepted rows named (before ++ w ∷ after) h in
+    apart_behind before after w v (subst AllApart a.writes (all_apart rows (rules_of rows) (distinct named) (are_distinct named))) c
+
 pub make_rows : RulesMakeRows
 make_rows = record {
   accepted = λ rows named h. (flat_map (changes rows (rules_of rows)) (distinct named), ap (λ u. u >>= (λ v. Ok (flat_map (changes rows (rules_of rows)) (distinct named)))) (all_pass rows named h));
@@ -548,4 +627,5 @@ make_rows = record {
   stands = stands;
   columns = run_keeps;
   changes = are_changes;
+  once = written_once;
 }

@@ -14,14 +14,17 @@ use Rattle.std.proofs.lemmas.Slice.Eq.{bytes_eq-Decides}
 use Rattle.caseless.specs.Caseless.{default_case_fold, IsDefaultMatch}
 use Rattle.jiff_core.specs.Calendar.{days_from_civil}
 use Rattle.finite_sums.specs.Maps.{Text}
+use Rattle.book_rows.specs.declared.rows.TxRow.{TxRow}
 use Rattle.book_rows.specs.Kinds.{is_day}
+use Rattle.rule_engine.specs.declared.rule.CondField.{CondField}
 use Rattle.rule_engine.specs.declared.rule.CondOp.{CondOp}
-use Rattle.rule_engine.specs.declared.rule.CondOp.TheVariants.{Is, OneOf, Contains as HasPart, IsApprox, IsBetween}
+use Rattle.rule_engine.specs.declared.rule.CondOp.TheVariants.{Is, IsNot, OneOf, NotOneOf, Contains as HasPart, DoesNotContain, IsApprox, IsBetween, Gt, Gte, Lt, Lte}
 use Rattle.rule_engine.specs.declared.rule.CondValue.{CondValue}
 use Rattle.rule_engine.specs.declared.rule.CondValue.TheVariants.{Null, Text as OneText, Texts, Number, Between, Date as Day, Recurrence, Flag}
+use Rattle.rule_engine.specs.declared.rule.Condition.{Condition}
 use Rattle.rule_engine.specs.Days.{day_number, are_within}
-use Rattle.rule_engine.specs.Conditions.{id_holds, is_same_text, folded, text_holds, number_holds, amount_holds, day_holds, same_flag}
-use Rattle.rule_laws.specs.Comparing.{IdsAreCompared, TextsAreTested, AmountsAreCompared, DaysAreCompared, ConditionsAreTold}
+use Rattle.rule_engine.specs.Conditions.{id_holds, is_same_text, folded, text_holds, number_holds, amount_holds, day_holds, same_flag, flag_holds, holds, holds_by}
+use Rattle.rule_laws.specs.Comparing.{IdsAreCompared, TextsAreTested, AmountsAreCompared, DaysAreCompared, ColumnsAreTested, ConditionsAreTold}
 use Rattle.rule_engine.proofs.Parts.{has_part-Decides}
 
 -- ---- lists of which one passes
@@ -69,8 +72,33 @@ id_one ts (Some own) = (
   λ h. so_any (bytes_eq own) ts h.0 h.1 ((same_bytes own h.0).1 (some_is own h.0 h.2)),
 )
 
+id_is_kind : (value : CondValue) (id : Option Text) → id_holds Is value id ≡ true → (value ≡ Null) ⊎ ((t : Text) × (value ≡ OneText t))
+id_is_kind Null id h = inl refl
+id_is_kind (OneText t) id h = inr (t, refl)
+id_is_kind other id h = cc
+
+id_one_kind : (value : CondValue) (id : Option Text) → id_holds OneOf value id ≡ true → (ts : List Text) × (value ≡ Texts ts)
+id_one_kind (Texts ts) id h = (ts, refl)
+id_one_kind other id h = cc
+
+id_others : (op : CondOp) (value : CondValue) (id : Option Text) → id_holds op value id ≡ true → Contains (Is ∷ IsNot ∷ OneOf ∷ NotOneOf ∷ []) op
+id_others Is value id h = (0, omega arith, refl)
+id_others IsNot value id h = (1, omega arith, refl)
+id_others OneOf value id h = (2, omega arith, refl)
+id_others NotOneOf value id h = (3, omega arith, refl)
+id_others other value id h = cc
+
 ids_compared : IdsAreCompared
-ids_compared = record { is = id_is; is_none = id_none; one_of = id_one; is_not = λ value id. refl; not_one_of = λ value id. refl }
+ids_compared = record {
+  is = id_is;
+  is_none = id_none;
+  one_of = id_one;
+  is_kind = id_is_kind;
+  one_of_kind = id_one_kind;
+  is_not = λ value id. refl;
+  not_one_of = λ value id. refl;
+  others = id_others;
+}
 
 -- ---- texts
 
@@ -87,8 +115,42 @@ text_has : (t text : Text) → (text_holds HasPart (OneText t) text ≡ true) �
 unfolding folded
 text_has t text = let d = has_part-Decides (encode_utf8_all (default_case_fold (chars t))) (encode_utf8_all (default_case_fold (chars text))) in (λ h. d.0 h, λ h. d.1 h)
 
+text_is_kind : (value : CondValue) (text : Text) → text_holds Is value text ≡ true → (t : Text) × (value ≡ OneText t)
+text_is_kind (OneText t) text h = (t, refl)
+text_is_kind other text h = cc
+
+text_one_kind : (value : CondValue) (text : Text) → text_holds OneOf value text ≡ true → (ts : List Text) × (value ≡ Texts ts)
+text_one_kind (Texts ts) text h = (ts, refl)
+text_one_kind other text h = cc
+
+text_has_kind : (value : CondValue) (text : Text) → text_holds HasPart value text ≡ true → (t : Text) × (value ≡ OneText t)
+text_has_kind (OneText t) text h = (t, refl)
+text_has_kind other text h = cc
+
+text_others : (op : CondOp) (value : CondValue) (text : Text) → text_holds op value text ≡ true → Contains (Is ∷ IsNot ∷ OneOf ∷ NotOneOf ∷ HasPart ∷ DoesNotContain ∷ []) op
+text_others Is value text h = (0, omega arith, refl)
+text_others IsNot value text h = (1, omega arith, refl)
+text_others OneOf value text h = (2, omega arith, refl)
+text_others NotOneOf value text h = (3, omega arith, refl)
+text_others HasPart value text h = (4, omega arith, refl)
+text_others DoesNotContain value text h = (5, omega arith, refl)
+text_others other value text h = cc
+
 texts_tested : TextsAreTested
-texts_tested = record { is = text_is; one_of = text_one; has = text_has; is_not = λ value text. refl; not_one_of = λ value text. refl; has_not = λ value text. refl; empty = refl }
+texts_tested = record {
+  is = text_is;
+  one_of = text_one;
+  has = text_has;
+  is_kind = text_is_kind;
+  one_of_kind = text_one_kind;
+  has_kind = text_has_kind;
+  is_not = λ value text. refl;
+  not_one_of = λ value text. refl;
+  has_not = λ value text. refl;
+  others = text_others;
+  empty = refl;
+  given = λ t. refl;
+}
 
 -- ---- amounts
 
@@ -122,15 +184,33 @@ between_is a b amount = (
 amount_is : (z amount : ℤ) → (int_eq amount z ≡ true) ↔ (amount ≡ z)
 amount_is z amount = let d = Decides-int_eq amount z in (λ h. d.0 h, λ h. d.1 h)
 
+number_others : (op : CondOp) (z amount : ℤ) → number_holds op z amount ≡ true → Contains (Is ∷ IsApprox ∷ Gt ∷ Gte ∷ Lt ∷ Lte ∷ []) op
+number_others Is z amount h = (0, omega arith, refl)
+number_others IsApprox z amount h = (1, omega arith, refl)
+number_others Gt z amount h = (2, omega arith, refl)
+number_others Gte z amount h = (3, omega arith, refl)
+number_others Lt z amount h = (4, omega arith, refl)
+number_others Lte z amount h = (5, omega arith, refl)
+number_others other z amount h = cc
+
+amount_kind : (op : CondOp) (value : CondValue) (amount : ℤ) → amount_holds op value amount ≡ true → ((z : ℤ) × (value ≡ Number z)) ⊎ ((a : ℤ) × (b : ℤ) × (op ≡ IsBetween) × (value ≡ Between a b))
+amount_kind op (Number z) amount h = inl (z, refl)
+amount_kind IsBetween (Between a b) amount h = inr (a, b, refl, refl)
+amount_kind op (Between a b) amount h = cc
+amount_kind op other amount h = cc
+
 amounts_compared : AmountsAreCompared
 amounts_compared = record {
+  one = λ op z amount. refl;
   is = amount_is;
   above = λ z amount. int_lt_is z amount;
   from = λ z amount. int_le_is z amount;
   below = λ z amount. int_lt_is amount z;
   up_to = λ z amount. int_le_is amount z;
   near = near_is;
+  others = number_others;
   between = between_is;
+  kind = amount_kind;
 }
 
 -- ---- days
@@ -164,6 +244,24 @@ number_is year month place h k =
     let p : n % 100 ≡ place = omega arith in
     rw (y, m, p) refl
 
+no_near : (a b near : Bool) → (a && b) ≡ false → (b && (a && near)) ≡ false
+no_near a false near h = refl
+no_near false true near h = refl
+no_near true true near h = cc
+
+day_others : (op : CondOp) (n day : ℕ) → day_holds op (Day n) (Some day) ≡ true → Contains (Is ∷ IsApprox ∷ Gt ∷ Gte ∷ Lt ∷ Lte ∷ []) op
+day_others Is n day h = (0, omega arith, refl)
+day_others IsApprox n day h = (1, omega arith, refl)
+day_others Gt n day h = (2, omega arith, refl)
+day_others Gte n day h = (3, omega arith, refl)
+day_others Lt n day h = (4, omega arith, refl)
+day_others Lte n day h = (5, omega arith, refl)
+day_others other n day h = cc
+
+day_kind : (op : CondOp) (value : CondValue) (day : Option ℕ) → day_holds op value day ≡ true → (n : ℕ) × (value ≡ Day n)
+day_kind op (Day n) day h = (n, refl)
+day_kind op other day h = cc
+
 days_compared : DaysAreCompared
 days_compared = record {
   none = no_day;
@@ -179,14 +277,38 @@ days_compared = record {
         λ t. near.0 (sym is ∙ t),
         λ p. is ∙ near.1 p,
       );
+  near_none = λ n day h. no_near (is_day n) (is_day day) (nat_le (unsigned_abs (day_number day -ℤ day_number n)) 2) h;
   number = number_is;
+  others = day_others;
+  kind = day_kind;
 }
 
-flag_is : (b set : Bool) → (same_flag b set ≡ true) ↔ (set ≡ b)
+flag_is : (op : CondOp) (value : CondValue) (set : Bool) → (flag_holds op value set ≡ true) ↔ ((op ≡ Is) × (value ≡ Flag set))
 unfolding same_flag
-flag_is true set = (λ h. h, λ h. h)
-flag_is false true = (λ h. cc, λ h. cc)
-flag_is false false = (λ h. refl, λ h. refl)
+flag_is Is (Flag true) true = (λ h. (refl, refl), λ h. refl)
+flag_is Is (Flag true) false = (λ h. cc, λ h. let no = h.1 in cc)
+flag_is Is (Flag false) true = (λ h. cc, λ h. let no = h.1 in cc)
+flag_is Is (Flag false) false = (λ h. (refl, refl), λ h. refl)
+flag_is Is other set = (λ h. cc, λ h. let no = h.1 in cc)
+flag_is other value set = (λ h. cc, λ h. let no = h.0 in cc)
+
+-- ---- columns
+
+columns_tested : (c : Condition) (x : TxRow) → ColumnsAreTested c x
+unfolding holds
+columns_tested c x = record {
+  account = by;
+  payee = by;
+  category = by;
+  imported = by;
+  notes = by;
+  amount = by;
+  day = by;
+  cleared = by;
+}
+  where
+    by : {f : CondField} → c.field ≡ f → holds_by c.field c.op c.value x ≡ holds_by f c.op c.value x
+    by is = ap (λ f. holds_by f c.op c.value x) is
 
 pub conditions_told : ConditionsAreTold
-conditions_told = record { ids = ids_compared; texts = texts_tested; amounts = amounts_compared; days = days_compared; flags = flag_is }
+conditions_told = record { ids = ids_compared; texts = texts_tested; amounts = amounts_compared; days = days_compared; flags = flag_is; columns = columns_tested }

@@ -1,5 +1,5 @@
 -- In which order rules run, how they read back, and what running them on transactions leaves.
-use Rattle.std.specs.Prelude.{◌≡◌, ◌<◌, ℕ, ◌++◌, ◌∷◌, true, false, List, [], Option, None, Some, option_map, Ok, Err, if◌then◌else◌, codes}
+use Rattle.std.specs.Prelude.{◌≡◌, ◌≢◌, ◌<◌, ℕ, ◌++◌, ◌∷◌, true, false, List, [], Option, None, Some, option_map, Ok, Err, if◌then◌else◌, codes}
 use Rattle.std.specs.List.{AllByRecursion, Contains}
 use Rattle.std.specs.declared.cmp.Ordering.TheVariants.{Less}
 use Rattle.std.specs.FinMap as map
@@ -115,3 +115,6 @@ pub record RulesMakeRows : Type 0 where
   -- rules change nothing but these columns, and what they don't change isn't written
   pub columns : (rows : Rows) (rules : List Rule) (x : TxRow) → run rows rules x ≡ with_changed x (run rows rules x)
   pub changes : (rows : Rows) (named : List Text) (ws : List Write) (w : Write) → rules_run rows named ≡ Ok ws → Contains ws w → IsChange rows named w
+  -- no column of a transaction is written twice
+  pub once : (rows : Rows) (named : List Text) (before after : List Write) (w v : Write) → rules_run rows named ≡ Ok (before ++ w ∷ after)
+      → Contains after v → v.row ≡ w.row → v.column ≢ w.column

@@ -42,7 +42,7 @@ pub fn schedule_edits_do()
     ensures { (ids : Ids) (rows : Rows) (ws : List Write) → ScheduleEditsDo ids rows ws }
 {}
 
-/// A law: what the tests of conditions say of ids, texts, amounts, days and flags.
+/// A law: which column of a transaction a condition tests, and what the tests say of ids, texts, amounts, days and flags.
 pub fn conditions_are_told()
     ensures { ConditionsAreTold }
 {}
@@ -71,7 +71,7 @@ pub fn rule_edits_do()
 {}
 
 /// A law: after the rules were run on transactions each of them stands as the rules make it, and each other one as before; nothing is
-/// written that stays as it is.
+/// written that stays as it is, and no column twice.
 pub fn rules_make_rows()
     ensures { RulesMakeRows }
 {}
