@@ -23,7 +23,7 @@ use Rattle.split_transfer.specs.After.{Ids, with_writes, makes}
 use Rattle.split_transfer.specs.Pairs.{only_where, live_row, names_back, partner_of}
 use Rattle.split_transfer.specs.Writing.{day_or_null}
 use Rattle.split_transfer.proofs.Basics.{both_true, and_both, not_true, option_cases, holds_some, where_some}
-use Rattle.rule_engine.specs.Days.{day_number}
+use Rattle.rule_engine.specs.Days.{day_number, numbered}
 use Rattle.rule_engine.specs.Conditions.{folded}
 use Rattle.rule_engine.specs.Running.{run, rules_of}
 use Rattle.bank_import.specs.declared.entry.Entry.{Entry}
@@ -32,7 +32,7 @@ use Rattle.bank_import.specs.declared.facts.Facts.{Facts}
 use Rattle.bank_import.specs.declared.facts.Candidate.{Candidate}
 use Rattle.bank_import.specs.declared.facts.Pass.{Pass}
 use Rattle.bank_import.specs.declared.facts.Pass.TheVariants.{ById, ByPayee, ByAmount}
-use Rattle.bank_import.specs.Matching.{are_same, is_near, meets, day_in, facts_of, candidate_of, candidates, somes, is_among, matched_among, matched}
+use Rattle.bank_import.specs.Matching.{are_same, is_near, meets, facts_of, candidate_of, candidates, somes, is_among, matched_among, matched}
 use Rattle.bank_import.specs.Laws.{IsIn, IsWhole}
 use Rattle.bank_import.specs.Second.{or_else, filled, made, IsOwn, IsAfter, HaveIdsOrRows, MadeRise}
 use Rattle.bank_import.specs.Drafts.{payee_of, new_tx, ruled, draft_of, place_of}
@@ -470,7 +470,7 @@ module _ (ids : Ids) (rows : Rows) (account : Text) (es : List Entry) where
           };
           how = inl (
             b,
-            ap (λ t. record (made o (s2 e)) { day = option_and_then day_in t; financial_id = pick ids None (plain d.row.financial_id) }) day
+            ap (λ t. record (made o (s2 e)) { day = option_and_then numbered t; financial_id = pick ids None (plain d.row.financial_id) }) day
                 ∙ ap (λ t. record (made o (s2 e)) { financial_id = t }) (plain_picked ids d.row.financial_id),
           );
         }
@@ -552,7 +552,7 @@ module _ (ids : Ids) (rows : Rows) (account : Text) (es : List Entry) where
         id_of i s k h f = let e = from_ss i s h in sym (id_is e.0) ∙ ap (λ (x : Facts). x.financial_id) e.2 ∙ f
 
         day_is : (e : Entry) → is_day e.date ≡ true → (s2 e).day ≡ Some (day_number e.date)
-        day_is e h = ap (option_and_then day_in) (kept e).date ∙ ap (λ b. cond b (Some (day_number e.date)) None) h
+        day_is e h = ap (option_and_then numbered) (kept e).date ∙ ap (λ b. cond b (Some (day_number e.date)) None) h
 
         pub have_own : HaveIdsOrRows ss (matched_among cs ss)
         have_own = record {

@@ -6,11 +6,10 @@ use Rattle.std.specs.Ordering.{int_eq}
 use Rattle.finite_sums.specs.Maps.{Text}
 use Rattle.book_rows.specs.declared.rows.Rows.{Rows}
 use Rattle.book_rows.specs.declared.rows.TxRow.{TxRow}
-use Rattle.book_rows.specs.Kinds.{is_day}
 use Rattle.book_rows.specs.Parts.{account_txs}
 use Rattle.book_edits.specs.Checks.{same_id}
 use Rattle.split_transfer.specs.Pairs.{live_row}
-use Rattle.rule_engine.specs.Days.{day_number}
+use Rattle.rule_engine.specs.Days.{numbered}
 use Rattle.bank_import.specs.declared.facts.Facts.{Facts}
 use Rattle.bank_import.specs.declared.facts.Candidate.{Candidate}
 use Rattle.bank_import.specs.declared.facts.Pass.{Pass}
@@ -18,12 +17,9 @@ use Rattle.bank_import.specs.declared.facts.Pass.TheVariants.{ById, ByPayee, ByA
 
 -- ---- what is compared
 
--- the number of a day, where it is one
-abbrev pub day_in : ℕ → Option ℤ
-day_in n = if is_day n then Some (day_number n) else None
-
+-- the number of its day
 abbrev pub day_of : TxRow → Option ℤ
-day_of x = option_and_then day_in x.date
+day_of x = option_and_then numbered x.date
 
 abbrev pub facts_of : TxRow → Facts
 facts_of x = record { day = day_of x; amount = x.amount; payee = x.description; financial_id = x.financial_id }

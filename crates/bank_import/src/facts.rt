@@ -1,16 +1,13 @@
 //! What is compared of a record and of a transaction.
-ghost use Rattle.std.specs.Prelude.{◌≡◌, IfOk, true};
+ghost use Rattle.std.specs.Prelude.{◌≡◌, IfOk};
 ghost use Rattle.std.specs.Option.{option_copied};
-ghost use Rattle.jiff_core.specs.Date.{epoch_day};
-ghost use Rattle.book_rows.specs.Kinds.{is_day};
-ghost use Rattle.rule_engine.specs.Days.{day_number};
-ghost use Rattle.bank_import.specs.Matching.{day_in, day_of, facts_of, candidate_of, are_same, days_apart, distance, is_near, meets, is_nearer};
+ghost use Rattle.bank_import.specs.Matching.{day_of, facts_of, candidate_of, are_same, days_apart, distance, is_near, meets, is_nearer};
 
 use book_edits::given::same_id;
 use book_edits::writing::copied;
-use book_rows::{TxRow, is_day};
+use book_rows::TxRow;
 use field_values::{NoMemory, Txt};
-use jiff_core::civil::Date;
+use rule_engine::numbered;
 
 /// What is compared of a record.
 #[derive(Debug, PartialEq, Eq, Drop)]
@@ -66,34 +63,12 @@ impl Candidate {
     }
 }
 
-/// The date of a day YYYYMMDD.
-fn date_at(day: u32) -> Date
-    requires { is_day day ≡ true }
-    ensures { epoch_day result ≡ day_number day }
-{
-    let year = (day / 10_000) as i16;
-    let month = (day / 100 % 100) as u8;
-    let place = (day % 100) as u8;
-    Date::constrain(year, month, place)
-}
-
-/// The number of a day YYYYMMDD, where it is one from 1970 to 2199.
-fn day_in(day: u32) -> Option<i32>
-    ensures { result ≡ day_in day }
-{
-    if is_day(day) {
-        Some(date_at(day).to_unix_epoch_day())
-    } else {
-        None
-    }
-}
-
 /// The number of a transaction's day.
 fn day_of(row: &TxRow) -> Option<i32>
     ensures { result ≡ day_of row.now }
 {
     match row.date {
-        Some(date) => day_in(date),
+        Some(date) => numbered(date),
         None => None,
     }
 }

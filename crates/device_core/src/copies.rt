@@ -1,21 +1,12 @@
 //! Copies of edits: of transactions that hang together, of rules and of schedules.
 ghost use Rattle.std.specs.Prelude.{◌≡◌, IfOk};
 
-use field_values::{Items, NoMemory, Txt};
+use book_edits::writing::copied;
+use field_values::{Items, NoMemory};
 use rule_engine::RuleEdit;
 use schedules::ScheduleEdit;
 use split_transfer::{PairEdit, SplitPart, TxChange};
 use std::alloc::Global;
-
-/// A copy of a text that may be absent.
-fn copy_of(text: &Option<Txt>) -> Result<Option<Txt>, NoMemory>
-    ensures { IfOk result (λ t. t ≡ text.now) }
-{
-    match text {
-        Some(text) => Ok(Some(text.copy()?)),
-        None => Ok(None),
-    }
-}
 
 /// An equal change.
 fn copy_change(change: &TxChange) -> Result<TxChange, NoMemory>
@@ -25,11 +16,11 @@ fn copy_change(change: &TxChange) -> Result<TxChange, NoMemory>
         TxChange::Date(date) => Ok(TxChange::Date(*date)),
         TxChange::Amount(amount) => Ok(TxChange::Amount(*amount)),
         TxChange::Account(account) => Ok(TxChange::Account(account.copy()?)),
-        TxChange::Payee(payee) => Ok(TxChange::Payee(copy_of(payee)?)),
-        TxChange::Category(category) => Ok(TxChange::Category(copy_of(category)?)),
+        TxChange::Payee(payee) => Ok(TxChange::Payee(copied(payee)?)),
+        TxChange::Category(category) => Ok(TxChange::Category(copied(category)?)),
         TxChange::Notes(notes) => Ok(TxChange::Notes(notes.copy()?)),
         TxChange::Cleared(cleared) => Ok(TxChange::Cleared(*cleared)),
-        TxChange::Schedule(schedule) => Ok(TxChange::Schedule(copy_of(schedule)?)),
+        TxChange::Schedule(schedule) => Ok(TxChange::Schedule(copied(schedule)?)),
     }
 }
 
@@ -39,7 +30,7 @@ fn copy_part(part: &SplitPart) -> Result<SplitPart, NoMemory>
 {
     Ok(SplitPart {
         amount: part.amount,
-        category: copy_of(&part.category)?,
+        category: copied(&part.category)?,
     })
 }
 
@@ -96,7 +87,7 @@ pub(crate) fn copy_rule(alloc: Global, edit: &RuleEdit) -> Result<RuleEdit, NoMe
             conditions,
             actions,
         } => Ok(RuleEdit::RuleAdd {
-            id: copy_of(id)?,
+            id: copied(id)?,
             stage: *stage,
             op: *op,
             conditions: conditions.copy()?,
@@ -122,10 +113,10 @@ pub(crate) fn copy_schedule(edit: &ScheduleEdit) -> Result<ScheduleEdit, NoMemor
             amount,
             recur,
         } => Ok(ScheduleEdit::Add {
-            id: copy_of(id)?,
+            id: copied(id)?,
             name: name.copy()?,
             account: account.copy()?,
-            payee: copy_of(payee)?,
+            payee: copied(payee)?,
             amount: *amount,
             recur: recur.copy()?,
         }),

@@ -32,6 +32,10 @@ day_of_text t = if has_form t && is_day (digits_number t) then Some (digits_numb
 unfoldable pub day_number : ℕ → ℤ
 day_number n = days_from_civil (pos (n / 10000)) (n / 100 % 100) (n % 100)
 
+-- its number, where it is a day from 1970 to 2199
+abbrev pub numbered : ℕ → Option ℤ
+numbered n = if is_day n then Some (day_number n) else None
+
 -- both are days, and they are at most so many days apart
 abbrev pub are_within : ℕ → ℕ → ℕ → Bool
 are_within most a b = is_day a && (is_day b && nat_le (unsigned_abs (day_number a -ℤ day_number b)) most)

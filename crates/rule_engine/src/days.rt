@@ -1,9 +1,9 @@
 //! Days as texts, and how far they are apart.
-ghost use Rattle.std.specs.Prelude.{◌≡◌, ◌<◌, ◌^◌, length, false, true, MatchOption};
+ghost use Rattle.std.specs.Prelude.{◌≡◌, ◌<◌, ◌^◌, length, true};
 ghost use Rattle.std.specs.Bool.{OnTrue};
 ghost use Rattle.jiff_core.specs.Date.{epoch_day};
 ghost use Rattle.book_rows.specs.Kinds.{is_day};
-ghost use Rattle.rule_engine.specs.Days.{is_digit, has_form, digit, digits_number, day_of_text, day_number, are_within};
+ghost use Rattle.rule_engine.specs.Days.{is_digit, has_form, digit, digits_number, day_of_text, day_number, numbered, are_within};
 
 use book_rows::is_day;
 use jiff_core::civil::Date;
@@ -78,12 +78,12 @@ fn date_at(day: u32) -> Date
     Date::constrain(year, month, place)
 }
 
-/// The date of a day YYYYMMDD, where it is one from 1970 to 2199.
-fn date_of(day: u32) -> Option<Date>
-    ensures { MatchOption result (is_day day ≡ false) (λ date. (is_day day ≡ true) × (epoch_day date ≡ day_number day)) }
+/// The number of a day YYYYMMDD, where it is one from 1970 to 2199: 0 is 1 January 1970.
+pub fn numbered(day: u32) -> Option<i32>
+    ensures { result ≡ numbered day }
 {
     if is_day(day) {
-        Some(date_at(day))
+        Some(date_at(day).to_unix_epoch_day())
     } else {
         None
     }
@@ -93,8 +93,8 @@ fn date_of(day: u32) -> Option<Date>
 pub fn are_within(most: u32, a: u32, b: u32) -> bool
     ensures { result ≡ are_within most a b }
 {
-    match (date_of(a), date_of(b)) {
-        (Some(a), Some(b)) => a.to_unix_epoch_day().abs_diff(b.to_unix_epoch_day()) <= most,
+    match (numbered(a), numbered(b)) {
+        (Some(a), Some(b)) => a.abs_diff(b) <= most,
         _ => false,
     }
 }

@@ -24,7 +24,7 @@ mod values;
 mod words;
 mod writing;
 
-pub use days::{are_within, day_of_text};
+pub use days::{are_within, day_of_text, numbered};
 pub use edit::RuleEdit;
 pub use holding::holds;
 pub use laws::{
