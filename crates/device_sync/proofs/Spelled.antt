@@ -21,9 +21,9 @@ use Rattle.http1.proofs.HeadRoundTrip.{request_reads_back, response_reads_back}
 use Rattle.http1.proofs.HeadLemmas.{request_text_is, response_text_is}
 use Rattle.sync_server.specs.declared.refusal.Refusal.{Refusal}
 use Rattle.sync_server.specs.declared.refusal.Refusal.TheVariants.{TooLarge}
-use Rattle.sync_server.specs.Heads.{with_token, length_in, judged, judge_head}
+use Rattle.sync_server.specs.Heads.{with_token, length_in, tells, judged, judge_head}
 use Rattle.sync_server.specs.Replies.{reply_bytes}
-use Rattle.device_sync.specs.Replies.{number_behind, writes_length, fits_length, IsReply}
+use Rattle.device_sync.specs.Replies.{fits_length, IsReply}
 use Rattle.device_sync.specs.Requests.{head_text}
 use Rattle.device_sync.specs.Served.{begins_plain, FitsHead}
 
@@ -36,12 +36,6 @@ are_digits : (ds : List ℕ) → AllDigits 10 ds → list_all is_ascii_digit ds 
 are_digits [] h = refl
 are_digits (c ∷ cs) h = rw (is_digit c h.0) (are_digits cs h.1)
 
-same_number : (n : ℕ) (ds : List ℕ) → AllDigits 10 ds → number_behind n ds ≡ digits_value_after 10 n ds
-same_number n [] h = refl
-same_number n (c ∷ cs) h =
-    let e : 10 * n + (c - 48) ≡ n * 10 + digit_value c = let is = h.0 in let within = digit_from_value c h.0 in grind (arith, nat_tests) in
-    rw e (same_number (n * 10 + digit_value c) cs h.1)
-
 record SpellsNumber (n : ℕ) (ds : List ℕ) : Type 0 where
   some : 0 < length ds
   few : length ds ≤ 18
@@ -52,10 +46,6 @@ spells : (n : ℕ) → n < 10 ^ 18 → SpellsNumber n (decimal n)
 spells n small =
     let is = decimal_is_IsNumeral n (omega arith) in
     record { some = is.0.0; few = length-decimal-le 18 n (omega arith) small (omega arith); digits = is.0.1; value = is.1 }
-
--- a text of 1 to 18 digits
-is_short : (ds : List ℕ) → 0 < length ds → length ds ≤ 18 → AllDigits 10 ds → (nat_lt 0 (length ds) && (nat_lt (length ds) 19 && list_all is_ascii_digit ds)) ≡ true
-is_short ds some few all = rw (lt-ltb 0 (length ds) some, lt-ltb (length ds) 19 (omega arith), are_digits ds all) refl
 
 -- ---- the value of a field
 
@@ -111,14 +101,16 @@ reply_spelled status reason kind body same is =
 same_itself : (n : ℕ) → (n == n) ≡ true
 same_itself n = grind (arith, nat_tests)
 
-writes_itself : (n : ℕ) → n < 10 ^ 18 → writes_length (decimal n) n ≡ true
-writes_itself n small =
+told_length : (n : ℕ) → n < 10 ^ 18 → length_in (decimal n) ≡ Some n
+told_length n small =
     let it = spells n small in
-    let value : number_behind 0 (decimal n) ≡ n = same_number 0 (decimal n) it.digits ∙ it.value in
-    rw (lt-ltb 0 (length (decimal n)) it.some, lt-ltb (length (decimal n)) 19 (omega (arith, it.few)), are_digits (decimal n) it.digits, value, same_itself n) refl
+    rw (lt-ltb 0 (length (decimal n)) it.some, lt-ltb (length (decimal n)) 19 (omega (arith, it.few)), are_digits (decimal n) it.digits) (ap Some it.value)
+
+tells_itself : (n : ℕ) → n < 10 ^ 18 → tells n (decimal n) ≡ true
+tells_itself n small = rw (told_length n small) (same_itself n)
 
 fits_value : (kind body : List ℕ) → length body < 10 ^ 18 → list_all (fits_length (length body)) (reply_headers kind body) ≡ true
-fits_value kind body small = rw (writes_itself (length body) small) refl
+fits_value kind body small = rw (tells_itself (length body) small) refl
 
 reply_fits : (status : ℕ) (reason kind body : List ℕ) → is_status_line 1 status reason ≡ true → is_header (codes "Content-Type", kind) ≡ true → length body < 10 ^ 18
     → head_refusal (is_status_line 1 status reason) (reply_headers kind body) ≡ None
@@ -209,11 +201,6 @@ request_reads token size body fits small =
 
 itself : (b : List ℕ) → bytes_eq b b ≡ true
 itself b = (bytes_eq-Decides b b).1 refl
-
-told_length : (n : ℕ) → n < 10 ^ 18 → length_in (decimal n) ≡ Some n
-told_length n small =
-    let it = spells n small in
-    rw (lt-ltb 0 (length (decimal n)) it.some, lt-ltb (length (decimal n)) 19 (omega (arith, it.few)), are_digits (decimal n) it.digits) (ap Some it.value)
 
 -- a body of this length is taken, or it is too large
 unfoldable pub taken_or_not : ℕ → Result ℕ Refusal

@@ -1,8 +1,6 @@
 -- What the bytes are judged as that come back from a server.
-use Rattle.std.specs.Prelude.{◌≡◌, ◌≢◌, ℕ, ◌+◌, ◌-◌, ◌*◌, ◌<◌, ◌≤◌, List, [], ◌∷◌, length, map, Bool, true, not, ◌&&◌, ◌||◌, ◌==◌, nat_lt, Option, None, Some, codes, if◌then◌else◌}
+use Rattle.std.specs.Prelude.{◌≡◌, ◌≢◌, ℕ, ◌+◌, ◌-◌, ◌<◌, ◌≤◌, List, [], length, map, Bool, true, not, ◌||◌, Option, None, Some, codes, if◌then◌else◌}
 use Rattle.std.specs.List.{list_all}
-use Rattle.std.specs.Char.{is_ascii_digit}
-use Rattle.std.specs.Str.{str_eq_ignore_ascii_case}
 use Rattle.httparse.specs.Grammar.{ResponseHead, ReadsResponse, status_code}
 use Rattle.httparse.specs.Spans.{name_and_value}
 use Rattle.field_merge.specs.declared.message.Message.{Message}
@@ -13,23 +11,15 @@ use Rattle.sync_wire.specs.declared.fault.WireFault.{WireFault}
 use Rattle.sync_wire.specs.declared.fault.WireFault.TheVariants.{Truncated, BadTag, LongVarint, NotUtf8, BadStamp, BadMessage, NoMemory}
 use Rattle.sync_wire.specs.declared.response.SyncResponse.{SyncResponse}
 use Rattle.sync_wire.specs.Wire.{IsResponse, IsResponseFault}
+use Rattle.sync_server.specs.Heads.{Pair, has_name, tells}
 
 -- a reply may have so many bytes, head and body
 abbrev pub most_bytes : ℕ
 most_bytes = 268_435_456
 
--- the number that digits write behind those of another number
-abbrev pub number_behind : ℕ → List ℕ → ℕ
-number_behind n [] = n
-number_behind n (b ∷ bs) = number_behind (10 * n + (b - 48)) bs
-
--- one to eighteen digits that write this number
-abbrev pub writes_length : List ℕ → ℕ → Bool
-writes_length value n = nat_lt 0 (length value) && (nat_lt (length value) 19 && (list_all is_ascii_digit value && (number_behind 0 value == n)))
-
 -- a field by its name and its value: where it is a Content-Length, in letters of any case, its value writes this number
-abbrev pub fits_length : ℕ → List ℕ × List ℕ → Bool
-fits_length n field = not (str_eq_ignore_ascii_case field.0 (codes "Content-Length")) || writes_length field.1 n
+abbrev pub fits_length : ℕ → Pair → Bool
+fits_length n field = not (has_name (codes "Content-Length") field) || tells n field.1
 
 -- the bytes are a head with this status, of at most 64 fields, each Content-Length among which is that of the body, and then the body
 pub record IsReply (bytes : List ℕ) (status : ℕ) (body : List ℕ) : Type 0 where

@@ -1,12 +1,12 @@
 //! The head of a reply.
 ghost use Rattle.std.specs.Prelude.{◌≡◌, ◌≤◌, ℕ, List, length, map, drop, All, true, IfSome, IfNone};
 ghost use Rattle.std.specs.List.{list_all};
-ghost use Rattle.std.specs.Char.{is_ascii_digit};
 ghost use Rattle.httparse.specs.Spans.{IsHeaderWithin, header_bytes};
-ghost use Rattle.device_sync.specs.Replies.{IsReply, number_behind, writes_length, fits_length};
+ghost use Rattle.device_sync.specs.Replies.{IsReply, fits_length};
 
 use httparse::Status;
 use httparse::spans::{EMPTY_HEADER_SPAN, HeaderSpan, parse_response};
+use sync_server::length_in;
 
 /// The most fields of a head.
 const MOST_FIELDS: usize = 64;
@@ -19,46 +19,22 @@ pub(crate) struct Head {
     pub(crate) len: usize,
 }
 
-/// Whether each byte is a digit.
-fn are_digits(text: &[u8]) -> bool
-    ensures { result ≡ list_all is_ascii_digit text.now }
-{
-    text.iter().all(|byte| byte.is_ascii_digit())
-}
-
-/// The number that digits write.
-fn number_of(text: &[u8]) -> u64
-    requires short { length text.now ≤ 18 }
-    requires digits { list_all is_ascii_digit text.now ≡ true }
-    ensures { result ≡ number_behind 0 text.now }
-{
-    let mut number = 0;
-    for digit in text {
-        number = 10 * number + (*digit as u64 - 48);
-    }
-    number
-}
-
-/// Whether one to eighteen digits write this number.
-fn writes_length(text: &[u8], size: usize) -> bool
-    ensures { result ≡ writes_length text.now size }
-{
-    if text.is_empty() || text.len() > 18 || !are_digits(text) {
-        return false;
-    }
-    number_of(text) == size as u64
-}
-
 /// Whether a field, where it is a Content-Length, has this length.
 fn fits_length(bytes: &[u8], header: &HeaderSpan, size: usize) -> bool
     requires { IsHeaderWithin (length bytes.now) header.now }
     ensures { result ≡ fits_length size (header_bytes bytes.now header.now) }
 {
-    !header
+    if !header
         .name
         .of(bytes)
         .eq_ignore_ascii_case(b"Content-Length")
-        || writes_length(header.value.of(bytes), size)
+    {
+        return true;
+    }
+    match length_in(header.value.of(bytes)) {
+        Some(length) => length == size as u64,
+        None => false,
+    }
 }
 
 /// Whether each Content-Length among fields has this length.

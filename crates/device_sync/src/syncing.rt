@@ -15,12 +15,9 @@ use crate::target::Target;
 use budget_ports::{Keeper, Link, PortFault};
 use device_core::Device;
 use field_values::{Steps, Txt};
-use hybrid_clock::ClockFault;
+use hybrid_clock::{ClockFault, WINDOW};
 use std::alloc::Global;
 use std::sync::ledger::Ledger;
-
-/// The first minute since 1970 that is past those of timestamps.
-const WINDOW: u64 = 43_046_721;
 
 /// How many requests may follow the first.
 const MORE_REQUESTS: u64 = 99;

@@ -20,5 +20,5 @@ pub use laws::{
     texts_show_times,
 };
 pub use node::{Node, NodeFault};
-pub use stamp::{Stamp, StampFault};
+pub use stamp::{Stamp, StampFault, WINDOW};
 pub use write::moment_text;

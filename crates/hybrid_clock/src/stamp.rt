@@ -2,7 +2,7 @@
 use crate::node::Node;
 
 /// The first minute since 1970 that is past those of timestamps, which is 3 to the 16.
-pub(crate) const WINDOW: u64 = 43_046_721;
+pub const WINDOW: u64 = 43_046_721;
 
 /// A timestamp of a hybrid clock.
 ///

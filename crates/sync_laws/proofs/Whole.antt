@@ -1,38 +1,32 @@
 -- A reply that tells its length is not cut.
-use Rattle.std.proofs.Common.{◌≡◌, ◌∙◌, ℕ, ◌==◌, List, [], ◌∷◌, ◌++◌, map, length, Bool, true, false, not, ◌||◌, codes, nat_lt, refl, sym, ap, subst, length-append, arith}
+use Rattle.std.proofs.Common.{◌≡◌, ◌∙◌, ℕ, List, Option, Some, None, [], ◌∷◌, ◌++◌, map, length, Bool, true, false, not, ◌||◌, codes, refl, sym, ap, subst, length-append, arith}
 use Rattle.std.specs.List.{list_any, list_all}
-use Rattle.std.specs.Char.{is_ascii_digit}
-use Rattle.std.specs.Str.{str_eq_ignore_ascii_case}
 use Rattle.std.proofs.lemmas.Bool.{and_parts}
 use Rattle.httparse.specs.Spans.{name_and_value}
 use Rattle.httparse.specs.Grammar.{ResponseHead}
 use Rattle.httparse.proofs.GrammarLemmas.{response_prefix_free}
-use Rattle.device_sync.specs.Replies.{number_behind, writes_length, fits_length}
+use Rattle.sync_server.specs.Heads.{Pair, has_name, length_in, is_number, tells}
+use Rattle.device_sync.specs.Replies.{fits_length}
 use Rattle.sync_laws.specs.Whole.{RepliesAreWhole}
 
-abbrev tells : List ℕ × List ℕ → Bool
-tells field = str_eq_ignore_ascii_case field.0 (codes "Content-Length")
+abbrev is_length : Pair → Bool
+is_length = has_name (codes "Content-Length")
 
-same_number : (m n : ℕ) → (m == n) ≡ true → m ≡ n
-same_number m n e = grind arith
-
-writes : (value : List ℕ) (n : ℕ) → writes_length value n ≡ true → number_behind 0 value ≡ n
-writes value n h =
-    let one = and_parts (nat_lt 0 (length value)) _ h in
-    let two = and_parts (nat_lt (length value) 19) _ one.1 in
-    let three = and_parts (list_all is_ascii_digit value) _ two.1 in
-    same_number (number_behind 0 value) n three.1
+-- a text tells one number
+one_number : (m n : ℕ) (o : Option ℕ) → is_number m o ≡ true → is_number n o ≡ true → m ≡ n
+one_number m n None a b = absurd (cc)
+one_number m n (Some k) a b = grind arith
 
 -- a field that fits two lengths, and tells one
-one_field : (m n : ℕ) (field : List ℕ × List ℕ) → tells field ≡ true → fits_length m field ≡ true → fits_length n field ≡ true → m ≡ n
+one_field : (m n : ℕ) (field : Pair) → is_length field ≡ true → fits_length m field ≡ true → fits_length n field ≡ true → m ≡ n
 one_field m n field is a b =
-    let first : writes_length field.1 m ≡ true = sym (ap (λ t. not t || writes_length field.1 m) is) ∙ a in
-    let second : writes_length field.1 n ≡ true = sym (ap (λ t. not t || writes_length field.1 n) is) ∙ b in
-    sym (writes field.1 m first) ∙ writes field.1 n second
+    let first : tells m field.1 ≡ true = sym (ap (λ t. not t || tells m field.1) is) ∙ a in
+    let second : tells n field.1 ≡ true = sym (ap (λ t. not t || tells n field.1) is) ∙ b in
+    one_number m n (length_in field.1) first second
 
-some_field : (m n : ℕ) (fields : List (List ℕ × List ℕ)) → list_any tells fields ≡ true → list_all (fits_length m) fields ≡ true → list_all (fits_length n) fields ≡ true → m ≡ n
+some_field : (m n : ℕ) (fields : List Pair) → list_any is_length fields ≡ true → list_all (fits_length m) fields ≡ true → list_all (fits_length n) fields ≡ true → m ≡ n
 some_field m n [] has a b = absurd (cc)
-some_field m n (f ∷ fs) has a b = by (tells f) refl has (some_field m n fs)
+some_field m n (f ∷ fs) has a b = by (is_length f) refl has (some_field m n fs)
   where
     first : (fits_length m f ≡ true) × (list_all (fits_length m) fs ≡ true)
     first = and_parts (fits_length m f) (list_all (fits_length m) fs) a
@@ -40,8 +34,8 @@ some_field m n (f ∷ fs) has a b = by (tells f) refl has (some_field m n fs)
     second : (fits_length n f ≡ true) × (list_all (fits_length n) fs ≡ true)
     second = and_parts (fits_length n f) (list_all (fits_length n) fs) b
 
-    by : (t : Bool) → tells f ≡ t → (t || list_any tells fs) ≡ true
-        → (list_any tells fs ≡ true → list_all (fits_length m) fs ≡ true → list_all (fits_length n) fs ≡ true → m ≡ n) → m ≡ n
+    by : (t : Bool) → is_length f ≡ t → (t || list_any is_length fs) ≡ true
+        → (list_any is_length fs ≡ true → list_all (fits_length m) fs ≡ true → list_all (fits_length n) fs ≡ true → m ≡ n) → m ≡ n
     by true is h go = one_field m n f is first.0 second.0
     by false is h go = go h first.1 second.1
 

@@ -66,8 +66,8 @@ fn number_of(text: &[u8]) -> u64
     number
 }
 
-/// The number that 1 to 18 digits write.
-fn length_in(text: &[u8]) -> Option<u64>
+/// The length that the value of a `Content-Length` tells: the number that 1 to 18 digits write.
+pub fn length_in(text: &[u8]) -> Option<u64>
     ensures { result ≡ length_in text.now }
 {
     if text.is_empty() || text.len() > 18 || !are_digits(text) {

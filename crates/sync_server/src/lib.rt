@@ -14,6 +14,7 @@ mod state;
 mod writing;
 
 pub use answering::{answer, join_request};
+pub use judge::length_in;
 pub use keeping::file_name;
 pub use laws::{
     accepted_are_kept, answers_tell, connections_are_decided, heads_are_judged, requests_are_judged,
