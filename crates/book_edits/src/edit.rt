@@ -1,6 +1,7 @@
 //! Edits of a household's books.
 ghost use Rattle.std.specs.Prelude.{◌≡◌, IfOk};
 
+use crate::writing::copied;
 use field_values::{NoMemory, Txt, Value};
 
 /// A plain edit of a household's books: one that touches no split and no transfer, but that `Set` may write any field.
@@ -130,16 +131,6 @@ pub enum BookEdit {
     },
 }
 
-/// A copy of a text that may be absent.
-pub(crate) fn copy_of(text: &Option<Txt>) -> Result<Option<Txt>, NoMemory>
-    ensures { IfOk result (λ t. t ≡ text.now) }
-{
-    match text {
-        Some(text) => Ok(Some(text.copy()?)),
-        None => Ok(None),
-    }
-}
-
 impl BookEdit {
     /// An equal edit.
     pub fn copy(&self) -> Result<BookEdit, NoMemory>
@@ -162,7 +153,7 @@ impl BookEdit {
                 name,
                 offbudget,
             } => Ok(BookEdit::AccountAdd {
-                id: copy_of(id)?,
+                id: copied(id)?,
                 name: name.copy()?,
                 offbudget: *offbudget,
             }),
@@ -177,7 +168,7 @@ impl BookEdit {
             BookEdit::AccountReopen { id } => Ok(BookEdit::AccountReopen { id: id.copy()? }),
             BookEdit::AccountClose { id } => Ok(BookEdit::AccountClose { id: id.copy()? }),
             BookEdit::GroupAdd { id, name, income } => Ok(BookEdit::GroupAdd {
-                id: copy_of(id)?,
+                id: copied(id)?,
                 name: name.copy()?,
                 income: *income,
             }),
@@ -187,7 +178,7 @@ impl BookEdit {
             }),
             BookEdit::GroupDelete { id } => Ok(BookEdit::GroupDelete { id: id.copy()? }),
             BookEdit::CategoryAdd { id, group, name } => Ok(BookEdit::CategoryAdd {
-                id: copy_of(id)?,
+                id: copied(id)?,
                 group: group.copy()?,
                 name: name.copy()?,
             }),
@@ -201,7 +192,7 @@ impl BookEdit {
             }),
             BookEdit::CategoryDelete { id } => Ok(BookEdit::CategoryDelete { id: id.copy()? }),
             BookEdit::PayeeAdd { id, name } => Ok(BookEdit::PayeeAdd {
-                id: copy_of(id)?,
+                id: copied(id)?,
                 name: name.copy()?,
             }),
             BookEdit::PayeeRename { id, name } => Ok(BookEdit::PayeeRename {
@@ -218,12 +209,12 @@ impl BookEdit {
                 category,
                 notes,
             } => Ok(BookEdit::TxAdd {
-                id: copy_of(id)?,
+                id: copied(id)?,
                 account: account.copy()?,
                 date: *date,
                 amount: *amount,
-                payee: copy_of(payee)?,
-                category: copy_of(category)?,
+                payee: copied(payee)?,
+                category: copied(category)?,
                 notes: notes.copy()?,
             }),
             BookEdit::Budget {

@@ -64,7 +64,7 @@ module _ {A : Type 0} where
       by true false = refl
       by false b = refl
 
-at_end : (xs : List (Option EditFault)) → xs ++ [] ≡ xs
+pub at_end : (xs : List (Option EditFault)) → xs ++ [] ≡ xs
 at_end [] = refl
 at_end (x ∷ xs) = ap (λ ys. x ∷ ys) (at_end xs)
 

@@ -25,7 +25,7 @@ use Rattle.book_rows.specs.declared.fault.RulePart.TheVariants.{Id, Conditions, 
 use Rattle.book_rows.specs.declared.fault.RecurPart.{RecurPart}
 use Rattle.book_rows.specs.declared.fault.RecurPart.TheVariants.{Object, Start, Frequency, Interval, Patterns, SkipWeekend, WeekendSolveMode, EndMode, EndOccurrences, EndDate, Rule}
 use Rattle.book_rows.specs.Live.{is_live_account, is_live_payee, is_live_rule, is_alive}
-use Rattle.book_edits.specs.Faults.{◌>>=◌, Check, must, if_there}
+use Rattle.book_edits.specs.Faults.{◌>>=◌, Check, must}
 use Rattle.book_edits.specs.Checks.{may_be_chosen, given_row, new_row, live_payee}
 use Rattle.book_edits.proofs.Valid.{inside}
 use Rattle.split_transfer.specs.Checks.{each}
@@ -45,7 +45,9 @@ use Rattle.schedules.specs.Conditions.{says, is_account_field, is_payee_field, i
 use Rattle.schedules.specs.Terms.{Terms, field_of, names, value_of, words_of, first_where, amount_in, day_or, days_meant, terms_in, entries_by, live_rule, rule_terms, terms_of}
 use Rattle.schedules.specs.Terms.{entries_of as read_entries}
 use Rattle.schedules.specs.Edits.{not_done, is_schedule, new_schedule, schedule_writes}
-use Rattle.rule_laws.specs.Asking.{unless, fault_of, first_fault, new, account, payee, transaction, entries, array, rule_part, asked_of_rules, ends, keys, recurrence, occurs, listed, when, asked_of_rule, rule, its_rule, where_live, going, asked_of_schedules, RuleEditsAreJudged, ScheduleEditsAreJudged}
+use Rattle.book_laws.specs.Asking.{unless, fault_of, first_fault, new, account, payee}
+use Rattle.book_laws.proofs.Asked.{asks, maybe, at_end}
+use Rattle.rule_laws.specs.Asking.{transaction, entries, array, rule_part, asked_of_rules, ends, keys, recurrence, occurs, listed, when, asked_of_rule, rule, its_rule, where_live, going, asked_of_schedules, RuleEditsAreJudged, ScheduleEditsAreJudged}
 
 -- ---- checks one after the other
 
@@ -73,22 +75,7 @@ follows : {A B : Type 0} (r : Result A EditFault) (told others : List (Option Ed
 follows (Ok a) told others go h next = next a refl ∙ sym (passes told others (sym h))
 follows (Err f) told others go h next = stops told others f h
 
-at_end : (xs : List (Option EditFault)) → xs ++ [] ≡ xs
-at_end [] = refl
-at_end (x ∷ xs) = ap (λ ys. x ∷ ys) (at_end xs)
-
 module _ {A : Type 0} where
-  -- something that has to be so
-  asks : (b : Bool) (f : EditFault) (go : Result A EditFault) (others : List (Option EditFault)) → fault_of go ≡ first_fault others → fault_of (must b f >>= λ _. go) ≡ first_fault (unless b f ∷ others)
-  asks true f go others h = h
-  asks false f go others h = refl
-
-  -- what may be absent
-  maybe : {X : Type 0} (check : X → Check) (told : X → Option EditFault) → ((x : X) (go : Result A EditFault) (others : List (Option EditFault)) → fault_of go ≡ first_fault others → fault_of (check x >>= λ _. go) ≡ first_fault (told x ∷ others))
-      → (o : Option X) (go : Result A EditFault) (others : List (Option EditFault)) → fault_of go ≡ first_fault others → fault_of (if_there check o >>= λ _. go) ≡ first_fault (option_and_then told o ∷ others)
-  maybe check told same None go others h = h
-  maybe check told same (Some x) go others h = same x go others h
-
   -- what has to be there
   wants : {X : Type 0} (o : Option X) (f : EditFault) (go : X → Result A EditFault) → ((x : X) → fault_of (go x) ≡ None) → fault_of (ok_or o f >>= go) ≡ first_fault (unless (is_some o) f ∷ [])
   wants None f go h = refl

@@ -1,25 +1,23 @@
 -- What edits of rules and of schedules ask for, and how they are refused.
-use Rattle.std.specs.Prelude.{◌≡◌, ◌&&◌, ◌||◌, ◌++◌, ◌∷◌, [], ℕ, ◌+◌, min, unsigned_abs, nat_le, not, Bool, List, length, map as list_map, Option, None, Some, is_some, Result, Ok, Err, if◌then◌else◌, codes}
+use Rattle.std.specs.Prelude.{◌≡◌, ◌&&◌, ◌||◌, ◌++◌, ◌∷◌, [], ℕ, ◌+◌, min, unsigned_abs, nat_le, not, List, map as list_map, Option, None, Some, is_some, if◌then◌else◌, codes}
 use Rattle.std.specs.Option.{is_none, option_and_then}
-use Rattle.std.specs.Result.{is_err, result_ok}
+use Rattle.std.specs.Result.{result_ok}
 use Rattle.std.specs.FinMap as map
 use Rattle.serde_json.specs.Data.{Data, Items, no_items, item}
 use Rattle.serde_json.specs.Find.{as_str, as_array, as_object}
 use Rattle.serde_json.specs.Read.{read}
-use Rattle.field_values.specs.declared.name.NamePart.TheVariants.{Row}
-use Rattle.field_values.specs.Names.{name_fault}
 use Rattle.field_values.specs.Value.{largest_number}
-use Rattle.hybrid_clock.specs.Reading.{read_stamp}
 use Rattle.finite_sums.specs.Maps.{Text, some_and}
 use Rattle.book_rows.specs.declared.rows.Rows.{Rows}
 use Rattle.book_rows.specs.declared.rows.RuleRow.{RuleRow}
 use Rattle.book_rows.specs.declared.rows.ScheduleRow.{ScheduleRow}
 use Rattle.book_rows.specs.declared.fault.EditFault.{EditFault}
-use Rattle.book_rows.specs.declared.fault.EditFault.TheVariants.{BadId, IdTaken, NoSuchAccount, NoSuchPayee, NoSuchTransaction, BadAmount, BadRule, NoSuchSchedule, BadRecur, ScheduleDone}
+use Rattle.book_rows.specs.declared.fault.EditFault.TheVariants.{NoSuchTransaction, BadAmount, BadRule, NoSuchSchedule, BadRecur, ScheduleDone}
 use Rattle.book_rows.specs.declared.fault.RulePart.{RulePart}
 use Rattle.book_rows.specs.declared.fault.RulePart.TheVariants.{Id, Conditions, Actions}
 use Rattle.book_rows.specs.declared.fault.RecurPart.TheVariants.{Object, Start, Frequency, Interval, Patterns, SkipWeekend, WeekendSolveMode, EndMode, EndOccurrences, EndDate, Rule}
-use Rattle.book_rows.specs.Live.{is_live_account, is_live_payee, is_live_rule, is_alive}
+use Rattle.book_rows.specs.Live.{is_live_rule, is_alive}
+use Rattle.book_laws.specs.Asking.{unless, fault_of, first_fault, new, account, payee}
 use Rattle.rule_engine.specs.declared.edit.RuleEdit.{RuleEdit}
 use Rattle.rule_engine.specs.declared.edit.RuleEdit.TheVariants.{RuleAdd, RuleDelete, RulesRun}
 use Rattle.rule_engine.specs.Reading.{condition_of, action_of}
@@ -33,33 +31,7 @@ use Rattle.schedules.specs.Conditions.{says, is_account_field, is_condition, is_
 use Rattle.schedules.specs.Terms.{Terms, field_of, value_of, words_of, names, first_where, terms_of}
 use Rattle.schedules.specs.Edits.{schedule_writes}
 
--- a fault, unless this is so
-abbrev pub unless : Bool → EditFault → Option EditFault
-unless so fault = if so then None else Some fault
-
--- the fault with which something is refused
-abbrev pub fault_of : {A : Type 0} → Result A EditFault → Option EditFault
-fault_of (Ok value) = None
-fault_of (Err fault) = Some fault
-
--- the first fault of some
-abbrev pub first_fault : List (Option EditFault) → Option EditFault
-first_fault [] = None
-first_fault (None ∷ others) = first_fault others
-first_fault (Some fault ∷ others) = Some fault
-
--- an id that is given for a new row is a name of at most 64 bytes that no timestamp has as its text, and of which there is no row
-abbrev pub new : (Text → Bool) → Option Text → List (Option EditFault)
-new there None = []
-new there (Some id) = unless (is_none (name_fault Row id) && (nat_le (length id) 64 && is_err (read_stamp id))) (BadId id) ∷ unless (not (there id)) (IdTaken id) ∷ []
-
--- rows that are live
-abbrev pub account : Rows → Text → Option EditFault
-account rows id = unless (is_live_account rows id) (NoSuchAccount id)
-
-abbrev pub payee : Rows → Text → Option EditFault
-payee rows id = unless (is_live_payee rows id) (NoSuchPayee id)
-
+-- a row that is live
 abbrev pub transaction : Rows → Text → Option EditFault
 transaction rows id = unless (is_alive rows id) (NoSuchTransaction id)
 
