@@ -361,5 +361,9 @@ in_order rows = record {
   groups = groups_rise rows;
   group = each_group rows (groups rows) (group_rows rows);
   cells = λ month. cells_named (budget_of rows) month;
+  line = λ c. refl;
+  month_names = refl;
+  group_names = refl;
+  category_names = refl;
   lines = λ month. lines_are (sheet_of (budget_of rows) month);
 }

@@ -12,3 +12,6 @@ pub mod OnSheets
 pub mod Unchanged
 pub mod AskedPairs
 pub mod InOrder
+pub mod Wrong
+pub mod Standing
+pub mod Undone

@@ -16,12 +16,12 @@ use Rattle.book_rows.specs.Live.{is_counted}
 use Rattle.book_rows.specs.Months.{is_month, month_of_row}
 use Rattle.book_rows.specs.Parts.{is_text}
 use Rattle.book_rows.proofs.Balances.{total_of-keys_where}
-use Rattle.envelope_cells.specs.Budget.{Budget, expense_groups, categories_of}
+use Rattle.envelope_cells.specs.Budget.{Budget, expense_groups, categories, categories_of, expense}
 use Rattle.envelope_cells.specs.BudgetOf.{is_of}
-use Rattle.envelope_cells.specs.CellOf.{of_category, of_group, group_named}
+use Rattle.envelope_cells.specs.CellOf.{of_category, of_group, group_named, flag_value}
 use Rattle.envelope_cells.specs.Cells.{leftover}
 use Rattle.envelope_cells.specs.Ids.{month_number, month_at}
-use Rattle.book_laws.specs.Sheets.{MonthsAreNumbered, CountsIn, AreThoseOf, SumsAreOfTransactions, CellsAddUp}
+use Rattle.book_laws.specs.Sheets.{MonthsAreNumbered, CountsIn, AreThoseOf, SumsAreOfTransactions, CategoryIsTold, CellsAddUp}
 use Rattle.envelope_cells.proofs.Among.{same_texts, itself, in_front, in_back, total_on}
 use Rattle.envelope_cells.proofs.Money.{split}
 use Rattle.envelope_cells.proofs.Quiet.{month_back}
@@ -122,6 +122,25 @@ module _ (f : Text → ℤ) (gs : List _) (g : _) (h : group_named gs g.id ≡ S
       ∙ total_on f (λ c. unwrap_or (of_category (categories_of gs) c (f c)) (pos 0)) g.categories
       (λ q t. sym (ap (λ b. unwrap_or (cond b (Some (f q)) None) (pos 0)) (group_among gs g.id g q h t)))
 
+-- the cells of categories
+is_there : (cs : List Text) (c : Text) (z : ℤ) → is_among text_cmp cs c ≡ true → of_category cs c z ≡ Some z
+is_there cs c z h = ap (λ b. cond b (Some z) None) h
+
+is_none : (cs : List Text) (c : Text) (z : ℤ) → is_among text_cmp cs c ≡ false → of_category cs c z ≡ None
+is_none cs c z h = ap (λ b. cond b (Some z) None) h
+
+category_told : (b : Budget) (month : ℕ) (c : Text) → CategoryIsTold b month (month_number month) c
+category_told b month c = record {
+  moved = is_there (categories b) c (b.category_sum c (month_number month));
+  given = is_there (expense b) c (b.budgeted c (month_number month));
+  carries = λ h f. is_there (expense b) c (flag_value (b.carries c (month_number month))) h ∙ ap (λ t. Some (flag_value t)) f;
+  drops = λ h f. is_there (expense b) c (flag_value (b.carries c (month_number month))) h ∙ ap (λ t. Some (flag_value t)) f;
+  left = is_there (expense b) c (leftover b c (month_number month));
+  none_given = is_none (expense b) c (b.budgeted c (month_number month));
+  none_carries = is_none (expense b) c (flag_value (b.carries c (month_number month)));
+  none_left = is_none (expense b) c (leftover b c (month_number month));
+}
+
 pub adds_up : (b : Budget) → CellsAddUp b
 adds_up b = record {
   moved = λ m. sym (split (λ c. b.category_sum c m) b.groups);
@@ -136,6 +155,7 @@ adds_up b = record {
     spent = refl;
     left = refl;
   };
+  category = category_told b;
   sum = λ month g h. group_is (λ c. b.category_sum c (month_number month)) b.groups g h;
   budget = λ month g h. group_is (λ c. b.budgeted c (month_number month)) (expense_groups b) g h;
   left = λ month g h. group_is (λ c. leftover b c (month_number month)) (expense_groups b) g h;

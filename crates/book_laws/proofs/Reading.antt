@@ -50,7 +50,7 @@ is_the_day v m e t = ap day_of e ∙ ap (λ b. cond b (Some m) None) t
 
 -- ---- days
 
-writes_day : (n : ℕ) → is_day n ≡ true → WritesDay n
+pub writes_day : (n : ℕ) → is_day n ≡ true → WritesDay n
 unfolding is_day
 writes_day n h =
     let a = and_parts _ _ h in
@@ -80,10 +80,10 @@ month_back n y m p e h k = omega arith
 place_back : (n y m p : ℕ) → n ≡ y * 10_000 + m * 100 + p → m ≤ 12 → p ≤ 31 → n % 100 ≡ p
 place_back n y m p e h k = omega arith
 
-most_days : (y : ℤ) (m : ℕ) → days_in_month y m ≤ 31
+pub most_days : (y : ℤ) (m : ℕ) → days_in_month y m ≤ 31
 most_days y m = grind arith
 
-day_written : (n : ℕ) → WritesDay n → is_day n ≡ true
+pub day_written : (n : ℕ) → WritesDay n → is_day n ≡ true
 unfolding is_day
 day_written n w =
     let month = w.civil.1.1 in

@@ -10,3 +10,6 @@ pub mod Showing
 pub mod Changing
 pub mod AskingPairs
 pub mod Ordered
+pub mod Wrong
+pub mod Standing
+pub mod Undone

@@ -1,6 +1,7 @@
 -- In which order groups, categories and cells stand on a sheet.
-use Rattle.std.specs.Prelude.{ℕ, ◌≡◌, ◌↔◌, ◌++◌, ℤ, Bool, true, false, List, [], ◌∷◌, map, flat_map, Some, if◌then◌else◌}
+use Rattle.std.specs.Prelude.{ℕ, ◌≡◌, ◌↔◌, ◌++◌, ℤ, Bool, true, false, List, [], ◌∷◌, map, flat_map, Some, if◌then◌else◌, codes}
 use Rattle.std.specs.List.{AllByRecursion}
+use Rattle.std.specs.Fmt.{signed_decimal}
 use Rattle.std.specs.List.Sorted.{IsStrictlySortedBy}
 use Rattle.std.specs.declared.cmp.Ordering.{Ordering}
 use Rattle.std.specs.Ordering.{int_cmp, ordering_then}
@@ -9,12 +10,13 @@ use Rattle.finite_sums.specs.Maps.{Text, Texts, text_cmp, is_among, value_or_zer
 use Rattle.book_rows.specs.declared.rows.Rows.{Rows}
 use Rattle.book_rows.specs.declared.rows.GroupRow.{GroupRow}
 use Rattle.book_rows.specs.declared.rows.CategoryRow.{CategoryRow}
+use Rattle.envelope_cells.specs.declared.name.Cell.{Cell}
 use Rattle.envelope_cells.specs.declared.name.CellName.{CellName}
 use Rattle.envelope_cells.specs.declared.name.CellKind.{CellKind}
 use Rattle.envelope_cells.specs.declared.name.CellKind.TheVariants.{TotalIncome, FromLastMonth, AvailableFunds, LastMonthOverspent, TotalBudgeted, Buffered, ToBudget, TotalSpent, TotalLeftover, GroupSum, GroupBudget, GroupLeftover, Sum, Budget as OfBudget, Carryover, Leftover}
 use Rattle.envelope_cells.specs.BudgetOf.{budget_of, groups_of}
 use Rattle.envelope_cells.specs.SheetOf.{sheet_of}
-use Rattle.envelope_cells.specs.Text.{cell_line, sheet_text}
+use Rattle.envelope_cells.specs.Text.{kind_text, cell_line, sheet_text}
 
 -- of two rows the one with the lesser number stands first, and of two with one number the one whose id is less, byte by byte
 abbrev pub row_cmp : {X : Type 0} → (X → ℤ) → Texts X → Text → Text → Ordering
@@ -65,6 +67,18 @@ abbrev pub group_names : ℕ → Text → Bool → List Text → List CellName
 group_names month id is_income categories =
     names_of month id (group_kinds is_income) ++ flat_map (λ c. names_of month c (category_kinds is_income)) categories
 
+-- the names of the cells of a whole month, of a group, and of a category
+abbrev pub whole_names : List Text
+whole_names =
+    codes "total-income" ∷ codes "from-last-month" ∷ codes "available-funds" ∷ codes "last-month-overspent" ∷ codes "total-budgeted"
+    ∷ codes "buffered" ∷ codes "to-budget" ∷ codes "total-spent" ∷ codes "total-leftover" ∷ []
+
+abbrev pub names_of_groups : List Text
+names_of_groups = codes "group-sum-amount-" ∷ codes "group-budget-" ∷ codes "group-leftover-" ∷ []
+
+abbrev pub names_of_categories : List Text
+names_of_categories = codes "sum-amount-" ∷ codes "budget-" ∷ codes "carryover-" ∷ codes "leftover-" ∷ []
+
 -- how a sheet is laid out
 pub record SheetsAreInOrder (rows : Rows) : Type 0 where
   -- groups stand by their numbers and then by their ids, whether they take income or not
@@ -75,5 +89,11 @@ pub record SheetsAreInOrder (rows : Rows) : Type 0 where
   pub cells : (month : ℕ)
       → map (λ c. c.name) (sheet_of (budget_of rows) month)
       ≡ names_of month [] month_kinds ++ flat_map (λ g. group_names month g.id g.is_income g.categories) (groups_of rows)
-  -- and so do the lines of its text
+  -- each line of its text has the name of the kind, the id behind it, a blank and the number
+  pub line : (c : Cell) → cell_line c ≡ kind_text c.name.kind ++ c.name.id ++ codes " " ++ signed_decimal c.value ++ (10 ∷ [])
+  -- and these are the names of the kinds
+  pub month_names : map kind_text month_kinds ≡ whole_names
+  pub group_names : map kind_text (group_kinds false) ≡ names_of_groups
+  pub category_names : map kind_text (category_kinds false) ≡ names_of_categories
+  -- the lines stand as the cells do
   pub lines : (month : ℕ) → sheet_text (sheet_of (budget_of rows) month) ≡ flat_map cell_line (sheet_of (budget_of rows) month)

@@ -1,14 +1,15 @@
 -- How the months of a sheet are numbered, and what its cells add up.
-use Rattle.std.specs.Prelude.{ℕ, ◌≡◌, ◌≢◌, ◌↔◌, ◌+◌, ◌*◌, ◌/◌, ◌%◌, true, pos, ◌+ℤ◌, ℤ, List, [], Some, unwrap_or}
+use Rattle.std.specs.Prelude.{ℕ, ◌≡◌, ◌≢◌, ◌↔◌, ◌+◌, ◌*◌, ◌/◌, ◌%◌, true, false, pos, ◌+ℤ◌, ℤ, List, [], None, Some, unwrap_or}
 use Rattle.std.specs.FinMap.{get}
 use Rattle.finite_sums.specs.Sums.{total}
 use Rattle.finite_sums.specs.Maps.{Text, text_cmp, value_or_zero, is_among, AreDistinct}
-use Rattle.envelope_cells.specs.Budget.{Budget, expense_groups, categories}
-use Rattle.envelope_cells.specs.Cells.{total_income, from_last_month, available_funds, last_month_overspent, total_budgeted, to_budget, total_spent, total_leftover}
+use Rattle.envelope_cells.specs.Budget.{Budget, expense_groups, categories, expense}
+use Rattle.envelope_cells.specs.Cells.{total_income, from_last_month, available_funds, last_month_overspent, total_budgeted, to_budget, total_spent, total_leftover, leftover}
 use Rattle.envelope_cells.specs.CellOf.{cell_of, group_named}
 use Rattle.envelope_cells.specs.Ids.{month_number, month_at}
+use Rattle.envelope_cells.specs.declared.name.CellName.{CellName}
 use Rattle.envelope_cells.specs.declared.name.CellKind.{CellKind}
-use Rattle.envelope_cells.specs.declared.name.CellKind.TheVariants.{TotalIncome, FromLastMonth, AvailableFunds, LastMonthOverspent, TotalBudgeted, Buffered, ToBudget, TotalSpent, TotalLeftover, GroupSum, GroupBudget, GroupLeftover, Sum, Budget as OfBudget, Leftover}
+use Rattle.envelope_cells.specs.declared.name.CellKind.TheVariants.{TotalIncome, FromLastMonth, AvailableFunds, LastMonthOverspent, TotalBudgeted, Buffered, ToBudget, TotalSpent, TotalLeftover, GroupSum, GroupBudget, GroupLeftover, Sum, Budget as OfBudget, Carryover, Leftover}
 use Rattle.book_rows.specs.declared.rows.Rows.{Rows}
 use Rattle.book_rows.specs.declared.rows.TxRow.{TxRow}
 use Rattle.book_rows.specs.Live.{is_counted}
@@ -60,12 +61,32 @@ pub record MonthIsTold (b : Budget) (month m : ℕ) : Type 0 where
   pub spent : told b month TotalSpent [] ≡ total_spent b m
   pub left : told b month TotalLeftover [] ≡ total_leftover b m
 
+-- the cell of a kind and an id in a month
+abbrev pub at : ℕ → CellKind → Text → CellName
+at month kind id = record { month = month; kind = kind; id = id }
+
+-- what the cells of a category tell in a month YYYYMM, which has number m: each of them what its name says
+pub record CategoryIsTold (b : Budget) (month m : ℕ) (c : Text) : Type 0 where
+  -- of each live category, what its transactions add up to
+  pub moved : is_among text_cmp (categories b) c ≡ true → cell_of b (at month Sum c) ≡ Some (b.category_sum c m)
+  -- of one of expenses, what it is given, whether it carries over, as 1 or 0, and what is left in it
+  pub given : is_among text_cmp (expense b) c ≡ true → cell_of b (at month OfBudget c) ≡ Some (b.budgeted c m)
+  pub carries : is_among text_cmp (expense b) c ≡ true → b.carries c m ≡ true → cell_of b (at month Carryover c) ≡ Some (pos 1)
+  pub drops : is_among text_cmp (expense b) c ≡ true → b.carries c m ≡ false → cell_of b (at month Carryover c) ≡ Some (pos 0)
+  pub left : is_among text_cmp (expense b) c ≡ true → cell_of b (at month Leftover c) ≡ Some (leftover b c m)
+  -- one of income has none of these three
+  pub none_given : is_among text_cmp (expense b) c ≡ false → cell_of b (at month OfBudget c) ≡ None
+  pub none_carries : is_among text_cmp (expense b) c ≡ false → cell_of b (at month Carryover c) ≡ None
+  pub none_left : is_among text_cmp (expense b) c ≡ false → cell_of b (at month Leftover c) ≡ None
+
 -- how the cells of groups and of the whole month add up
 pub record CellsAddUp (b : Budget) : Type 0 where
   -- what came in and what went out is all that was moved in live categories
   pub moved : (m : ℕ) → total_income b m +ℤ total_spent b m ≡ total (λ c. b.category_sum c m) (categories b)
   -- the cells of the whole month tell what their names say
   pub whole : (month : ℕ) → MonthIsTold b month (month_number month)
+  -- and so do those of a category
+  pub category : (month : ℕ) (c : Text) → CategoryIsTold b month (month_number month) c
   -- the cells of a group add up those of its categories
   pub sum : (month : ℕ) (g : _) → group_named b.groups g.id ≡ Some g → told b month GroupSum g.id ≡ total (told b month Sum) g.categories
   pub budget : (month : ℕ) (g : _) → group_named (expense_groups b) g.id ≡ Some g → told b month GroupBudget g.id ≡ total (told b month OfBudget) g.categories

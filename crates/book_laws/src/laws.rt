@@ -18,6 +18,9 @@ ghost use Rattle.book_laws.specs.Histories.{HistoriesGoBack};
 ghost use Rattle.envelope_cells.specs.Budget.{Budget};
 ghost use Rattle.book_laws.specs.Ordered.{SheetsAreInOrder};
 ghost use Rattle.book_laws.specs.Showing.{EditsShowOnSheets};
+ghost use Rattle.book_laws.specs.Standing.{TransfersAreOfAccounts};
+ghost use Rattle.book_laws.specs.Undone.{RowsAreUndone};
+ghost use Rattle.book_laws.specs.Wrong.{BrokenIsTold};
 ghost use Rattle.book_laws.specs.Sheets.{CellsAddUp, MonthsAreNumbered, SumsAreOfTransactions};
 
 /// A law: how a value is read in a column of each kind, and which numbers write a day.
@@ -65,13 +68,13 @@ pub fn sums_are_of_transactions()
 
 /// A law: on a sheet the cells of the whole month stand first, then those of each group, followed by those of its categories. Groups
 /// stand in the order of their numbers, and of those with one number in that of their ids; and so do the categories of a group, which
-/// are all that name it and were not deleted.
+/// are all that name it and were not deleted. A line of its text has the name of the cell, a blank and the number.
 pub fn sheets_are_in_order()
     ensures { (rows : Rows) → SheetsAreInOrder rows }
 {}
 
 /// A law: the cells of a group add up those of its categories, what came in and what went out is all that was moved in live categories,
-/// and each cell of the whole month tells what its name says.
+/// and each cell of the whole month, and of a category, tells what its name says.
 pub fn cells_add_up()
     ensures { (b : Budget) → CellsAddUp b }
 {}
@@ -128,4 +131,23 @@ pub fn changes_do_no_more()
 /// A law: an edit of transactions is refused with the first fault of what it asks for, and accepted where there is none.
 pub fn pair_edits_are_judged()
     ensures { PairEditsAreJudged }
+{}
+
+/// A law: the payee of a transfer is of those that were not deleted and stand for the other account the one of the least id; and one of
+/// a pair may have a category exactly where one of the two accounts stands outside the budget and the other doesn't, it isn't split, and
+/// the category is live.
+pub fn transfers_are_of_accounts()
+    ensures { (rows : Rows) → TransfersAreOfAccounts rows }
+{}
+
+/// A law: of each live transaction that names one, and is in no right pair with it, a line is told, and of each split whose parts don't add
+/// up to its amount, with the amount less its parts; by id, the line on a pair first; and no other line is.
+pub fn wrong_ones_are_told()
+    ensures { (rows : Rows) → BrokenIsTold rows }
+{}
+
+/// A law: an entry tells a row as there exactly where a column of it that a book knows has a value, and each row that a book lacked before
+/// an edit, had after it, and can be deleted, is deleted after the undo of the edit.
+pub fn rows_are_undone()
+    ensures { RowsAreUndone }
 {}

@@ -9,6 +9,7 @@ ghost use Rattle.budget_top.specs.Ran.{Ran};
 ghost use Rattle.budget_top.specs.declared.words.Mode.TheVariants.{Merge, Device, Serve};
 
 mod connection;
+mod pace;
 mod ports;
 mod stdin_source;
 mod stdout_sink;
@@ -18,6 +19,8 @@ mod tcp_link;
 mod telling;
 #[cfg(test)]
 mod tests;
+#[cfg(test)]
+mod waits;
 
 use budget_ports::{Door, Keeper, Link, Sink, Source, WallClock};
 use budget_top::{Mode, WordFault, plan, refusal_status, run};

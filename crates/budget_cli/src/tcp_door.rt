@@ -8,23 +8,57 @@ ghost use Rattle.budget_ports.specs.Faults.{risen, count_after};
 
 use crate::connection::Connection;
 use budget_ports::{Door, Failed};
-use std::net::{Net, TcpListener, TcpStream};
+use std::io;
+use std::io::ErrorKind;
+use std::net::{Net, OpenListener, TcpListener};
 use std::time::Clock;
+
+/// How often the next connection is let in where the one before it was given up.
+const MOST_TRIES: usize = 1_000_000;
 
 /// A door on the network, the connection that is open, and how often the door has failed.
 ///
 /// Whoever is let in can hold up the others for so long as the limits of a connection say.
 #[derive(Drop)]
-pub struct TcpDoor<C: Clock> {
-    listener: Option<TcpListener>,
-    visit: Option<Connection>,
+pub struct TcpDoor<N: Net, C: Clock> {
+    listener: Option<N::Listener>,
+    visit: Option<Connection<N::Stream>>,
     clock: C,
     faults: u64,
 }
 
-impl<C: Clock> TcpDoor<C> {
+/// Whether a connection can't be let in that its other side has given up, or to which the way is lost. A signal may also have interrupted
+/// the call. The connection behind it may be let in.
+fn is_given_up(kind: ErrorKind) -> bool {
+    matches!(
+        kind,
+        ErrorKind::ConnectionAborted
+            | ErrorKind::ConnectionReset
+            | ErrorKind::HostUnreachable
+            | ErrorKind::NetworkUnreachable
+            | ErrorKind::NetworkDown
+            | ErrorKind::Interrupted
+    )
+}
+
+/// Lets in the next connection that was not given up.
+fn let_in<L: OpenListener>(listener: &L) -> io::Result<L::Stream> {
+    for _ in 0..MOST_TRIES {
+        match listener.accept() {
+            Ok((stream, _)) => return Ok(stream),
+            Err(error) => {
+                if !is_given_up(error.kind()) {
+                    return Err(error);
+                }
+            }
+        }
+    }
+    Err(ErrorKind::ConnectionAborted.into())
+}
+
+impl<N: Net, C: Clock> TcpDoor<N, C> {
     /// A door that lets nobody in: each call fails. It has not failed.
-    pub fn shut(clock: C) -> TcpDoor<C>
+    pub fn shut(clock: C) -> TcpDoor<N, C>
         ensures listener { result.listener ≡ None }
         ensures visit { result.visit ≡ None }
         ensures faults { result.faults ≡ 0 }
@@ -39,11 +73,7 @@ impl<C: Clock> TcpDoor<C> {
 
     /// A door that listens at an address, such as `127.0.0.1:5006`. Where that is refused it is shut.
     /// It has not failed.
-    pub fn listen<N: Net<Listener = TcpListener, Stream = TcpStream>>(
-        net: &N,
-        clock: C,
-        address: &str,
-    ) -> TcpDoor<C>
+    pub fn listen(net: &N, clock: C, address: &str) -> TcpDoor<N, C>
         ensures visit { result.visit ≡ None }
         ensures faults { result.faults ≡ 0 }
     {
@@ -64,7 +94,7 @@ impl<C: Clock> TcpDoor<C> {
     }
 }
 
-impl<C: Clock> Door for TcpDoor<C> {
+impl<N: Net, C: Clock> Door for TcpDoor<N, C> {
     ghost waiting = { λ _. None };
 
     ghost left = { λ _. None };
@@ -75,8 +105,8 @@ impl<C: Clock> Door for TcpDoor<C> {
 
     ghost faults = { λ d. d.faults };
 
-    /// Waits for the next connection, however long that is. A connection without a limit for its reads
-    /// and writes isn't served: each call on it fails.
+    /// Waits for the next connection, however long that is. One that its other side gave up before it was let in is passed over.
+    /// A connection on which no call could be made isn't served: each call on it fails.
     fn accept(&mut self) -> Result<(), Failed>
         // what each door promises
         ensures count { self.new.faults ≡ count_after (is_err result) self.old.faults }
@@ -86,7 +116,7 @@ impl<C: Clock> Door for TcpDoor<C> {
         ensures listener { self.new.listener ≡ self.old.listener }
     {
         if let Some(listener) = &self.listener {
-            if let Ok((stream, _)) = listener.accept() {
+            if let Ok(stream) = let_in(listener) {
                 self.visit = Connection::begin(stream, &self.clock).ok();
                 return Ok(());
             }
@@ -94,8 +124,8 @@ impl<C: Clock> Door for TcpDoor<C> {
         Err(self.fail())
     }
 
-    /// Fails where no connection is open, where the other side sends nothing for half a minute, and where
-    /// the connection is open for more than ten minutes.
+    /// Fails where no connection is open, where ten seconds of waiting bring less than 4,096 bytes, and where
+    /// the connection has been open for ten minutes but for ten seconds.
     fn read(&mut self, buffer: &mut [u8]) -> Result<usize, Failed>
         requires { 0 < length buffer.old }
 
@@ -116,8 +146,8 @@ impl<C: Clock> Door for TcpDoor<C> {
         Err(self.fail())
     }
 
-    /// Fails where no connection is open, where the other side takes nothing for half a minute, and where
-    /// the connection is open for more than ten minutes. A connection that takes none of some bytes has failed.
+    /// Fails where no connection is open, where ten seconds of waiting take less than 4,096 bytes, and where
+    /// the connection has been open for ten minutes but for ten seconds. A connection that takes none of some bytes has failed.
     fn write(&mut self, bytes: &[u8]) -> Result<usize, Failed>
         // what each door promises
         ensures bound { WritesAtMost result bytes.now }
@@ -138,8 +168,8 @@ impl<C: Clock> Door for TcpDoor<C> {
         Err(self.fail())
     }
 
-    /// Fails where no connection is open, and where the other side neither ends its own nor sends anything
-    /// for two seconds. No connection is open then.
+    /// Fails where no connection is open, and where the other side doesn't end its own within ten seconds.
+    /// No connection is open then.
     fn close(&mut self) -> Result<(), Failed>
         // what each door promises
         ensures shut { is_some self.new.visit ≡ false }
@@ -150,7 +180,7 @@ impl<C: Clock> Door for TcpDoor<C> {
         ensures listener { self.new.listener ≡ self.old.listener }
     {
         if let Some(visit) = self.visit.take() {
-            if visit.end().is_ok() {
+            if visit.end(&self.clock).is_ok() {
                 return Ok(());
             }
         }

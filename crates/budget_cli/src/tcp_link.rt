@@ -5,22 +5,22 @@ ghost use Rattle.budget_ports.specs.Exchanges.{Adds, Gets, begun};
 ghost use Rattle.budget_ports.specs.Faults.{risen, count_after};
 ghost use Rattle.budget_ports.specs.Keeper.{has_failed};
 
-use crate::connection::{Connection, PATIENCE};
+use crate::connection::Connection;
 use budget_ports::{Link, PortFault};
 use std::alloc::Global;
 use std::io;
-use std::io::ErrorKind;
-use std::net::{Net, TcpListener, TcpStream, ToSocketAddrs};
+use std::io::{ErrorKind, Read, Write};
+use std::net::{Net, OpenStream, TcpStream, ToSocketAddrs};
 use std::time::{Clock, Duration};
+
+/// How many seconds a server has to let a connection in.
+const PATIENCE: u64 = 10;
 
 /// The most bytes that are taken of a reply: one more than a reply may have.
 const MOST_BYTES: usize = 268_435_457;
 
 /// A connection to an address, such as `127.0.0.1:5006`: to the first of its places that lets one in.
-fn connect<N: Net<Listener = TcpListener, Stream = TcpStream>>(
-    net: &N,
-    address: &str,
-) -> io::Result<TcpStream> {
+fn connect<N: Net>(net: &N, address: &str) -> io::Result<N::Stream> {
     for place in address.to_socket_addrs(net)? {
         let patience = Duration::from_secs(PATIENCE);
         if let Ok(stream) = TcpStream::connect_timeout(net, &place, patience) {
@@ -31,7 +31,11 @@ fn connect<N: Net<Listener = TcpListener, Stream = TcpStream>>(
 }
 
 /// Writes all bytes.
-fn write_all<C: Clock>(connection: &mut Connection, clock: &C, bytes: &[u8]) -> io::Result<()> {
+fn write_all<S: Read + Write + OpenStream + Drop, C: Clock>(
+    connection: &mut Connection<S>,
+    clock: &C,
+    bytes: &[u8],
+) -> io::Result<()> {
     let mut at = 0;
     'writes: while at < bytes.len() {
         let count = connection.write(clock, &bytes[at..])?;
@@ -44,13 +48,14 @@ fn write_all<C: Clock>(connection: &mut Connection, clock: &C, bytes: &[u8]) -> 
 }
 
 /// The bytes that come until the other side ends, at most one more than a reply may have.
-fn read_reply<C: Clock>(
+fn read_reply<S: Read + Write + OpenStream + Drop, C: Clock>(
     alloc: Global,
-    connection: &mut Connection,
+    connection: &mut Connection<S>,
     clock: &C,
 ) -> Result<Vec<u8>, PortFault>
     ensures { IfOk result (λ got. length got.items ≤ 268_435_457) }
 {
+    connection.await_reply();
     let mut got = Vec::new(alloc);
     let mut buffer = [0u8; 4096];
     'reads: while got.len() < MOST_BYTES {
@@ -72,16 +77,16 @@ fn read_reply<C: Clock>(
 ///
 /// Each request has a connection of its own, which is let go when its reply was read.
 #[derive(Drop)]
-pub struct TcpLink<'a, N: Net<Listener = TcpListener, Stream = TcpStream>, C: Clock> {
+pub struct TcpLink<'a, N: Net, C: Clock> {
     alloc: Global,
     net: &'a N,
     clock: C,
     peer: Option<&'a str>,
-    asked: Option<Connection>,
+    asked: Option<Connection<N::Stream>>,
     faults: u64,
 }
 
-impl<'a, N: Net<Listener = TcpListener, Stream = TcpStream>, C: Clock> TcpLink<'a, N, C> {
+impl<'a, N: Net, C: Clock> TcpLink<'a, N, C> {
     /// A link to the server at an address. Where there is none, each call fails. It has not failed.
     pub fn new(alloc: Global, net: &'a N, clock: C, peer: Option<&'a str>) -> TcpLink<'a, N, C>
         ensures peer { result.peer ≡ peer.entry }
@@ -99,7 +104,7 @@ impl<'a, N: Net<Listener = TcpListener, Stream = TcpStream>, C: Clock> TcpLink<'
     }
 
     /// A connection to the server, on which these bytes were written.
-    fn begin(&self, address: &str, bytes: &[u8]) -> io::Result<Connection> {
+    fn begin(&self, address: &str, bytes: &[u8]) -> io::Result<Connection<N::Stream>> {
         let stream = connect(self.net, address)?;
         let mut connection = Connection::begin(stream, &self.clock)?;
         write_all(&mut connection, &self.clock, bytes)?;
@@ -116,13 +121,13 @@ impl<'a, N: Net<Listener = TcpListener, Stream = TcpStream>, C: Clock> TcpLink<'
     }
 }
 
-impl<'a, N: Net<Listener = TcpListener, Stream = TcpStream>, C: Clock> Link for TcpLink<'a, N, C> {
+impl<'a, N: Net, C: Clock> Link for TcpLink<'a, N, C> {
     ghost exchanges = { λ _. None };
 
     ghost faults = { λ l. l.faults };
 
-    /// Connects, and writes the bytes. Fails where there is no server, where it can't be reached or takes nothing for half a minute, and where
-    /// the connection is open for more than ten minutes.
+    /// Connects, and writes the bytes. Fails where there is no server, where it doesn't let the connection in within ten seconds, where ten
+    /// seconds of waiting take less than 4,096 bytes, and where the connection has been open for ten minutes but for ten seconds.
     fn send(&mut self, bytes: &[u8]) -> Result<(), PortFault>
         // what each link promises
         ensures ok { OnOk result (Adds None None (begun bytes.now ∷ [])) }
@@ -143,7 +148,8 @@ impl<'a, N: Net<Listener = TcpListener, Stream = TcpStream>, C: Clock> Link for 
     }
 
     /// Reads until the server ends the connection, or more bytes have come than a reply may have, and ends it too. Fails where nothing was sent,
-    /// where the server sends nothing for half a minute, and where the connection is open for more than ten minutes.
+    /// where the server sends nothing for half a minute, where ten seconds of waiting bring less than 4,096 bytes behind the first one, and
+    /// where the connection has been open for ten minutes but for ten seconds.
     fn receive(&mut self) -> Result<Vec<u8>, PortFault>
         // what each link promises
         ensures ok { IfOk result (λ got. Gets None None got.items) }

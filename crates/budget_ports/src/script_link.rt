@@ -1,9 +1,10 @@
 //! A link in memory, for tests.
 ghost use Rattle.std.specs.Prelude.{◌≡◌, ◌↔◌, ◌||◌, ◌∷◌, [], not, None, Some, IsTrue, IsErrOf, IfOk, OnOk, OnErr, if◌then◌else◌};
+ghost use Rattle.std.specs.List.{slice_get};
 ghost use Rattle.budget_ports.specs.Faults.{count_after};
 ghost use Rattle.budget_ports.specs.Calls.{no_calls, is_listed, failed};
 ghost use Rattle.budget_ports.specs.Exchanges.{Adds, Gets, begun};
-ghost use Rattle.budget_ports.specs.Script.{exchanges, has_reply};
+ghost use Rattle.budget_ports.specs.Script.{exchanges, has_reply, after_one};
 ghost use Rattle.budget_ports.specs.Keeper.{has_failed};
 ghost use Rattle.budget_ports.specs.KeeperState.{counted};
 ghost use Rattle.budget_ports.specs.declared.keeper.PortFault.TheVariants.{Failed as HasFailed};
@@ -31,7 +32,23 @@ fn copied(alloc: Global, bytes: &[u8]) -> Result<Vec<u8>, NoMemory>
     Ok(bytes.to_vec(alloc)?)
 }
 
-/// A link that gives replies which were written before, one after the other.
+/// Takes the first reply out where another one comes behind it, and copies it where it is the last.
+fn next_of(alloc: Global, replies: &mut VecDeque<Items<u8>>) -> Result<Option<Items<u8>>, NoMemory>
+    ensures next { IfOk result (λ reply. reply ≡ slice_get replies.old.items 0) }
+    ensures left { OnOk result (replies.new.items ≡ after_one replies.old.items) }
+    ensures kept { OnErr result (replies.new.items ≡ replies.old.items) }
+{
+    if replies.len() > 1 {
+        return Ok(replies.pop_front());
+    }
+    match replies.front() {
+        Some(last) => Ok(Some(Items::new(copied(alloc, last.as_slice())?))),
+        None => Ok(None),
+    }
+}
+
+/// A link that gives replies which were written before, one after the other, and then the last one
+/// again.
 ///
 /// To a contract it is its exchanges, the replies to come, and the calls: their number, those that
 /// fail, and how many have failed.
@@ -55,7 +72,7 @@ impl Model for ScriptLink {
 
 impl ScriptLink {
     /// A link that will give these replies, of which no call is listed to fail. But for want of memory only
-    /// a `receive` fails, where no reply is left or nothing was sent since the last one.
+    /// a `receive` fails, where nothing was sent since the last one or there are no replies at all.
     pub fn new(alloc: Global, replies: VecDeque<Items<u8>>) -> ScriptLink
         ensures { result ≡ record { ended = []; asked = None; to_come = replies.items; calls = no_calls [] } }
     {
@@ -119,7 +136,7 @@ impl Link for ScriptLink {
 
         // what this one does
         ensures fails { IsErrOf result HasFailed ↔ IsTrue (is_listed self.old.calls || not (has_reply self.old)) }
-        ensures next { IfOk result (λ got. self.old.to_come ≡ got.items ∷ self.new.to_come) }
+        ensures next { IfOk result (λ got. (slice_get self.old.to_come 0 ≡ Some got.items) × (self.new.to_come ≡ after_one self.old.to_come)) }
         ensures kept { OnErr result (self.new.to_come ≡ self.old.to_come) }
         ensures counts { self.new.calls ≡ (if has_reply self.old then counted self.old.calls else failed self.old.calls) }
     {
@@ -132,11 +149,9 @@ impl Link for ScriptLink {
         if self.ended.reserve(1).is_err() {
             return Err(PortFault::NoMemory);
         }
+        let reply = next_of(self.alloc, &mut self.replies)?;
         if let Some(sent) = self.asked.take() {
-            let exchange = Ended {
-                sent,
-                got: self.replies.pop_front(),
-            };
+            let exchange = Ended { sent, got: reply };
             self.ended.push(exchange).unwrap();
         }
         Ok(got)

@@ -41,3 +41,8 @@ pub mod Visits
 pub mod Behind
 pub mod ServeEnds
 pub mod Staying
+pub mod NotRisen
+pub mod RepliedTo
+pub mod WithoutFaults
+pub mod NeverLost
+pub mod Acknowledged

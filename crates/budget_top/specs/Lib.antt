@@ -31,3 +31,6 @@ pub mod Valid
 pub mod CutLines
 pub mod Merging
 pub mod Asking
+pub mod Replied
+pub mod Unfailed
+pub mod Acknowledged

@@ -3,6 +3,8 @@ ghost use Rattle.std.specs.Prelude.{◌≡◌, Some, IsErr};
 ghost use Rattle.budget_top.specs.Words.{planned, planned_mode};
 ghost use Rattle.budget_top.specs.Outside.{outside_in_memory};
 ghost use Rattle.budget_top.specs.Ran.{Ran};
+ghost use Rattle.budget_top.specs.Unfailed.{EndsUnfailed};
+ghost use Rattle.budget_top.specs.Acknowledged.{AcknowledgedStay};
 
 use crate::dispatch::run;
 use crate::words::Mode;
@@ -26,6 +28,8 @@ pub fn run_in_memory<G: Ledger>(
     steps: &mut Steps<G>,
 ) -> u8
     ensures ran { Ran words.now result (outside_in_memory source.old sink.old keeper.old link.old door.old clock.old) (outside_in_memory source.new sink.new keeper.new link.new door.new clock.new) }
+    ensures unfailed { EndsUnfailed words.now result (outside_in_memory source.old sink.old keeper.old link.old door.old clock.old) (outside_in_memory source.new sink.new keeper.new link.new door.new clock.new) }
+    ensures acknowledged { AcknowledgedStay words.now (outside_in_memory source.old sink.old keeper.old link.old door.old clock.old) (outside_in_memory source.new sink.new keeper.new link.new door.new clock.new) }
     ensures untouched { IsErr (planned words.now) → (source.new ≡ source.old) × (sink.new ≡ sink.old) × (keeper.new ≡ keeper.old) × (link.new ≡ link.old) × (door.new ≡ door.old) × (clock.new ≡ clock.old) }
     ensures merge_alone { planned_mode words.now ≡ Some Mode.Merge → (keeper.new ≡ keeper.old) × (link.new ≡ link.old) × (door.new ≡ door.old) × (clock.new ≡ clock.old) }
     ensures device_alone { planned_mode words.now ≡ Some Mode.Device → door.new ≡ door.old }

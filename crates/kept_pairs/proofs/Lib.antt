@@ -7,3 +7,5 @@ pub mod Judging
 pub mod Nothing
 pub mod Importing
 pub mod Meaning
+pub mod Near
+pub mod Columns

@@ -2,3 +2,5 @@ pub mod Kept
 pub mod Judged
 pub mod Imports
 pub mod Meant
+pub mod Near
+pub mod Columns

@@ -5,6 +5,8 @@ ghost use Rattle.bank_import.specs.declared.entry.Entry.{Entry};
 ghost use Rattle.kept_pairs.specs.Imports.{ImportsWrite};
 ghost use Rattle.kept_pairs.specs.Judged.{ImportsAreJudged};
 ghost use Rattle.kept_pairs.specs.Meant.{PayeesAreFound};
+ghost use Rattle.kept_pairs.specs.Near.{NearnessIsTold};
+ghost use Rattle.kept_pairs.specs.Columns.{ColumnsAreTold, PlainTextsReadBack};
 ghost use Rattle.kept_pairs.specs.Kept.{
   RulesKeepPairsAndSplits,
   SchedulesKeepPairsAndSplits,
@@ -51,4 +53,24 @@ pub fn imports_find_payees()
 /// the header. Any other import is accepted, also into an account that is closed.
 pub fn imports_are_judged()
     ensures { (rows : Rows) (edit : ImportEdit) → ImportsAreJudged rows edit }
+{}
+
+/// A law: a record of a statement and a transaction agree where both have an id, and it is the same, or where the amounts are the same, both
+/// have a day, these are at most seven days apart, and not both have an id. A record that stands alone takes a transaction with which it
+/// agrees, and no other: of two the one with its id, else of near ones the one with its payee, else the one that is fewer days away; and
+/// one without a day is taken after one that has one.
+pub fn nearness_is_told()
+    ensures { NearnessIsTold }
+{}
+
+/// A law: the columns of a statement are the first of their names; an empty field says nothing; a field is bad where it is none of its
+/// column, of days or of amounts alone; and a bad place is told as it is, up to 32 bits.
+pub fn columns_are_told()
+    ensures { ColumnsAreTold }
+{}
+
+/// A law: lines of at least two plain fields each, with commas between them, are read as these fields. A plain field has no comma, no quote
+/// and no line break, and the text doesn't begin with the first byte of a byte order mark.
+pub fn plain_texts_read_back()
+    ensures { PlainTextsReadBack }
 {}

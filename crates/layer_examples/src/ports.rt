@@ -174,7 +174,7 @@ fn link(alloc: Global) -> Result<ScriptLink, Fail> {
     Ok(ScriptLink::with_faults(alloc, replies, calls))
 }
 
-/// A call that fails uses up no reply, and past the last one there is none.
+/// A call that fails uses up no reply, and behind the last reply the same one comes again.
 #[test]
 fn script_goes_on_after_a_fault(rt: HostRuntime) -> Result<(), Fail> {
     let mut link = link(rt.alloc())?;
@@ -184,8 +184,11 @@ fn script_goes_on_after_a_fault(rt: HostRuntime) -> Result<(), Fail> {
     assert_eq!(rt; link.receive()?, b"a".to_vec(rt.alloc())?);
     assert_eq!(rt; link.send(b"3"), Ok(()));
     assert_eq!(rt; link.receive()?, b"b".to_vec(rt.alloc())?);
-    assert_eq!(rt; link.send(b"4"), Ok(()));
-    assert_eq!(rt; link.receive().err(), Some(PortFault::Failed));
+    for _ in 0..2 {
+        assert_eq!(rt; link.send(b"4"), Ok(()));
+        assert_eq!(rt; link.receive()?, b"b".to_vec(rt.alloc())?);
+        assert_eq!(rt; link.receive().err(), Some(PortFault::Failed));
+    }
     Ok(())
 }
 

@@ -11,3 +11,10 @@ pub mod Asked
 pub mod JsonBack
 pub mod NewConditions
 pub mod ReadBack
+pub mod Choices
+pub mod Wording
+pub mod Scoring
+pub mod DayTexts
+pub mod Alike
+pub mod Termed
+pub mod RecurrenceWords

@@ -56,7 +56,7 @@ integer_back (negsuc n) h = refl
 int_le_so : (a b : ℤ) → a ≤ℤ b → int_le a b ≡ true
 int_le_so a b h = grind (arith, ints, h)
 
-exact_back : (z : ℤ) → unsigned_abs z ≤ largest_number → exact z ≡ Some z
+pub exact_back : (z : ℤ) → unsigned_abs z ≤ largest_number → exact z ≡ Some z
 exact_back z h =
     ap (λ b. if b then Some z else None)
     (and_from _ _ (int_le_so (neg_ℤ (pos 9_007_199_254_740_991)) z (omega (arith, ints, h))) (int_le_so z (pos 9_007_199_254_740_991) (omega (arith, ints, h))))

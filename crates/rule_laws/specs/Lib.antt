@@ -5,3 +5,9 @@ pub mod Scheduling
 pub mod Acting
 pub mod Asking
 pub mod Saying
+pub mod Wording
+pub mod Scoring
+pub mod DayTexts
+pub mod Alike
+pub mod Termed
+pub mod RecurrenceWords

@@ -12,6 +12,12 @@ ghost use Rattle.rule_laws.specs.Scheduling.{ScheduleEditsDo};
 ghost use Rattle.rule_laws.specs.Acting.{ActionsAreTold};
 ghost use Rattle.rule_laws.specs.Saying.{SchedulesReadBack};
 ghost use Rattle.rule_laws.specs.Asking.{RuleEditsAreJudged, ScheduleEditsAreJudged};
+ghost use Rattle.rule_laws.specs.Wording.{RulePartsAreRead};
+ghost use Rattle.rule_laws.specs.Scoring.{ScoresAreTold};
+ghost use Rattle.rule_laws.specs.DayTexts.{DaysAreWritten};
+ghost use Rattle.rule_laws.specs.Alike.{RulesAreReadAlike};
+ghost use Rattle.rule_laws.specs.Termed.{TermsAreTold};
+ghost use Rattle.rule_laws.specs.RecurrenceWords.{RecurrencesReadBack};
 
 /// A law: raw days lie whole steps of days, weeks, months or years from the start on, where the interval is at least 1, and by months on a
 /// day that is meant.
@@ -97,4 +103,42 @@ pub fn schedule_edits_are_judged()
 /// has whole numbers of at most 64 bits alone, none of them `-0`, and isn't nested deeper than 125.
 pub fn schedules_read_back()
     ensures { (ids : Ids) (rows : Rows) (ws : List Write) → SchedulesReadBack ids rows ws }
+{}
+
+/// A law: by which words and values the JSON of a rule says its conditions and its actions, and its row its stage and whether one condition
+/// suffices: what is read says so, and what says so is read. A condition that asks for a direction of money is none.
+pub fn rule_parts_are_read()
+    ensures { RulePartsAreRead }
+{}
+
+/// A law: how much each test counts, and that a rule counts what its tests do together, twice where each of them names its values: `is`,
+/// `isNot`, `isapprox`, `oneOf` and `notOneOf`.
+pub fn scores_are_told()
+    ensures { ScoresAreTold }
+{}
+
+/// A law: a text of a rule or of a statement is a day exactly where it writes a civil date from 1970 to 2199 as YYYY-MM-DD, and schedules
+/// read the same day.
+pub fn days_are_written()
+    ensures { DaysAreWritten }
+{}
+
+/// A law: what can be a condition or an action of the rule of a schedule can be one of any rule, and the other way round; so a text that
+/// the reader of schedules takes for conditions or actions that of rules takes, and the other way round.
+pub fn rules_are_read_alike()
+    ensures { RulesAreReadAlike }
+{}
+
+/// A law: what the rule of a schedule says, where it says something: the account and the payee are those of the first condition that names
+/// one, under either name of the column, the amount is what the first condition on it means (the middle of two where it lies between
+/// them, what it is or is near to, and 0 for any other test or for none), and the days are those of the first condition on them. When
+/// it says nothing, `schedule_edits_are_judged` tells.
+pub fn terms_are_told()
+    ensures { TermsAreTold }
+{}
+
+/// A law: by which keys, words and values JSON says a recurrence, and what each key that is missing stands for: what is read says it, and
+/// what says it is read.
+pub fn recurrences_read_back()
+    ensures { RecurrencesReadBack }
 {}

@@ -9,6 +9,8 @@ mod calls;
 #[cfg(test)]
 mod checks;
 #[cfg(test)]
+mod conditions;
+#[cfg(test)]
 mod pairs;
 #[cfg(test)]
 mod reads;
@@ -19,7 +21,11 @@ mod runs;
 #[cfg(test)]
 mod scheduled;
 #[cfg(test)]
+mod scores;
+#[cfg(test)]
 mod statements;
+#[cfg(test)]
+mod syncs;
 #[cfg(test)]
 mod table;
 #[cfg(test)]

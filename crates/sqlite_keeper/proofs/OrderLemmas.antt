@@ -1,9 +1,9 @@
 -- What a store that is open and not broken keeps in order.
-use Rattle.std.proofs.Common.{◌≡◌, ◌≤◌, ◌⊎◌, ℕ, Bool, true, false, inl, inr, refl, sym, subst, ◌∙◌, true≢false, IsTrue, arith}
+use Rattle.std.proofs.Common.{◌≡◌, ◌≤◌, ◌⊎◌, ℕ, List, Bool, true, false, inl, inr, refl, sym, subst, ◌∙◌, true≢false, IsTrue, arith}
 use Rattle.sqlite_disk.specs.Disk.{MoreFaults}
 use Rattle.sqlite_trees.specs.declared.error.StoreError.{StoreError}
 use Rattle.sqlite_trees.specs.declared.error.StoreError.TheVariants.{OutOfMemory, Io, Corrupt, Full, Broken, Unstorable}
-use Rattle.sqlite_trees.specs.View.{View, IsOrdered, IsShaped, IsClean, IsRolledBack, IsQuiet}
+use Rattle.sqlite_trees.specs.View.{View, doubt, IsOrdered, IsShaped, IsClean, IsRolledBack, IsQuiet}
 use Rattle.sqlite_trees.specs.Objects.{catalog_tree, IsListed}
 use Rattle.sqlite_trees.specs.Tree.{Trees}
 use Rattle.sqlite_schema.specs.declared.schema.Schema.{Schema}
@@ -16,6 +16,10 @@ use Rattle.sqlite.specs.declared.error.Error.{Error}
 use Rattle.sqlite.specs.declared.error.Error.TheVariants.{SqliteFailure}
 use Rattle.sqlite.specs.State.{store_error}
 use Rattle.sqlite.specs.Steps.{IsFresh, FailsToOpen}
+use Rattle.sqlite.specs.Held.{Held}
+use Rattle.sqlite_keeper.specs.Taking.{IsOther, IsLetGo, told_as}
+use Rattle.sqlite_keeper.specs.declared.keeper.AdoptFault.{AdoptFault}
+use Rattle.sqlite_keeper.specs.declared.keeper.AdoptFault.TheVariants as adopt
 use Rattle.sqlite_keeper.specs.Tables.{keeper_schema}
 use Rattle.sqlite_keeper.specs.Contents.{Rises}
 
@@ -73,3 +77,9 @@ quiet_on g old mid new p q = record {
   ];
   outcomes = λ db left. p.outcomes db (q.outcomes db left);
 }
+
+-- a store that was not taken is let go for its fault
+pub let_go_as : {S : Type 0} (g : Ghosts S) (old : Held S) (left : S) (fault : AdoptFault) → doubt (g.view old.store).is_clean ≤ doubt (g.view left).is_clean
+    → (IsClean (g.view left) → (found : List ℕ) → fault ≡ adopt.Version found → IsOther g old found) → IsLetGo g old left (told_as fault)
+let_go_as g old left (adopt.Version found) less other = record { clean = less; cause = λ clean. other clean found refl }
+let_go_as g old left adopt.NoMemory less other = record { clean = less; cause = λ clean. tt }

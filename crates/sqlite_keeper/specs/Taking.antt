@@ -9,6 +9,7 @@ use Rattle.sqlite_trees.specs.View.{doubt, IsClean}
 use Rattle.sqlite_keeper.specs.Tables.{keeper_schema, no_schema}
 use Rattle.sqlite_keeper.specs.Contents.{contents_of}
 use Rattle.sqlite_keeper.specs.Adopting.{TellsVersion}
+use Rattle.sqlite_keeper.specs.declared.keeper.AdoptFault.{AdoptFault}
 use Rattle.sqlite_keeper.specs.declared.keeper.AdoptFault.TheVariants as adopt
 use Rattle.sqlite_keeper.specs.declared.taking.StoreFault.{StoreFault}
 use Rattle.sqlite_keeper.specs.declared.taking.StoreFault.TheVariants.{Unopened, Version, NoMemory}
@@ -44,7 +45,16 @@ HasCause g old left Unopened = IsLost g old left
 HasCause g old left (Version found) = IsOther g old found
 HasCause g old left NoMemory = ⊤
 
+-- while the store is open, its rows are those that were committed last
+abbrev pub HasComeBack : {S : Type 0} → Ghosts S → Held S → S → Type 0
+HasComeBack g old left = IsClean (g.view left) → IsTrue (g.view left).is_open → (g.view left).trees ≡ (state g old).committed.trees
+
 -- what is known of a store when it is let go, and why it was: a disk that returned something else says nothing
 pub record IsLetGo {S : Type 0} (g : Ghosts S) (old : Held S) (left : S) (fault : StoreFault) : Type 0 where
   pub clean : doubt (g.view old.store).is_clean ≤ doubt (g.view left).is_clean
   pub cause : IsClean (g.view left) → HasCause g old left fault
+
+-- the fault of a store that was not taken, as that of one that was opened
+abbrev pub told_as : AdoptFault → StoreFault
+told_as (adopt.Version found) = Version found
+told_as adopt.NoMemory = NoMemory

@@ -12,6 +12,6 @@ mod taking;
 mod writing;
 
 pub use keeper::{AdoptFault, SqliteKeeper, Unadopted};
-pub use order::in_order;
+pub use order::{Unread, in_order};
 pub use shut::ShutKeeper;
-pub use taking::{StoreFault, open, take};
+pub use taking::{StoreFault, Untaken, open, take};

@@ -1,5 +1,5 @@
 //! What the program does with a store that it has opened.
-ghost use Rattle.std.specs.Prelude.{◌≡◌, ◌⊎◌, true, false, if◌then◌else◌, Some, IsTrue, IfOk, IfErr};
+ghost use Rattle.std.specs.Prelude.{◌≡◌, ◌≢◌, ◌≤◌, ◌⊎◌, true, false, if◌then◌else◌, Some, IsTrue, IfOk, IfErr};
 ghost use Rattle.std.specs.FinMap.{get};
 ghost use Rattle.budget_ports.specs.Keeper.{IsAlone};
 ghost use Rattle.sqlite.specs.State.{HasCleanDisk};
@@ -9,13 +9,14 @@ ghost use Rattle.sqlite_keeper.specs.Tables.{keeper_schema, no_schema};
 ghost use Rattle.sqlite_keeper.specs.Contents.{contents_of, contents_now};
 ghost use Rattle.sqlite_keeper.specs.Keeping.{TellsAll, MayBeLeft};
 ghost use Rattle.sqlite_keeper.specs.Adopting.{new_contents, version_name, version_one};
-ghost use Rattle.sqlite_keeper.specs.Taking.{IsOursOrBlank, HasFailedSince, IsLetGo};
+ghost use Rattle.sqlite_trees.specs.View.{doubt, IsClean};
+ghost use Rattle.sqlite_keeper.specs.Taking.{IsOursOrBlank, HasFailedSince, IsLetGo, told_as};
 
 use crate::adopting::is_memory;
 use crate::keeper::{AdoptFault, SqliteKeeper, Unadopted};
-use crate::order::in_order;
+use crate::order::{Unread, in_order};
 use field_values::Txt;
-use sqlite::{Alter, Connection, File, FileStore};
+use sqlite::{Alter, Connection, Error, ErrorCode, File, FileStore};
 use std::alloc::Global;
 
 /// Why there is no keeper over a store.
@@ -32,8 +33,45 @@ pub enum StoreFault {
     NoMemory,
 }
 
+/// Why a store can't be opened, or not be read again.
+fn opening_fault(error: &Error) -> StoreFault
+    ensures memory { error.now ≡ Error.SqliteFailure ErrorCode.OutOfMemory → result ≡ StoreFault.NoMemory }
+    ensures other { error.now ≢ Error.SqliteFailure ErrorCode.OutOfMemory → result ≡ StoreFault.Unopened }
+{
+    if is_memory(error) {
+        return StoreFault::NoMemory;
+    }
+    StoreFault::Unopened
+}
+
+/// A store that no keeper took.
+#[derive(Drop)]
+pub struct Untaken<S> {
+    /// Why it was not taken.
+    pub fault: StoreFault,
+    /// The store, in which nothing is pending: its files can be closed and opened anew.
+    pub store: S,
+}
+
+/// The store behind a connection that was not taken, and why.
+fn left_by<S: Alter + Drop>(unadopted: Unadopted<S>) -> Untaken<S>
+    ensures fault { result.fault ≡ told_as unadopted.fault }
+    ensures clean { doubt (state S.Store unadopted.connection).is_clean ≤ doubt (S.Store.view result.store).is_clean }
+    ensures opened { IsClean (S.Store.view result.store) → IsTrue (S.Store.view result.store).is_open → IsTrue (state S.Store unadopted.connection).is_open }
+    ensures rows { unadopted.connection.in_transaction ≡ false → IsClean (S.Store.view result.store) → IsTrue (S.Store.view result.store).is_open → (S.Store.view result.store).trees ≡ (state S.Store unadopted.connection).now.trees }
+{
+    let Unadopted { fault, connection } = unadopted;
+    let _settled = connection.is_autocommit();
+    let store = connection.into_store();
+    let fault = match fault {
+        AdoptFault::Version { found } => StoreFault::Version { found },
+        AdoptFault::NoMemory => StoreFault::NoMemory,
+    };
+    Untaken { fault, store }
+}
+
 /// A keeper over a store that was opened: what was not committed is rolled back, the store is read
-/// again in order, and taken as `SqliteKeeper::adopt` does. Where it is not, it is let go.
+/// again in order, and taken as `SqliteKeeper::adopt` does. Where it is not, it comes back as it was left.
 ///
 /// A keeper that tells has what was committed last, or, where nothing was listed, what a new store has;
 /// over the keeper's tables it tells, unless it is shut or the disk has returned something else.
@@ -46,7 +84,7 @@ pub enum StoreFault {
 pub fn take<S: Alter + Drop>(
     alloc: Global,
     connection: Connection<S>,
-) -> Result<SqliteKeeper<S>, StoreFault>
+) -> Result<SqliteKeeper<S>, Untaken<S>>
     ensures again { IfOk result (λ k. TellsAll S.Store k → (contents_now S.Store k.conn ≡ contents_of (state S.Store connection).committed.trees) ⊎ ((contents_now S.Store k.conn ≡ new_contents) × IsSound no_schema (state S.Store connection).committed.trees)) }
     ensures kept { IfOk result (λ k. IsSound keeper_schema (state S.Store connection).committed.trees → k.is_shut ≡ false → HasCleanDisk (state S.Store k.conn) → TellsAll S.Store k × (contents_now S.Store k.conn ≡ contents_of (state S.Store connection).committed.trees) × (get (contents_now S.Store k.conn).texts version_name ≡ Some version_one)) }
     ensures made { IfOk result (λ k. IsSound no_schema (state S.Store connection).committed.trees → k.is_shut ≡ false → HasCleanDisk (state S.Store k.conn) → TellsAll S.Store k × (contents_now S.Store k.conn ≡ new_contents)) }
@@ -55,28 +93,18 @@ pub fn take<S: Alter + Drop>(
     ensures reason { IfOk result (λ k. k.is_shut ≡ true → IsOursOrBlank (state S.Store connection).committed.trees → HasCleanDisk (state S.Store k.conn) → HasFailedSince S.Store connection k.conn) }
     ensures shut { IfOk result (λ k. k.is_shut ≡ true → IsOursOrBlank (state S.Store connection).committed.trees → HasCleanDisk (state S.Store k.conn) → IsTrue (state S.Store k.conn).is_open → contents_now S.Store k.conn ≡ contents_of (state S.Store connection).committed.trees) }
     ensures opened { IfOk result (λ k. HasCleanDisk (state S.Store k.conn) → IsTrue (state S.Store connection).is_open) }
-    ensures let_go { IfErr result (λ e. (left : _) × IsLetGo S.Store connection left e) }
+    ensures let_go { IfErr result (λ u. IsLetGo S.Store connection u.store u.fault) }
+    ensures back { IfErr result (λ u. IsOursOrBlank (state S.Store connection).committed.trees → IsClean (S.Store.view u.store) → IsTrue (S.Store.view u.store).is_open → contents_of (S.Store.view u.store).trees ≡ contents_of (state S.Store connection).committed.trees) }
 {
-    let ordered = match in_order(alloc, connection) {
-        Ok(ordered) => ordered,
-        Err(error) => {
-            if is_memory(&error) {
-                return Err(StoreFault::NoMemory);
-            }
-            return Err(StoreFault::Unopened);
-        }
-    };
-    match SqliteKeeper::adopt(alloc, ordered) {
-        Ok(keeper) => Ok(keeper),
-        Err(unadopted) => {
-            let Unadopted {
-                fault,
-                connection: _,
-            } = unadopted;
-            match fault {
-                AdoptFault::Version { found } => Err(StoreFault::Version { found }),
-                AdoptFault::NoMemory => Err(StoreFault::NoMemory),
-            }
+    match in_order(alloc, connection) {
+        Ok(ordered) => match SqliteKeeper::adopt(alloc, ordered) {
+            Ok(keeper) => Ok(keeper),
+            Err(unadopted) => Err(left_by(unadopted)),
+        },
+        Err(unread) => {
+            let Unread { error, store } = unread;
+            let fault = opening_fault(&error);
+            Err(Untaken { fault, store })
         }
     }
 }
@@ -88,12 +116,14 @@ pub fn open(rt: &HostRuntime, path: &str) -> Result<SqliteKeeper<FileStore<File>
     ensures count { IfOk result (λ k. k.faults ≡ (if k.is_shut then 1 else 0)) }
 {
     match Connection::open(rt, path) {
-        Ok(connection) => take(rt.alloc(), connection),
-        Err(error) => {
-            if is_memory(&error) {
-                return Err(StoreFault::NoMemory);
+        Ok(connection) => match take(rt.alloc(), connection) {
+            Ok(keeper) => Ok(keeper),
+            Err(untaken) => {
+                let Untaken { fault, store } = untaken;
+                let _files = store.close();
+                Err(fault)
             }
-            Err(StoreFault::Unopened)
-        }
+        },
+        Err(error) => Err(opening_fault(&error)),
     }
 }

@@ -1,10 +1,10 @@
 //! Stores over files that stop at some call.
 use crate::script::answer;
-use crate::stores::taken;
+use crate::stores::{TABLES, fault_text, taken};
 use budget_ports::Keeper;
 use sqlite::{Connection, FileStore, Files, Options};
 use sqlite_disk::{Crash, Disk, Fuse, Memory};
-use sqlite_keeper::{SqliteKeeper, take};
+use sqlite_keeper::{SqliteKeeper, StoreFault, Untaken, take};
 use std::alloc::Global;
 use std::test::Fail;
 
@@ -41,21 +41,18 @@ fn run(alloc: Global, keeper: SqliteKeeper<FileStore<Fused>>) -> (usize, Files<F
     (count, keeper.into_connection().into_store().close())
 }
 
-/// Calls over new files, of which the log fails from this call on: how many answered, and the files, if the store let them go.
-fn started(alloc: Global, calls: u64) -> (usize, Option<Files<Fused>>) {
+/// Calls over new files, of which the log fails from this call on: how many answered, and the files.
+fn started(alloc: Global, calls: u64) -> (usize, Files<Fused>) {
     let files = Files {
         log: Fuse::new(Memory::new(alloc), calls),
         db: Fuse::new(Memory::new(alloc), u64::MAX),
     };
     match open(alloc, files) {
         Ok(connection) => match take(alloc, connection) {
-            Ok(keeper) => {
-                let (count, files) = run(alloc, keeper);
-                (count, Some(files))
-            }
-            Err(_) => (0, None),
+            Ok(keeper) => run(alloc, keeper),
+            Err(untaken) => (0, untaken.store.close()),
         },
-        Err(files) => (0, Some(files)),
+        Err(files) => (0, files),
     }
 }
 
@@ -87,10 +84,39 @@ fn left(alloc: Global, calls: u64, with_next: bool) -> Result<String, Fail> {
         true => done(count.saturating_add(1)),
         false => done(count),
     };
-    match files {
-        Some(files) => after_stop(alloc, files, script),
-        None => Ok(String::new(alloc)),
+    after_stop(alloc, files, script)
+}
+
+/// Why a store wasn't taken, and what its files are taken as when they are opened again.
+fn told_twice(alloc: Global, fault: StoreFault, files: Files<Fused>) -> Result<String, Fail> {
+    let first = fault_text(alloc, fault)?;
+    let again = after_stop(alloc, files, "")?;
+    Ok(format!(in alloc; "{first}, {again}")?)
+}
+
+/// What becomes of files with these statements: why they aren't taken, and again of what then comes back.
+fn taken_twice(alloc: Global, sql: &str) -> Result<String, Fail> {
+    let files = Files {
+        log: Fuse::new(Memory::new(alloc), u64::MAX),
+        db: Fuse::new(Memory::new(alloc), u64::MAX),
+    };
+    let Ok(mut connection) = open(alloc, files) else {
+        return Ok(String::from_str(alloc, "unopened")?);
+    };
+    connection.execute_batch(sql)?;
+    match take(alloc, connection) {
+        Ok(_) => Ok(String::from_str(alloc, "taken")?),
+        Err(Untaken { fault, store }) => told_twice(alloc, fault, store.close()),
     }
+}
+
+/// A store that is refused comes back: its files are closed and opened again, and it is refused as before.
+#[test]
+fn refused_stores_come_back(rt: HostRuntime) -> Result<(), Fail> {
+    let sql = format!(in rt.alloc(); "{TABLES}; INSERT INTO named VALUES ('version', 'one')")?;
+    let told = taken_twice(rt.alloc(), sql.as_str())?;
+    assert_eq!(rt; told.as_str(), "version one, version one");
+    Ok(())
 }
 
 /// A stop leaves what the calls that answered have done, and of the next one all or nothing.

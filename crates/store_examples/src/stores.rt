@@ -7,7 +7,7 @@ use std::alloc::Global;
 use std::test::Fail;
 
 /// The keeper's tables.
-const TABLES: &str =
+pub const TABLES: &str =
     "CREATE TABLE items (grp TEXT NOT NULL, stamp TEXT NOT NULL, body TEXT NOT NULL, PRIMARY KEY (grp, stamp)) STRICT; \
     CREATE TABLE named (name TEXT NOT NULL PRIMARY KEY, body TEXT NOT NULL) STRICT";
 
@@ -54,7 +54,7 @@ pub fn taken<S: Alter + Drop>(
 ) -> Result<String, Fail> {
     match take(alloc, connection) {
         Ok(keeper) => over(alloc, keeper, script),
-        Err(fault) => fault_text(alloc, fault),
+        Err(untaken) => fault_text(alloc, untaken.fault),
     }
 }
 
@@ -133,7 +133,7 @@ fn taken_again(alloc: Global, keeper: SqliteKeeper<MemStore>) -> Result<String, 
 fn used_twice(alloc: Global) -> Result<String, Fail> {
     match take(alloc, Connection::open_in_memory(alloc)?) {
         Ok(keeper) => taken_again(alloc, keeper),
-        Err(fault) => fault_text(alloc, fault),
+        Err(untaken) => fault_text(alloc, untaken.fault),
     }
 }
 
@@ -154,10 +154,12 @@ fn version_in(connection: Connection<MemStore>) -> Result<String, Error> {
 
 /// The version that the connection of a store shows which wasn't taken.
 fn left_version(alloc: Global, connection: Connection<MemStore>) -> Result<String, Error> {
-    let ordered = in_order(alloc, connection)?;
-    match SqliteKeeper::adopt(alloc, ordered) {
-        Ok(_) => Err(Error::InvalidQuery),
-        Err(unadopted) => version_in(unadopted.connection),
+    match in_order(alloc, connection) {
+        Ok(ordered) => match SqliteKeeper::adopt(alloc, ordered) {
+            Ok(_) => Err(Error::InvalidQuery),
+            Err(unadopted) => version_in(unadopted.connection),
+        },
+        Err(unread) => Err(unread.error),
     }
 }
 

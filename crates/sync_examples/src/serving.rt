@@ -50,7 +50,7 @@ fn visit(
 
 /// What the connections are told, one behind the other and each with a line feed behind it. Calls of the keeper fail whose numbers are here,
 /// and a read of a connection gives no more bytes than the pieces say.
-fn told(
+pub(crate) fn told(
     alloc: Global,
     fails: &[u64],
     pieces: &[usize],

@@ -15,7 +15,7 @@ use std::sync::ledger::{Blank, Ledger};
 use std::test::Fail;
 
 /// 2024-01-05T10:00:00.000Z.
-const T0: u64 = 1_704_448_800_000;
+pub(crate) const T0: u64 = 1_704_448_800_000;
 
 /// The records of the two messages.
 const FOOD: (&str, &str) = (
@@ -42,7 +42,7 @@ const GIVEN: &str = "~456$#\x12\u{f1}\x02&";
 const ELSE: &str = "~12$\x12`{\"hash\":1}";
 
 /// What a sync comes to.
-type End = Result<Synced, SyncFault>;
+pub(crate) type End = Result<Synced, SyncFault>;
 
 /// Syncs of a device, one after the other: its node, the record with which it begins, the readings, the calls of the keeper and of the link
 /// that fail, the replies, and what each sync comes to.
@@ -100,7 +100,7 @@ const TALKS: [Talk; 13] = [
             }),
         ],
     },
-    // the tries differ, so it asks once more; then there is no reply left
+    // the tries differ, so it asks once more; then the last reply comes again, with nothing new
     Talk {
         node: b"aa",
         record: Some(FOOD),
@@ -113,7 +113,10 @@ const TALKS: [Talk; 13] = [
                 requests: 2,
                 received: 1,
             }),
-            Err(SyncFault::Link),
+            Ok(Synced {
+                requests: 1,
+                received: 0,
+            }),
         ],
     },
     // the link fails at the first text, or at the first reply, and the next sync makes up for it
@@ -242,7 +245,7 @@ const TALKS: [Talk; 13] = [
         readings: &[T0],
         keeper_fails: &[],
         link_fails: &[],
-        replies: &[ELSE; 100],
+        replies: &[ELSE],
         ends: &[Err(SyncFault::OutOfSync { mine: 0, theirs: 1 })],
     },
     // the keeper fails: at the text of the last sync, at the message that came, at the text again
@@ -275,18 +278,23 @@ const TALKS: [Talk; 13] = [
     },
 ];
 
-fn device_of(alloc: Global, talk: &Talk) -> Result<Device, Fail>
+/// A device of this node, which begins with a record, where there is one.
+pub(crate) fn device_of(
+    alloc: Global,
+    node: &[u8],
+    record: Option<(&str, &str)>,
+) -> Result<Device, Fail>
     ensures live { IfOk result (λ d. d.spent ≡ false) }
     ensures idle { IfOk result (λ d. d.batch ≡ []) }
 {
     let mut records = Vec::new(alloc);
-    if let Some((key, body)) = talk.record {
+    if let Some((key, body)) = record {
         records.push(Record {
             key: Txt::from_text(alloc, key)?,
             body: Txt::from_text(alloc, body)?,
         })?;
     }
-    Ok(Device::start(alloc, Node::make(talk.node)?, records.as_slice())?)
+    Ok(Device::start(alloc, Node::make(node)?, records.as_slice())?)
 }
 
 /// A link that gives the replies, of which calls fail.
@@ -299,8 +307,15 @@ fn link_of(alloc: Global, talk: &Talk) -> Result<ScriptLink, Fail> {
     Ok(ScriptLink::with_faults(alloc, replies, fails))
 }
 
+/// A link that gives this reply.
+pub(crate) fn link_to(alloc: Global, reply: Vec<u8>) -> Result<ScriptLink, Fail> {
+    let mut replies = VecDeque::new(alloc);
+    replies.push_back(Items::new(reply))?;
+    Ok(ScriptLink::new(alloc, replies))
+}
+
 /// The server's token, and the file `home` of the group `home`.
-fn target_of(alloc: Global) -> Result<Target, Fail> {
+pub(crate) fn target_of(alloc: Global) -> Result<Target, Fail> {
     Ok(Target {
         token: Txt::from_text(alloc, "local")?,
         file: Txt::from_text(alloc, "home")?,
@@ -333,7 +348,7 @@ fn uncounted<G: Ledger>(
 }
 
 /// What each sync of the group `device` comes to, up to one after which the device can't be used.
-fn syncs(
+pub(crate) fn syncs(
     alloc: Global,
     device: &mut Device,
     keeper: &mut MemoryKeeper,
@@ -370,7 +385,7 @@ fn talked(alloc: Global, talk: &Talk) -> Result<Vec<End>, Fail> {
     let target = target_of(alloc)?;
     let mut keeper = MemoryKeeper::with_faults(alloc, talk.keeper_fails.to_vec(alloc)?);
     let mut link = link_of(alloc, talk)?;
-    let mut device = device_of(alloc, talk)?;
+    let mut device = device_of(alloc, talk.node, talk.record)?;
     syncs(
         alloc,
         &mut device,

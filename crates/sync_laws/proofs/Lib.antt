@@ -12,3 +12,6 @@ mod Asking
 mod Lines
 mod Plans
 mod Equal
+mod Staying
+mod NeverRefused
+mod Completing

@@ -8,3 +8,5 @@ pub mod Plans
 pub mod Server
 pub mod Turning
 pub mod Whole
+pub mod Staying
+pub mod Complete

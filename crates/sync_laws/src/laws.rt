@@ -8,11 +8,15 @@ ghost use Rattle.sync_laws.specs.Equal.{ServersAnswerEqually};
 ghost use Rattle.sync_laws.specs.Lines.{LinesAreTakenBack, EqualSetsAnswerEqually};
 ghost use Rattle.sync_laws.specs.Plans.{PlansMeet};
 ghost use Rattle.sync_laws.specs.Server.{BodiesDecide, FilesAreApart, PathsAreCut, StatusesAreWritten, TriesAreOfTimestamps};
+ghost use Rattle.sync_laws.specs.Staying.{TalksKeepMessages, AnsweredLinesStay};
 ghost use Rattle.sync_laws.specs.Turning.{TalksBegin, TalksEnd};
 ghost use Rattle.sync_laws.specs.Whole.{RepliesAreWhole};
+ghost use Rattle.budget_top.specs.Replied.{AcceptedGetReplies};
 
 use budget_top::lines_are_obeyed;
-use device_core::{entries_are_taken_back, lines_are_undone, writes_are_joined};
+use device_core::{
+    accepted_are_joined, entries_are_taken_back, lines_are_undone, writes_are_joined,
+};
 use field_merge::joined_in_any_order;
 use sync_server::{accepted_are_kept, answers_tell, connections_are_decided};
 
@@ -152,4 +156,27 @@ pub fn equal_sets_answer_equally()
 {
     lines_are_obeyed();
     joined_in_any_order();
+}
+
+/// A law: the end of a conversation has every message of its beginning, as it was, whatever the server sends.
+pub fn talks_keep_messages()
+    ensures { TalksKeepMessages }
+{
+    accepted_are_joined();
+}
+
+/// A law: no line of a device loses a message. So each of what a stop may leave of a run has all messages that each line left that was
+/// answered before, whatever line is in hand then, and whether or not this one syncs.
+pub fn answered_lines_stay()
+    ensures { AnsweredLinesStay }
+{
+    accepted_are_joined();
+}
+
+/// A law: a whole request that is accepted, at which neither the keeper nor the door fails, gets the whole answer with the status 200,
+/// or memory runs out and it gets 507.
+pub fn accepted_get_replies()
+    ensures { AcceptedGetReplies }
+{
+    connections_are_decided();
 }

@@ -6,6 +6,7 @@ mod Fronts
 mod Judged
 mod Lengths
 mod Requests
+mod Routing
 mod Sets
 mod Tens
 mod Texts

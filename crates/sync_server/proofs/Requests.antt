@@ -17,8 +17,8 @@ use Rattle.sync_server.specs.declared.refusal.Refusal.{Refusal}
 use Rattle.sync_server.specs.declared.refusal.Refusal.TheVariants.{BadRecord}
 use Rattle.sync_server.specs.declared.state.ServerState.{ServerState}
 use Rattle.sync_server.specs.Serving.{Found, found_in, file_name, Accepts, Refuses, judge_found, judge_set, kept_after, batch_of, reply_of, IsMeant}
-use Rattle.sync_server.specs.State.{set_of, Agrees}
-use Rattle.sync_server.specs.Keeping.{OnlyReads, IsFree, Puts, Shrinks, HasKept}
+use Rattle.sync_server.specs.State.{read_of, Agrees}
+use Rattle.sync_server.specs.Keeping.{OnlyReads, IsFree, Puts, Learns, HasKept}
 use Rattle.sync_server.proofs.Sets.{same_or}
 use Rattle.sync_server.proofs.Elsewhere.{elsewhere}
 
@@ -65,16 +65,16 @@ grows k q ms valid e =
 
 -- so a state that keeps the join agrees with the keeper then
 pub agrees_then : (old new : ServerState) (k : Contents) (q : SyncRequest) (ms : List Message) → AreMessages q.messages → kept_set (records_after k q.group []) ≡ Ok ms
-    → Agrees old k → Puts old new q.group (Some (join ms q.messages)) → Agrees new (appended k q.group (batch_of ms q))
-agrees_then old new k q ms valid e a p g ns is = by (same_or q.group g)
+    → Agrees old k → Puts old new q.group (Some (Ok (join ms q.messages))) → Agrees new (appended k q.group (batch_of ms q))
+agrees_then old new k q ms valid e a p g set is = by (same_or q.group g)
   where
-    by : (g ≡ q.group) ⊎ (g ≢ q.group) → kept_set (records_after (appended k q.group (batch_of ms q)) g []) ≡ Ok ns
-    by (inl s) = subst (λ (h : Text). kept_set (records_after (appended k q.group (batch_of ms q)) h []) ≡ Ok ns) (sym s)
-        (grows k q ms valid e ∙ ap Ok (some_is (sym p.here ∙ ap (set_of new) (sym s) ∙ is)))
+    by : (g ≡ q.group) ⊎ (g ≢ q.group) → kept_set (records_after (appended k q.group (batch_of ms q)) g []) ≡ set
+    by (inl s) = subst (λ (h : Text). kept_set (records_after (appended k q.group (batch_of ms q)) h []) ≡ set) (sym s)
+        (grows k q ms valid e ∙ some_is (sym p.here ∙ ap (read_of new) (sym s) ∙ is))
       where
-        some_is : {x y : List Message} → Some x ≡ Some y → x ≡ y
+        some_is : {x y : Result (List Message) ℕ} → Some x ≡ Some y → x ≡ y
         some_is f = cc
-    by (inr n) = ap kept_set (elsewhere k q.group g (batch_of ms q) n) ∙ a g ns (sym (p.others g n) ∙ is)
+    by (inr n) = ap kept_set (elsewhere k q.group g (batch_of ms q) n) ∙ a g set (sym (p.others g n) ∙ is)
 
 module _ (q : SyncRequest) (r : Refusal) (s0 : ServerState) (t0 t1 : Type 0) (k0 k1 : Contents) (l0 l1 : Contents → Type 0) (group : Option Text)
     (fg : t1 → group ≡ finite.get k0.texts (file_name q.file)) (reads : OnlyReads t0 t1 k0 k1 l0 l1) where
@@ -108,7 +108,7 @@ module _ (q : SyncRequest) (r : Refusal) (s0 : ServerState) (t0 t1 : Type 0) (k0
     found_here t = let before = reads_on.told t in
         finds k0 q (Some q.group) set (sym g ∙ fg before) (fs t ∙ ap (λ (k : Contents). kept_set (records_after k q.group [])) (reads.same before))
 
-    pub refused_next : (s2 : ServerState) → (((index : ℕ) × (set ≡ Err index) × (r ≡ BadRecord)) ⊎ IsFree r) × Shrinks s0 s2 → (found : Found) × HasKept q found s0 s2 t0 t2 k0 k2 l0 l2 (Err r)
+    pub refused_next : (s2 : ServerState) → (((index : ℕ) × (set ≡ Err index) × (r ≡ BadRecord)) ⊎ IsFree r) × Learns s0 s2 q.group set → (found : Found) × HasKept q found s0 s2 t0 t2 k0 k2 l0 l2 (Err r)
     refused_next s2 j = (
       found_with (Some q.group) set,
       record {
@@ -150,7 +150,7 @@ module _ (q : SyncRequest) (r : Refusal) (s0 : ServerState) (t0 t1 : Type 0) (k0
         },
       )
 
-      pub accepted_all : (reply : List ℕ) → reply ≡ reply_of (Accepts ms q) → IsMeant (Accepts ms q) → Puts s0 s3 q.group (Some (join ms q.messages)) → (t3 → k3 ≡ appended k2 q.group batch) → IsKnown t3 l3 → (batch ≢ [] → IsAlone t3 k3 l3)
+      pub accepted_all : (reply : List ℕ) → reply ≡ reply_of (Accepts ms q) → IsMeant (Accepts ms q) → Puts s0 s3 q.group (Some (Ok (join ms q.messages))) → (t3 → k3 ≡ appended k2 q.group batch) → IsKnown t3 l3 → (batch ≢ [] → IsAlone t3 k3 l3)
           → (found : Found) × HasKept q found s0 s3 t0 t3 k0 k3 l0 l3 (Ok reply)
       accepted_all reply er meant puts keeps known alone = (
         found_with (Some q.group) set,

@@ -12,7 +12,7 @@ use Rattle.sync_server.specs.declared.state.ServerState.{ServerState}
 use Rattle.sync_server.specs.declared.served.Served.{Served}
 use Rattle.sync_server.specs.declared.served.Served.TheVariants as served
 use Rattle.sync_server.specs.Serving.{Found, found_in, Verdict, Accepts, Refuses, Ends, judge_found, judge_set, judge_request, Decides, DecidesRest, DecidesBody, by_head, too_large, no_head, bytes_end, refused, short, whole, no_request, request, AsksKeeper, Means, decided, keeper_fault, no_memory, reply_of, HasStatus, Visit, IsServed, IsMeant, answered, ended, unread, unwritten, kept_after, batch_of}
-use Rattle.sync_server.specs.State.{set_of, Remembers}
+use Rattle.sync_server.specs.State.{read_of, Remembers}
 use Rattle.std.specs.Str.{bytes_eq}
 use Rattle.sync_server.specs.Heads.{judge_head, IsUndecided}
 use Rattle.sync_server.specs.Keeping.{Puts, IsFree, is_fault, HasKept}
@@ -48,10 +48,10 @@ pub accepted_is : (ms ns : List Message) (q p : SyncRequest) → Accepts ms q �
 unfolding ms_of q_of
 accepted_is ms ns q p e = (ap ms_of e, ap (q_of q) e)
 
-pub remembers : (s0 s1 : ServerState) (ms : List Message) (q : SyncRequest) → Puts s0 s1 q.group (Some (join ms q.messages)) → Remembers s0 s1 (Accepts ms q)
+pub remembers : (s0 s1 : ServerState) (ms : List Message) (q : SyncRequest) → Puts s0 s1 q.group (Some (Ok (join ms q.messages))) → Remembers s0 s1 (Accepts ms q)
 remembers s0 s1 ms q p = record {
   token = p.token;
-  group = λ ns r e. (let same = accepted_is ms ns q r e in subst (λ (x : SyncRequest). set_of s1 x.group ≡ Some (join ns x.messages)) same.1 (subst (λ (y : List Message). set_of s1 q.group ≡ Some (join y q.messages)) same.0 p.here));
+  group = λ ns r e. (let same = accepted_is ms ns q r e in subst (λ (x : SyncRequest). read_of s1 x.group ≡ Some (Ok (join ns x.messages))) same.1 (subst (λ (y : List Message). read_of s1 q.group ≡ Some (Ok (join y q.messages))) same.0 p.here));
   others = λ ns r g e n. (let same = accepted_is ms ns q r e in p.others g (λ f. n (f ∙ ap (λ (x : SyncRequest). x.group) same.1)));
 }
 

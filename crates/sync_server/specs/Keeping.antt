@@ -1,5 +1,5 @@
 -- What a request does to what is kept.
-use Rattle.std.specs.Prelude.{◌≡◌, ◌≢◌, ◌⊎◌, ℕ, List, [], Bool, true, false, Option, Some, Result, Ok, Err}
+use Rattle.std.specs.Prelude.{◌≡◌, ◌≢◌, ◌⊎◌, ℕ, List, [], Bool, true, false, Option, None, Some, Result, Ok, Err}
 use Rattle.budget_ports.specs.Contents.{Contents, Text}
 use Rattle.budget_ports.specs.Keeper.{LeavesNoMore, IsKnown, IsAlone}
 use Rattle.field_merge.specs.declared.message.Message.{Message}
@@ -10,7 +10,7 @@ use Rattle.sync_server.specs.declared.refusal.Refusal.TheVariants.{TooLarge, Bad
 use Rattle.sync_server.specs.declared.state.ServerState.{ServerState}
 use Rattle.sync_server.specs.declared.keeping.Prepared.{Prepared}
 use Rattle.sync_server.specs.Serving.{Found, found_in, Accepts, Refuses, judge_found, kept_after, reply_of, IsMeant, batch_of}
-use Rattle.sync_server.specs.State.{set_of}
+use Rattle.sync_server.specs.State.{read_of}
 
 -- a keeper was read, and what it holds is as it was
 pub record OnlyReads (tells new_tells : Type 0) (old new : Contents) (left new_left : Contents → Type 0) : Type 0 where
@@ -48,43 +48,49 @@ abbrev pub JudgesGroup : {T : Type 0} → SyncRequest → Option Text → Result
 JudgesGroup q group (Ok value) = group ≡ Some q.group
 JudgesGroup q group (Err refusal) = ((set : Result (List Message) ℕ) → judge_found q group set ≡ Refuses refusal) ⊎ IsFree refusal
 
--- the group has this message set, or a record that keeps no message; or the keeper failed, or memory ran out
-abbrev pub JudgesSet : Result (List Message) ℕ → Result (List Message) Refusal → Type 0
-JudgesSet set (Ok kept) = set ≡ Ok kept
-JudgesSet set (Err refusal) = ((index : ℕ) × (set ≡ Err index) × (refusal ≡ BadRecord)) ⊎ IsFree refusal
+-- the group reads so; or the keeper failed, or memory ran out
+abbrev pub ReadsGroup : Result (List Message) ℕ → Result (Result (List Message) ℕ) Refusal → Type 0
+ReadsGroup set (Ok reading) = set ≡ reading
+ReadsGroup set (Err refusal) = IsFree refusal
 
--- nothing is kept of a group that was not
-abbrev pub Shrinks : ServerState → ServerState → Type 0
-Shrinks old new = (new.token ≡ old.token) × ((group : Text) (ms : List Message) → set_of new group ≡ Some ms → set_of old group ≡ Some ms)
+-- nothing is known that was not, unless it is this of the group
+abbrev pub Learns : ServerState → ServerState → Text → Result (List Message) ℕ → Type 0
+Learns old new group set = (new.token ≡ old.token)
+    × ((other : Text) (known : Result (List Message) ℕ) → read_of new other ≡ Some known → (read_of old other ≡ Some known) ⊎ ((other ≡ group) × (known ≡ set)))
 
--- what is kept is as it was
+-- what is known is as it was
 abbrev pub Stands : ServerState → ServerState → Type 0
-Stands old new = (new.token ≡ old.token) × ((group : Text) → set_of new group ≡ set_of old group)
+Stands old new = (new.token ≡ old.token) × ((group : Text) → read_of new group ≡ read_of old group)
 
--- this is kept of the group, and of each other what was kept
-pub record Puts (old new : ServerState) (group : Text) (set : Option (List Message)) : Type 0 where
+-- this is known of the group, and of each other what was known
+pub record Puts (old new : ServerState) (group : Text) (set : Option (Result (List Message) ℕ)) : Type 0 where
   pub token : new.token ≡ old.token
-  pub here : set_of new group ≡ set
-  pub others : (other : Text) → other ≢ group → set_of new other ≡ set_of old other
+  pub here : read_of new group ≡ set
+  pub others : (other : Text) → other ≢ group → read_of new other ≡ read_of old other
+
+-- the group reads so, and its messages were taken out; or it has a bad record, which is known then, or the keeper failed, or memory ran out
+abbrev pub OpensGroup : ServerState → ServerState → Text → Result (List Message) ℕ → Result (List Message) Refusal → Type 0
+OpensGroup old new group set (Ok kept) = (set ≡ Ok kept) × Puts old new group None
+OpensGroup old new group set (Err refusal) = (((index : ℕ) × (set ≡ Err index) × (refusal ≡ BadRecord)) ⊎ IsFree refusal) × Learns old new group set
 
 -- the reply to a request over the message set of its group, and the records that it adds; the state keeps the set with the new messages
 pub record IsReply (q : SyncRequest) (old new : ServerState) (ms : List Message) (prepared : Prepared) : Type 0 where
   pub reply : prepared.reply ≡ reply_of (Accepts ms q)
   pub means : IsMeant (Accepts ms q)
   pub batch : prepared.batch.items ≡ batch_of ms q
-  pub state : Puts old new q.group (Some (join ms q.messages))
+  pub state : Puts old new q.group (Some (Ok (join ms q.messages)))
 
--- the same, or it is refused, and nothing is kept of a group that was not
+-- the same, or it is refused, and nothing is known then that was not, but how the group reads
 abbrev pub IsPrepared : SyncRequest → ServerState → ServerState → Result (List Message) ℕ → Result Prepared Refusal → Type 0
 IsPrepared q old new set (Ok prepared) = (ms : List Message) × (set ≡ Ok ms) × IsReply q old new ms prepared
-IsPrepared q old new set (Err refusal) = (((index : ℕ) × (set ≡ Err index) × (refusal ≡ BadRecord)) ⊎ IsFree refusal) × Shrinks old new
+IsPrepared q old new set (Err refusal) = (((index : ℕ) × (set ≡ Err index) × (refusal ≡ BadRecord)) ⊎ IsFree refusal) × Learns old new q.group set
 
 -- what a request that was accepted has done
 pub record HasAccepted (q : SyncRequest) (found : Found) (ms : List Message) (old new : ServerState) (new_tells : Type 0) (contents new_contents : Contents) (new_left : Contents → Type 0) (reply : List ℕ) : Type 0 where
   pub judged : judge_found q found.group found.set ≡ Accepts ms q
   pub reply_is : reply ≡ reply_of (Accepts ms q)
   pub means : IsMeant (Accepts ms q)
-  pub state : Puts old new q.group (Some (join ms q.messages))
+  pub state : Puts old new q.group (Some (Ok (join ms q.messages)))
   pub keeps : new_tells → new_contents ≡ kept_after (Accepts ms q) contents
   pub known : IsKnown new_tells new_left
   pub alone : batch_of ms q ≢ [] → IsAlone new_tells new_contents new_left

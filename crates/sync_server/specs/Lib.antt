@@ -6,6 +6,7 @@ pub mod Keeping
 pub mod Laws
 pub mod Outside
 pub mod Replies
+pub mod Routes
 pub mod Serving
 pub mod State
 pub mod Taking

@@ -11,6 +11,7 @@ ghost use Rattle.sync_server.specs.declared.asking.BodyEnd.TheVariants.{NoMemory
 
 use crate::head::{HeadEnd, take_head};
 use crate::refusal::Refusal;
+use crate::routes::Routes;
 use budget_ports::Door;
 use std::alloc::Global;
 use sync_wire::{SyncRequest, WireFault, read_request};
@@ -95,13 +96,13 @@ fn read_body(alloc: Global, body: &[u8]) -> Result<SyncRequest, Refusal>
 }
 
 /// Takes a request from a connection: a head, which is judged, and then its body.
-pub(crate) fn ask<D: Door>(alloc: Global, token: &[u8], door: &mut D) -> Asked
+pub(crate) fn ask<D: Door>(alloc: Global, routes: &Routes, token: &[u8], door: &mut D) -> Asked
     ensures asked { (came : List ℕ) × IsAll (D.left door.old) came × IsAsked token.now came result }
     ensures others { Stays (D.waiting door.old) (D.waiting door.new) × Stays (D.outs door.old) (D.outs door.new) }
     ensures count { D.faults door.new ≡ count_after (asking_failed result) (D.faults door.old) }
 {
     let mut taken = Vec::new(alloc);
-    let (start, count) = match take_head(token, &mut taken, door) {
+    let (start, count) = match take_head(routes, token, &mut taken, door) {
         HeadEnd::Whole { start, count } => (start, count as usize),
         HeadEnd::Refused(refusal) => return Asked::Refused(refusal),
         HeadEnd::Ended => return Asked::Ended,

@@ -9,6 +9,7 @@ ghost use Rattle.sync_server.specs.declared.head.HeadEnd.TheVariants.{NoMemory a
 
 use crate::judge::judge_head;
 use crate::refusal::Refusal;
+use crate::routes::Routes;
 use budget_ports::Door;
 use httparse::Status;
 use httparse::spans::{EMPTY_HEADER_SPAN, HeaderSpan, RequestSpans, parse_request};
@@ -38,13 +39,19 @@ pub(crate) enum HeadEnd {
 }
 
 /// What a whole head says.
-fn judge_whole(token: &[u8], bytes: &[u8], headers: &[HeaderSpan], head: &RequestSpans) -> Glance
+fn judge_whole(
+    routes: &Routes,
+    token: &[u8],
+    bytes: &[u8],
+    headers: &[HeaderSpan],
+    head: &RequestSpans,
+) -> Glance
     requires within { IsRequestWithin bytes.now headers.now head.now }
     requires whole { IsRequestOf bytes.now headers.now head.now }
     requires room { length headers.now ≤ 64 }
     ensures { IsGlance token.now bytes.now result }
 {
-    match judge_head(token, bytes, headers, head) {
+    match judge_head(routes, token, bytes, headers, head) {
         Ok(count) => Glance::Whole {
             start: head.len,
             count,
@@ -54,12 +61,12 @@ fn judge_whole(token: &[u8], bytes: &[u8], headers: &[HeaderSpan], head: &Reques
 }
 
 /// What the bytes say of a head in front.
-fn look(token: &[u8], bytes: &[u8]) -> Glance
+fn look(routes: &Routes, token: &[u8], bytes: &[u8]) -> Glance
     ensures { IsGlance token.now bytes.now result }
 {
     let mut headers = [EMPTY_HEADER_SPAN; 64];
     match parse_request(bytes, &mut headers) {
-        Ok(Status::Complete(head)) => judge_whole(token, bytes, &headers, &head),
+        Ok(Status::Complete(head)) => judge_whole(routes, token, bytes, &headers, &head),
         Ok(Status::Partial) => Glance::NotYet,
         Err(_) => Glance::Refused(Refusal::BadRequest),
     }
@@ -67,7 +74,12 @@ fn look(token: &[u8], bytes: &[u8]) -> Glance
 
 /// Takes bytes until a head is whole, or no bytes can complete one, or 65,536 hold none, or they end. A whole head is judged before
 /// another byte is taken.
-pub(crate) fn take_head<D: Door>(token: &[u8], taken: &mut Vec<u8>, door: &mut D) -> HeadEnd
+pub(crate) fn take_head<D: Door>(
+    routes: &Routes,
+    token: &[u8],
+    taken: &mut Vec<u8>,
+    door: &mut D,
+) -> HeadEnd
     requires { taken.old.items ≡ [] }
     ensures took { result ≢ OutOfMemory → Consumes (D.left door.old) (D.left door.new) taken.new.items }
     ensures few { length taken.new.items ≤ 65536 }
@@ -77,7 +89,7 @@ pub(crate) fn take_head<D: Door>(token: &[u8], taken: &mut Vec<u8>, door: &mut D
 {
     let mut buffer = [0u8; 4096];
     'reads: loop {
-        match look(token, taken) {
+        match look(routes, token, taken) {
             Glance::Whole { start, count } => return HeadEnd::Whole { start, count },
             Glance::Refused(refusal) => return HeadEnd::Refused(refusal),
             Glance::NotYet => {}

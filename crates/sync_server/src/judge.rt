@@ -10,6 +10,7 @@ ghost use Rattle.sync_server.specs.Heads.{has_name, values_under, length_in, len
 ghost use Rattle.sync_server.specs.Headers.{agree, agree_at, agreed};
 
 use crate::refusal::Refusal;
+use crate::routes::Routes;
 use httparse::spans::{HeaderSpan, RequestSpans};
 
 /// Whether a field has this name, in letters of either case.
@@ -164,16 +165,16 @@ fn before_question(target: &[u8]) -> &[u8]
     }
 }
 
-/// Whether the path is that of a sync.
-fn has_path(target: &[u8]) -> bool
+/// Whether the path of a target is that of a sync.
+fn has_path(routes: &Routes, target: &[u8]) -> bool
     ensures { result ≡ bytes_eq (path_of target.now) (codes "/sync/sync") }
 {
-    let path = before_question(target);
-    path == b"/sync/sync".as_slice()
+    routes.has_sync(before_question(target))
 }
 
 /// The length of the body that follows, or the first refusal.
 fn judged(
+    routes: &Routes,
     token: &[u8],
     bytes: &[u8],
     target: &[u8],
@@ -183,7 +184,7 @@ fn judged(
     requires { All (IsHeaderWithin (length bytes.now)) headers.now }
     ensures { result ≡ judged token.now target.now method.now (map (header_bytes bytes.now) headers.now) }
 {
-    if !has_path(target) {
+    if !has_path(routes, target) {
         return Err(Refusal::NotFound);
     }
     if method != b"POST".as_slice() {
@@ -201,6 +202,7 @@ fn judged(
 
 /// The length of the body that follows a head, or the first refusal: by path, method, the fields that tell the length, and the token.
 pub(crate) fn judge_head(
+    routes: &Routes,
     token: &[u8],
     bytes: &[u8],
     headers: &[HeaderSpan],
@@ -211,6 +213,7 @@ pub(crate) fn judge_head(
 {
     let fields = &headers[..head.headers];
     judged(
+        routes,
         token,
         bytes,
         head.path.of(bytes),

@@ -9,11 +9,11 @@ ghost use Rattle.budget_ports.specs.Faults.{count_after};
 ghost use Rattle.budget_ports.specs.Keeper.{IsKnown, IsAlone, Commits, HaveKeys};
 ghost use Rattle.kept_messages.specs.Records.{kept_set};
 ghost use Rattle.sync_server.specs.Serving.{Accepts, Found, found_in, file_name, judge_found, reply_of, IsMeant, batch_of};
-ghost use Rattle.sync_server.specs.Keeping.{OnlyReads, keeper_failed, JudgesGroup, JudgesSet, IsFree, Puts, IsPrepared, HasKept};
-ghost use Rattle.sync_server.specs.State.{set_of, Agrees};
+ghost use Rattle.sync_server.specs.Keeping.{OnlyReads, keeper_failed, JudgesGroup, ReadsGroup, OpensGroup, IsFree, Puts, IsPrepared, HasKept};
+ghost use Rattle.sync_server.specs.State.{read_of, Agrees};
 
 use crate::refusal::Refusal;
-use crate::state::{Kept, ServerState};
+use crate::state::{Kept, Reading, ServerState};
 use crate::writing::accepted;
 use budget_ports::{Keeper, Record};
 use field_values::{Items, NoMemory, Txt};
@@ -65,8 +65,8 @@ fn check_group<K: Keeper>(
 }
 
 /// Reads a group from the keeper.
-fn read_group<K: Keeper>(alloc: Global, keeper: &mut K, group: &Txt) -> Result<Kept, Refusal>
-    ensures found { (set : Result (List Message) ℕ) × (K.tells keeper.new → set ≡ kept_set (records_after (K.contents keeper.old) group.now [])) × JudgesSet set result }
+fn read_group<K: Keeper>(alloc: Global, keeper: &mut K, group: &Txt) -> Result<Reading, Refusal>
+    ensures found { (set : Result (List Message) ℕ) × (K.tells keeper.new → set ≡ kept_set (records_after (K.contents keeper.old) group.now [])) × ReadsGroup set result }
     ensures reads { OnlyReads (K.tells keeper.old) (K.tells keeper.new) (K.contents keeper.old) (K.contents keeper.new) (K.left keeper.old) (K.left keeper.new) }
     ensures known { OnOk result (IsKnown (K.tells keeper.new) (K.left keeper.new)) }
     ensures count { K.faults keeper.new ≡ count_after (keeper_failed result) (K.faults keeper.old) }
@@ -74,8 +74,8 @@ fn read_group<K: Keeper>(alloc: Global, keeper: &mut K, group: &Txt) -> Result<K
     let first = Txt::new(String::new(alloc));
     let records = keeper.since(group, &first)?;
     match read_log(alloc, records.as_slice()) {
-        Ok((log, trie)) => Ok(Kept::new(log, trie)),
-        Err(StartFault::BadRecord { index: _ }) => Err(Refusal::BadRecord),
+        Ok((log, trie)) => Ok(Ok(Kept::new(log, trie))),
+        Err(StartFault::BadRecord { index }) => Ok(Err(index)),
         Err(StartFault::NoMemory) => Err(Refusal::NoMemory),
     }
 }
@@ -87,23 +87,47 @@ pub(crate) struct Prepared {
     pub(crate) batch: Vec<Record>,
 }
 
-/// Takes out what the state keeps of a group, or reads the group where it keeps none.
+/// Takes out what the state knows of a group, or reads the group where it knows nothing.
 fn open_group<K: Keeper>(
     alloc: Global,
     state: &mut ServerState,
     keeper: &mut K,
     group: &Txt,
-) -> Result<Kept, Refusal>
+) -> Result<Reading, Refusal>
     requires agrees { K.tells keeper.old → Agrees state.old (K.contents keeper.old) }
-    ensures found { (set : Result (List Message) ℕ) × (K.tells keeper.new → set ≡ kept_set (records_after (K.contents keeper.old) group.now [])) × JudgesSet set result }
+    ensures found { (set : Result (List Message) ℕ) × (K.tells keeper.new → set ≡ kept_set (records_after (K.contents keeper.old) group.now [])) × ReadsGroup set result }
     ensures rest { Puts state.old state.new group.now None }
     ensures reads { OnlyReads (K.tells keeper.old) (K.tells keeper.new) (K.contents keeper.old) (K.contents keeper.new) (K.left keeper.old) (K.left keeper.new) }
     ensures known { OnOk result (IsKnown (K.tells keeper.old) (K.left keeper.old) → IsKnown (K.tells keeper.new) (K.left keeper.new)) }
     ensures count { K.faults keeper.new ≡ count_after (keeper_failed result) (K.faults keeper.old) }
 {
     match state.take(group) {
-        Some(kept) => Ok(kept),
+        Some(reading) => Ok(reading),
         None => read_group(alloc, keeper, group),
+    }
+}
+
+/// Takes out the messages of a group. Where a record keeps none, that is known from then on, and where memory lacks nothing is known of
+/// the group.
+fn open_whole<K: Keeper>(
+    alloc: Global,
+    state: &mut ServerState,
+    keeper: &mut K,
+    group: &Txt,
+) -> Result<Kept, Refusal>
+    requires agrees { K.tells keeper.old → Agrees state.old (K.contents keeper.old) }
+    ensures found { (set : Result (List Message) ℕ) × (K.tells keeper.new → set ≡ kept_set (records_after (K.contents keeper.old) group.now [])) × OpensGroup state.old state.new group.now set result }
+    ensures reads { OnlyReads (K.tells keeper.old) (K.tells keeper.new) (K.contents keeper.old) (K.contents keeper.new) (K.left keeper.old) (K.left keeper.new) }
+    ensures known { OnOk result (IsKnown (K.tells keeper.old) (K.left keeper.old) → IsKnown (K.tells keeper.new) (K.left keeper.new)) }
+    ensures count { K.faults keeper.new ≡ count_after (keeper_failed result) (K.faults keeper.old) }
+{
+    let reading = open_group(alloc, state, keeper, group)?;
+    match reading {
+        Ok(kept) => Ok(kept),
+        Err(index) => {
+            state.put(group, Err(index))?;
+            Err(Refusal::BadRecord)
+        }
     }
 }
 
@@ -131,9 +155,10 @@ fn reply_over(alloc: Global, kept: Kept, request: &SyncRequest) -> Result<Joined
     })
 }
 
-/// Joins a request to what the state keeps of its group, which is read where it keeps none, and makes the reply.
+/// Joins a request to what the state knows of its group, which is read where it knows nothing, and makes the reply.
 ///
-/// Where this is refused nothing is kept of the group: what was joined is not what the keeper has.
+/// Where memory lacks nothing is known of the group then: what was joined is not what the keeper has. That a group has a bad record
+/// is known from then on.
 fn prepare<K: Keeper>(
     alloc: Global,
     state: &mut ServerState,
@@ -147,9 +172,9 @@ fn prepare<K: Keeper>(
     ensures known { OnOk result (IsKnown (K.tells keeper.old) (K.left keeper.old) → IsKnown (K.tells keeper.new) (K.left keeper.new)) }
     ensures count { K.faults keeper.new ≡ count_after (keeper_failed result) (K.faults keeper.old) }
 {
-    let opened = open_group(alloc, state, keeper, &request.group)?;
+    let opened = open_whole(alloc, state, keeper, &request.group)?;
     let joined = reply_over(alloc, opened, request)?;
-    state.put(&request.group, joined.kept)?;
+    state.put(&request.group, Ok(joined.kept))?;
     Ok(joined.prepared)
 }
 

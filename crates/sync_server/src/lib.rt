@@ -8,6 +8,7 @@ mod judge;
 mod keeping;
 mod laws;
 mod refusal;
+mod routes;
 mod served;
 mod serving;
 mod state;

@@ -38,7 +38,7 @@ fn serve_open<K: Keeper, D: Door>(
     ensures served { (visit : Visit) × Remembers state.old state.new visit.verdict × ServesOpen state.old.token visit result (D.left door.old) (D.outs door.old) (D.outs door.new) (D.faults door.old) (D.faults door.new) (K.tells keeper.old) (K.tells keeper.new) (K.contents keeper.old) (K.contents keeper.new) (K.left keeper.old) (K.left keeper.new) (K.faults keeper.old) (K.faults keeper.new) }
     ensures others { Stays (D.waiting door.old) (D.waiting door.new) }
 {
-    match ask(alloc, state.token().bytes(), door) {
+    match ask(alloc, state.routes(), state.token().bytes(), door) {
         Asked::Request(request) => match keep(alloc, state, keeper, &request) {
             Ok(reply) => send(door, 200, reply.as_slice()),
             Err(refusal) => send(door, refusal.status(), refusal.reply().as_bytes()),

@@ -1,4 +1,4 @@
-//! What the server keeps by itself: its token, and of each group that it has read the log and the trie.
+//! What the server keeps by itself: its token, and what it knows of each group that it has read.
 ghost use Rattle.std.specs.Prelude.{◌≡◌, ◌++◌, map, IfOk, IfErr, OnOk, OnErr, None, Some, Option, List, ℕ};
 ghost use Rattle.std.specs.BTreeMap.{get};
 ghost use Rattle.budget_ports.specs.Contents.{Contents, Text, text_cmp};
@@ -9,10 +9,11 @@ ghost use Rattle.kept_messages.specs.News.{new_in};
 ghost use Rattle.kept_messages.specs.Records.{record_of};
 ghost use Rattle.minute_trie.specs.Trie.{is_spent, IsTrieOf};
 ghost use Rattle.sync_server.specs.Answer.{answer_of};
-ghost use Rattle.sync_server.specs.State.{set_of, Agrees};
+ghost use Rattle.sync_server.specs.State.{read_of, Agrees};
 ghost use Rattle.sync_server.specs.Keeping.{Puts, Stands};
 
 use crate::answering::join_request;
+use crate::routes::Routes;
 use budget_ports::Record;
 use field_merge::Log;
 use field_values::{NoMemory, Txt};
@@ -74,14 +75,19 @@ impl Kept {
     }
 }
 
-/// The token of the server, and the groups that it has read, each with its log and its trie. So a request costs its own messages.
+/// What was read of a group: its messages, or the place of the first record that keeps none, counted from 0.
+pub(crate) type Reading = Result<Kept, usize>;
+
+/// The token of the server, and what it knows of the groups that it has read: of each its log and its trie, or where it has a bad
+/// record. So a request costs its own messages, and a group with a bad record is read once.
 ///
-/// What it keeps of a group is to be the message set of the keeper's group ([`serve_one`](crate::serve_one) requires it and leaves
+/// What it knows of a group is to be so of the keeper's group ([`serve_one`](crate::serve_one) requires it and leaves
 /// it so). After want of memory it can be used again.
 #[derive(Drop)]
 pub struct ServerState {
+    routes: Routes,
     token: Txt,
-    groups: BTreeMap<Txt, Kept>,
+    groups: BTreeMap<Txt, Reading>,
 }
 
 impl ServerState {
@@ -90,13 +96,19 @@ impl ServerState {
     /// The state of a server that has read no group. It has this token.
     pub fn new(alloc: Global, token: &Txt) -> Result<ServerState, NoMemory>
         ensures token { IfOk result (λ state. state.token ≡ token.now) }
-        ensures empty { IfOk result (λ state. (group : Text) → set_of state group ≡ None) }
+        ensures empty { IfOk result (λ state. (group : Text) → read_of state group ≡ None) }
         ensures agrees { IfOk result (λ state. (k : Contents) → Agrees state k) }
     {
         Ok(ServerState {
+            routes: Routes::new(alloc)?,
             token: token.copy()?,
             groups: BTreeMap::new(alloc),
         })
+    }
+
+    /// The paths that it knows.
+    pub(crate) fn routes(&self) -> &Routes {
+        &self.routes
     }
 
     /// The token.
@@ -106,25 +118,25 @@ impl ServerState {
         &self.token
     }
 
-    /// Takes out what it keeps of a group.
-    pub(crate) fn take(&mut self, group: &Txt) -> Option<Kept>
-        ensures taken { result ≡ set_of self.old group.now }
+    /// Takes out what it knows of a group.
+    pub(crate) fn take(&mut self, group: &Txt) -> Option<Reading>
+        ensures taken { result ≡ read_of self.old group.now }
         ensures rest { Puts self.old self.new group.now None }
     {
         self.groups.remove(group)
     }
 
-    /// Keeps this of a group.
-    pub(crate) fn put(&mut self, group: &Txt, kept: Kept) -> Result<(), NoMemory>
-        ensures ok { OnOk result (Puts self.old self.new group.now (Some kept)) }
+    /// Knows this of a group.
+    pub(crate) fn put(&mut self, group: &Txt, reading: Reading) -> Result<(), NoMemory>
+        ensures ok { OnOk result (Puts self.old self.new group.now (Some reading)) }
         ensures err { OnErr result (Stands self.old self.new) }
     {
         let group = group.copy()?;
-        self.groups.insert(group, kept)?;
+        self.groups.insert(group, reading)?;
         Ok(())
     }
 
-    /// Forgets what it keeps of a group.
+    /// Forgets what it knows of a group.
     pub(crate) fn forget(&mut self, group: &Txt)
         ensures { Puts self.old self.new group.now None }
     {

@@ -2,6 +2,8 @@ use Rattle.std.proofs.Common.{rules, ap, sym}
 use Rattle.budget_ports.specs.Faults.{count_after}
 use Rattle.budget_top.specs.Words.{planned}
 use Rattle.budget_top.proofs.Refusing.{with_target, refused_merge, device_not_refused, device_along, never_so, refused_serve, serve_along}
+use Rattle.budget_top.proofs.WithoutFaults.{ends_unfailed}
+use Rattle.budget_top.proofs.Acknowledged.{acknowledged_stay}
 use Rattle.budget_top.proofs.dispatch.run.Goals as goal
 
 pub returns-in-Err-clause-ran : goal.returns-in-Err-clause-ran
@@ -40,3 +42,30 @@ returns-in-Serve-default-clause-ran g c = record {
   sink = λ other. c.run_serve.ensures.sink;
   keeper = λ mode named ends. search rules;
 }
+
+pub returns-in-Merge-default-clause-ran : goal.returns-in-Merge-default-clause-ran
+returns-in-Merge-default-clause-ran g c = search rules
+
+pub returns-in-Err-clause-unfailed : goal.returns-in-Err-clause-unfailed
+returns-in-Err-clause-unfailed g c = ends_unfailed c.plans_are_asked.ensures c.connections_are_decided.ensures _ _ _ _ (returns-in-Err-clause-ran g c)
+
+pub returns-in-Err-clause-acknowledged : goal.returns-in-Err-clause-acknowledged
+returns-in-Err-clause-acknowledged g c = acknowledged_stay c.accepted_are_joined.ensures c.plans_are_asked.ensures _ _ _ _ (returns-in-Err-clause-ran g c)
+
+pub returns-in-Merge-default-clause-unfailed : goal.returns-in-Merge-default-clause-unfailed
+returns-in-Merge-default-clause-unfailed g c = ends_unfailed c.plans_are_asked.ensures c.connections_are_decided.ensures _ _ _ _ (returns-in-Merge-default-clause-ran g c)
+
+pub returns-in-Merge-default-clause-acknowledged : goal.returns-in-Merge-default-clause-acknowledged
+returns-in-Merge-default-clause-acknowledged g c = acknowledged_stay c.accepted_are_joined.ensures c.plans_are_asked.ensures _ _ _ _ (returns-in-Merge-default-clause-ran g c)
+
+pub returns-in-Device-Some-clause-unfailed : goal.returns-in-Device-Some-clause-unfailed
+returns-in-Device-Some-clause-unfailed g c = ends_unfailed c.plans_are_asked.ensures c.connections_are_decided.ensures _ _ _ _ (returns-in-Device-Some-clause-ran g c)
+
+pub returns-in-Device-Some-clause-acknowledged : goal.returns-in-Device-Some-clause-acknowledged
+returns-in-Device-Some-clause-acknowledged g c = acknowledged_stay c.accepted_are_joined.ensures c.plans_are_asked.ensures _ _ _ _ (returns-in-Device-Some-clause-ran g c)
+
+pub returns-in-Serve-default-clause-unfailed : goal.returns-in-Serve-default-clause-unfailed
+returns-in-Serve-default-clause-unfailed g c = ends_unfailed c.plans_are_asked.ensures c.connections_are_decided.ensures _ _ _ _ (returns-in-Serve-default-clause-ran g c)
+
+pub returns-in-Serve-default-clause-acknowledged : goal.returns-in-Serve-default-clause-acknowledged
+returns-in-Serve-default-clause-acknowledged g c = acknowledged_stay c.accepted_are_joined.ensures c.plans_are_asked.ensures _ _ _ _ (returns-in-Serve-default-clause-ran g c)

@@ -64,30 +64,37 @@ returns-in-Ok-clause-opened g c clean =
     let is_open = open_of (g.S.Store.view store) (g.met.S.Store.broken_if_shut store) sound in
     (c.into_store-store.ensures.undone.kept early).was_open is_open
 
+pub returns-then-is_broken-clause-back : goal.returns-then-is_broken-clause-back
+returns-then-is_broken-clause-back g c clean is_open = (c.into_store-store.ensures.undone.undone is_open).0
+
 pub returns-then-is_broken-clause-cause : goal.returns-then-is_broken-clause-cause
-returns-then-is_broken-clause-cause g c =
-    let store = c.into_store-store.result in (
-      store,
-      c.into_store-store.ensures.quiet,
-      λ clean. inr (lost (state g.S.Store c.args.connection).is_open (g.S.Store.view store).is_open (g.S.Store.view store).is_broken
-          (c.into_store-store.ensures.quiet.closes clean) (λ is_open. (c.into_store-store.ensures.undone.undone is_open).1) (sym (c.if-is_broken.ensures clean))),
-    )
+returns-then-is_broken-clause-cause g c clean =
+    let store = c.into_store-store.result in
+    inr (lost (state g.S.Store c.args.connection).is_open (g.S.Store.view store).is_open (g.S.Store.view store).is_broken
+    (c.into_store-store.ensures.quiet.closes clean) (λ is_open. (c.into_store-store.ensures.undone.undone is_open).1) (sym (c.if-is_broken.ensures clean)))
+
+pub returns-in-Err-clause-quiet : goal.returns-in-Err-clause-quiet
+returns-in-Err-clause-quiet g c = quiet_on g.S.Store c.args.connection.store c.into_store-store.result c.in-Err.store c.into_store-store.ensures.quiet c.in-Err.ensures.unharmed
+
+pub returns-in-Err-clause-back : goal.returns-in-Err-clause-back
+returns-in-Err-clause-back g c clean is_open =
+    let store = c.into_store-store.result in
+    let early : IsClean (g.S.Store.view store) = omega (arith, c.in-Err.ensures.unharmed.clean, clean) in
+    let sound : (g.S.Store.view store).is_broken ≡ false = sym (c.if-is_broken.ensures early) in
+    let was_open = open_of (g.S.Store.view store) (g.met.S.Store.broken_if_shut store) sound in
+    c.in-Err.ensures.rows clean is_open ∙ (c.into_store-store.ensures.undone.undone was_open).0
 
 pub returns-in-Err-clause-cause : goal.returns-in-Err-clause-cause
-returns-in-Err-clause-cause g c =
+returns-in-Err-clause-cause g c clean =
     let old = c.args.connection.store in
     let store = c.into_store-store.result in
-    let left = c.in-Err._store in (
-      left,
-      quiet_on g.S.Store old store left c.into_store-store.ensures.quiet c.in-Err.ensures.unharmed,
-      λ clean.
-          let early : IsClean (g.S.Store.view store) = omega (arith, c.in-Err.ensures.unharmed.clean, clean) in
-          let sound : (g.S.Store.view store).is_broken ≡ false = sym (c.if-is_broken.ensures early) in
-          let is_open = open_of (g.S.Store.view store) (g.met.S.Store.broken_if_shut store) sound in
-          let same = (fresh (g.S.Store.view old) (g.S.Store.view store) (g.met.S.Store.broken_if_shut store) c.into_store-store.ensures.undone (c.into_store-store.ensures.numbered early) sound early).clean in
-          let listed = c.into_store-store.ensures.sound early (g.S.Store.view store).committed (g.met.S.Store.stays store is_open) in
-          elim (unread (g.S.Store.faults old) (g.S.Store.faults store) (g.S.Store.faults left) (g.S.Store.view store).trees c.in-Err.error (listed.0, subst (IsSound listed.0) (sym same) listed.1) c.into_store-store.ensures.quiet.counts (c.in-Err.ensures.err clean)) [
-            | inl memory ↦ inl memory
-            | inr more ↦ inr (inr more)
-          ],
-    )
+    let left = c.in-Err.store in
+    let early : IsClean (g.S.Store.view store) = omega (arith, c.in-Err.ensures.unharmed.clean, clean) in
+    let sound : (g.S.Store.view store).is_broken ≡ false = sym (c.if-is_broken.ensures early) in
+    let is_open = open_of (g.S.Store.view store) (g.met.S.Store.broken_if_shut store) sound in
+    let same = (fresh (g.S.Store.view old) (g.S.Store.view store) (g.met.S.Store.broken_if_shut store) c.into_store-store.ensures.undone (c.into_store-store.ensures.numbered early) sound early).clean in
+    let listed = c.into_store-store.ensures.sound early (g.S.Store.view store).committed (g.met.S.Store.stays store is_open) in
+    elim (unread (g.S.Store.faults old) (g.S.Store.faults store) (g.S.Store.faults left) (g.S.Store.view store).trees c.in-Err.error (listed.0, subst (IsSound listed.0) (sym same) listed.1) c.into_store-store.ensures.quiet.counts (c.in-Err.ensures.err clean)) [
+      | inl memory ↦ inl memory
+      | inr more ↦ inr (inr more)
+    ]

@@ -1,4 +1,4 @@
-use Rattle.std.proofs.Common.{◌∙◌, Some, sym, subst}
+use Rattle.std.proofs.Common.{◌∙◌, Some, Ok, sym, subst}
 use Rattle.std.proofs.lemmas.Result.{err_from_is_err_and}
 use Rattle.budget_ports.specs.Keeper.{HaveKeys}
 use Rattle.field_merge.specs.Messages.{IsMessage}
@@ -43,7 +43,7 @@ returns-clause-kept g c =
     let f = c.in_ok-check_group.ensures.found in
     let s = c.in_ok-prepared.ensures.found in
     let e = c.in_ok-commit.ensures in
-    accepted_all c.args.request.now NoMemory c.args.state.now _ _ _ _ _ _ f.0 f.1 c.in_ok-check_group.ensures.reads _ _ _ f.2 s.0 c.in_ok-prepared.ensures.reads s.1 s.2.0 s.2.1 c.prepare.new.state c.commit.new.state c.deref.result.now (c.deref.ensures.value ∙ s.2.2.batch) _ _ _ e.told e.stops _ s.2.2.reply s.2.2.means (subst (λ x. Puts c.args.state.now x c.args.request.now.group (Some (join s.2.0 c.args.request.now.messages))) (sym e.ok) s.2.2.state) e.kept (e.known (c.in_ok-prepared.ensures.known c.in_ok-check_group.ensures.known)) e.alone
+    accepted_all c.args.request.now NoMemory c.args.state.now _ _ _ _ _ _ f.0 f.1 c.in_ok-check_group.ensures.reads _ _ _ f.2 s.0 c.in_ok-prepared.ensures.reads s.1 s.2.0 s.2.1 c.prepare.new.state c.commit.new.state c.deref.result.now (c.deref.ensures.value ∙ s.2.2.batch) _ _ _ e.told e.stops _ s.2.2.reply s.2.2.means (subst (λ x. Puts c.args.state.now x c.args.request.now.group (Some (Ok (join s.2.0 c.args.request.now.messages)))) (sym e.ok) s.2.2.state) e.kept (e.known (c.in_ok-prepared.ensures.known c.in_ok-check_group.ensures.known)) e.alone
 
 pub returns-clause-agrees : goal.returns-clause-agrees
 returns-clause-agrees g c = λ t.

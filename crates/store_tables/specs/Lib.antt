@@ -1,0 +1,14 @@
+pub mod Tables
+pub mod Texts
+pub mod Layout
+pub mod Joined
+pub mod Grouped
+pub mod Entered
+pub mod Returned
+pub mod Stored
+pub mod Within
+pub mod Moving
+pub mod Copied
+pub mod Since
+pub mod Named
+pub mod Known
