@@ -1,7 +1,10 @@
 pub mod Least
 pub mod Lists
+pub mod Once
+pub mod Months
 pub mod Passing
 pub mod Valid
+pub mod ValidMappings
 pub mod ValidWrites
 pub mod Amounts
 pub mod Told

@@ -1,7 +1,7 @@
 -- The writes of edits are valid.
-use Rattle.std.proofs.Common.{◌≡◌, ℕ, ◌+◌, ◌<◌, ◌/◌, ◌%◌, Bool, true, false, List, [], ◌∷◌, ◌++◌, Option, None, Some, Result, Ok, Err, refl, ap, subst, arith}
+use Rattle.std.proofs.Common.{◌≡◌, ℕ, ◌+◌, ◌<◌, ◌/◌, ◌%◌, Bool, true, false, List, [], ◌∷◌, ◌++◌, Option, None, Some, Result, Ok, Err, cond, filter, refl, ap, subst, arith}
 use lib.IntN.{pos}
-use Rattle.std.specs.Prelude.{◌||◌, nat_le, not, map as list_map}
+use Rattle.std.specs.Prelude.{◌||◌, nat_le, not, map as list_map, flat_map}
 use Rattle.std.specs.List.{AllByRecursion}
 use Rattle.std.specs.Ordering.{eq_by_cmp}
 use Rattle.std.specs.Cmp.{eq_by_cmp_equiv}
@@ -25,7 +25,7 @@ use Rattle.book_rows.specs.Months.{is_month}
 use Rattle.book_rows.specs.Tables.{AreNamed}
 use Rattle.book_rows.specs.Ids.{month_id}
 use Rattle.book_rows.specs.Writes.{IsRowName, IsWriteValue, IsWrite}
-use Rattle.book_edits.specs.Faults.{◌>>=◌, must}
+use Rattle.book_edits.specs.Faults.{◌>>=◌, Check, must, each}
 use Rattle.book_edits.specs.Checks.{may_be_chosen, new_row}
 use Rattle.book_edits.specs.Writing.{write, flag, text_or_null, notes_value, id_value}
 use Rattle.book_edits.proofs.Passing.{name_of_is, held, there}
@@ -120,3 +120,21 @@ or_right false b h = h
 pub all_map : {Y : Type 0} (P : Y → Type 0) (f : Text → Y) (ks : List Text) → ((q : Text) → is_among text_cmp ks q ≡ true → P (f q)) → AllByRecursion P (list_map f ks)
 all_map P f [] h = tt
 all_map P f (k ∷ ks) h = (h k (ap (λ b. b || is_among text_cmp ks k) ((eq_by_cmp_equiv text_total).refl k)), all_map P f ks (λ q p. h q (or_right (eq_by_cmp text_cmp q k) (is_among text_cmp ks q) p)))
+
+pub all_filter : {X : Type 0} (P : X → Type 0) (p : X → Bool) (xs : List X) → AllByRecursion P xs → AllByRecursion P (filter p xs)
+all_filter P p [] h = tt
+all_filter P p (x ∷ xs) h = elim (p x) as (λ b. AllByRecursion P (cond b (x ∷ filter p xs) (filter p xs))) [
+  | true ↦ (h.0, all_filter P p xs h.1)
+  | false ↦ all_filter P p xs h.1
+]
+
+pub all_flat : {X Y : Type 0} (P : Y → Type 0) (Q : X → Type 0) (f : X → List Y) (xs : List X) → ((x : X) → Q x → AllByRecursion P (f x)) → AllByRecursion Q xs → AllByRecursion P (flat_map f xs)
+all_flat P Q f [] each h = tt
+all_flat P Q f (x ∷ xs) each h = all_append P (f x) (flat_map f xs) (each x h.0) (all_flat P Q f xs each h.1)
+
+-- what a check of each that passes tells: it passes for each
+pub each_was : {X : Type 0} (check : X → Check) (xs : List X) (u : Unit {0}) → each check xs ≡ Ok u → AllByRecursion (λ x. check x ≡ Ok tt) xs
+each_was check [] u h = tt
+each_was check (x ∷ xs) u h =
+    let first = passed (check x) (λ _. each check xs) u h in
+    (first.1, each_was check xs u first.2)

@@ -1,7 +1,7 @@
 -- The writes of each edit are valid.
 use Rattle.std.proofs.Common.{◌≡◌, ℕ, Bool, true, false, List, [], ◌∷◌, ◌++◌, length, Option, None, Some, Ok, refl, sym, ◌∙◌, subst, arith}
 use lib.IntN.{ℤ, pos}
-use Rattle.std.specs.Prelude.{codes, is_some, map as list_map, if◌then◌else◌, ◌-ℤ◌, ◌+ℤ◌}
+use Rattle.std.specs.Prelude.{codes, is_some, map as list_map, ◌-ℤ◌, ◌+ℤ◌}
 use Rattle.std.specs.List.{AllByRecursion}
 use Rattle.std.specs.FinMap as map
 use Rattle.field_values.specs.declared.name.NameFault.{NameFault}
@@ -22,15 +22,16 @@ use Rattle.book_rows.specs.Named.{HasNames}
 use Rattle.book_rows.specs.Ids.{budget_id, month_id}
 use Rattle.book_rows.specs.Writes.{IsRowName, IsWrite, AreWrites}
 use Rattle.book_edits.specs.declared.edit.BookEdit.{BookEdit}
-use Rattle.book_edits.specs.declared.edit.BookEdit.TheVariants.{Set, AccountAdd, AccountRename, AccountOffbudget, AccountReopen, AccountClose, GroupAdd, GroupRename, GroupDelete, CategoryAdd, CategoryRename, CategoryMove, CategoryDelete, PayeeAdd, PayeeRename, PayeeDelete, TxAdd, Budget, Carryover, Hold, Move, Note}
+use Rattle.book_edits.specs.declared.edit.BookEdit.TheVariants.{Set, AccountAdd, AccountRename, AccountOffbudget, AccountReopen, AccountClose, GroupAdd, GroupRename, GroupDelete, CategoryAdd, CategoryRename, CategoryMove, CategoryDelete, CategoryDeleteTo, PayeeAdd, PayeeRename, PayeeDelete, PayeeMerge, TxAdd, Budget, Carryover, Hold, Move, Track, TrackCarryover, Note}
 use Rattle.book_edits.specs.Faults.{if_there}
 use Rattle.book_edits.specs.Checks.{new_row, live_account, live_group, live_category, live_payee, no_income, without_balance, free_group_name, free_category_name, group_of, name_of, a_day, a_month, an_amount, a_held, a_name}
 use Rattle.book_edits.specs.Writing.{write, flag}
 use Rattle.book_edits.specs.Accounts.{is_account, is_payee, account_add, account_rename, account_offbudget, account_reopen, account_close, payee_add, payee_rename, payee_delete}
 use Rattle.book_edits.specs.Categories.{is_group, is_category, takes_income, is_live_in, categories_of, group_add, group_rename, category_deletion, group_delete, placed_in, category_add, category_rename, category_move, category_delete}
 use Rattle.book_edits.specs.Transactions.{is_tx, tx_add, note}
-use Rattle.book_edits.specs.Budgets.{budgeted, row_made, budget_writes, budget, carryover, hold, may_move, move}
+use Rattle.book_edits.specs.Budgets.{budgeted, budget_writes, track_writes, budget, carryover, hold, may_move, move, track, track_carryover}
 use Rattle.book_edits.specs.Edits.{write_unless, book_writes, IsBookEdit}
+use Rattle.book_edits.proofs.ValidMappings.{column_writes_valid, category_delete_to_valid, payee_merge_valid}
 use Rattle.book_edits.proofs.Passing.{name_of_is, amount_is, held_is}
 use Rattle.book_edits.proofs.Valid.{inside, passed, was_so, flag_is, text_or_null_is, notes_is, day_is, month_is, month_name, name_there, new_row_is, id_value_is, write_is, all_append, all_map}
 
@@ -210,19 +211,11 @@ module _ (rows : Rows) (names : HasNames rows) where
       )
 
   -- ---- budgets
-  made_valid : (n : ℕ) (category : Text) (month : ℕ) → IsName (budget_id category month) → HoldsNumber (pos month) → AllByRecursion (IsWrite n) (row_made rows category month)
-  made_valid n category month name number =
-      let id = budget_id category month in
-      elim (is_some (map.get rows.budgets id)) as (λ b. AllByRecursion (IsWrite n) (if b then [] else write (codes "zero_budgets") (Given id) (codes "month") (Number (pos month)) ∷ write (codes "zero_budgets") (Given id) (codes "category") (IsText category) ∷ [])) [
-        | true ↦ tt
-        | false ↦ (write_is n (codes "zero_budgets") (Given id) (codes "month") (Number (pos month)) refl name refl number, (write_is n (codes "zero_budgets") (Given id) (codes "category") (IsText category) refl name refl tt, tt))
-      ]
-
   budget_writes_valid : (n : ℕ) (category : Text) (month : ℕ) (column : Text) (value : Value) → IsName (budget_id category month) → HoldsNumber (pos month) → name_fault Row column ≡ None → IsValue value → AllByRecursion (IsWrite n) (budget_writes rows category month column value)
-  budget_writes_valid n category month column value name number c v =
-      all_append (IsWrite n) (row_made rows category month) (write (codes "zero_budgets") (Given (budget_id category month)) column value ∷ [])
-      (made_valid n category month name number)
-      (write_is n (codes "zero_budgets") (Given (budget_id category month)) column value refl name c v, tt)
+  budget_writes_valid n category month column value name number c v = column_writes_valid n (is_some (map.get rows.budgets (budget_id category month))) (codes "zero_budgets") category month column value refl name number c v
+
+  track_writes_valid : (n : ℕ) (category : Text) (month : ℕ) (column : Text) (value : Value) → IsName (budget_id category month) → HoldsNumber (pos month) → name_fault Row column ≡ None → IsValue value → AllByRecursion (IsWrite n) (track_writes rows category month column value)
+  track_writes_valid n category month column value name number c v = column_writes_valid n (is_some (map.get rows.tracked (budget_id category month))) (codes "reflect_budgets") category month column value refl name number c v
 
   budget_valid : (month : ℕ) (category : Text) (amount : ℤ) (ws : List Write) → budget rows month category amount ≡ Ok ws → AreWrites ws
   budget_valid month category amount ws h =
@@ -264,6 +257,21 @@ module _ (rows : Rows) (names : HasNames rows) where
       (budget_writes_valid n from month (codes "amount") (Number less) (name_of_is (budget_id from month) (was_so _ _ _ f.1)) number refl (amount_is less (was_so _ _ _ l.1)))
       (budget_writes_valid n to month (codes "amount") (Number more) (name_of_is (budget_id to month) (was_so _ _ _ t.1)) number refl (amount_is more (was_so _ _ _ g.1))))
 
+  track_valid : (month : ℕ) (category : Text) (amount : ℤ) (ws : List Write) → track rows month category amount ≡ Ok ws → AreWrites ws
+  track_valid month category amount ws h =
+      let m = passed (a_month month) _ _ h in
+      let c = passed (live_category rows category) _ _ m.2 in
+      let a = passed (an_amount amount) _ _ c.2 in
+      let n = passed (a_name (budget_id category month)) _ _ a.2 in
+      subst AreWrites (inside _ _ n.2) (track_writes_valid _ category month (codes "amount") (Number amount) (name_of_is (budget_id category month) (was_so _ _ _ n.1)) (month_is month (was_so _ _ _ m.1)) refl (amount_is amount (was_so _ _ _ a.1)))
+
+  track_carryover_valid : (month : ℕ) (category : Text) (carries : Bool) (ws : List Write) → track_carryover rows month category carries ≡ Ok ws → AreWrites ws
+  track_carryover_valid month category carries ws h =
+      let m = passed (a_month month) _ _ h in
+      let c = passed (live_category rows category) _ _ m.2 in
+      let n = passed (a_name (budget_id category month)) _ _ c.2 in
+      subst AreWrites (inside _ _ n.2) (track_writes_valid _ category month (codes "carryover") (flag carries) (name_of_is (budget_id category month) (was_so _ _ _ n.1)) (month_is month (was_so _ _ _ m.1)) refl (flag_is carries))
+
   note_valid : (id text : Text) (ws : List Write) → note id text ≡ Ok ws → AreWrites ws
   note_valid id text ws h =
       let p = passed (a_name id) _ _ h in
@@ -284,12 +292,16 @@ module _ (rows : Rows) (names : HasNames rows) where
   writes_valid (CategoryRename id name) ws v h = category_rename_valid id name ws h
   writes_valid (CategoryMove id group) ws v h = category_move_valid id group ws h
   writes_valid (CategoryDelete id) ws v h = category_delete_valid id ws h
+  writes_valid (CategoryDeleteTo id to) ws v h = category_delete_to_valid rows names id to ws h
   writes_valid (PayeeAdd id name) ws v h = payee_add_valid id name ws h
   writes_valid (PayeeRename id name) ws v h = payee_rename_valid id name ws h
   writes_valid (PayeeDelete id) ws v h = payee_delete_valid id ws h
+  writes_valid (PayeeMerge to ids) ws v h = payee_merge_valid rows names to ids ws h
   writes_valid (TxAdd id account date amount payee category notes) ws v h = tx_add_valid id account date amount payee category notes ws h
   writes_valid (Budget month category amount) ws v h = budget_valid month category amount ws h
   writes_valid (Carryover month category carries) ws v h = carryover_valid month category carries ws h
   writes_valid (Hold month amount) ws v h = hold_valid month amount ws h
   writes_valid (Move month from to amount) ws v h = move_valid month from to amount ws h
+  writes_valid (Track month category amount) ws v h = track_valid month category amount ws h
+  writes_valid (TrackCarryover month category carries) ws v h = track_carryover_valid month category carries ws h
   writes_valid (Note id text) ws v h = note_valid id text ws h

@@ -64,7 +64,11 @@ payee_rename rows id name = do
   _ ← live_payee rows id
   Ok (write (codes "payees") (Given id) (codes "name") (IsText name) ∷ [])
 
+-- a payee is deleted
+abbrev pub payee_deletion : Text → Write
+payee_deletion id = write (codes "payees") (Given id) (codes "tombstone") (flag true)
+
 abbrev pub payee_delete : Rows → Text → Result (List Write) EditFault
 payee_delete rows id = do
   _ ← live_payee rows id
-  Ok (write (codes "payees") (Given id) (codes "tombstone") (flag true) ∷ [])
+  Ok (payee_deletion id ∷ [])

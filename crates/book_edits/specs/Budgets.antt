@@ -21,18 +21,28 @@ amount_at rows id = value_or_zero (λ b. b.amount) (map.get rows.budgets id)
 abbrev pub budgeted : Rows → Text → ℕ → ℤ
 budgeted rows category month = amount_at rows (budget_id category month)
 
--- a row that is not there is made: what it is of stands in two of its columns, for readers of the data; here its id alone tells
-abbrev pub row_made : Rows → Text → ℕ → List Write
-row_made rows category month =
-    if is_some (map.get rows.budgets (budget_id category month)) then []
-    else write (codes "zero_budgets") (Given (budget_id category month)) (codes "month") (Number (pos month))
-    ∷ write (codes "zero_budgets") (Given (budget_id category month)) (codes "category") (IsText category)
+-- a row of what a category is given in a month is made, unless it is there: what it is of stands in two of its columns, for readers of the data; here its id alone tells
+abbrev pub made_unless : Bool → Text → Text → ℕ → List Write
+made_unless there dataset category month =
+    if there then []
+    else write dataset (Given (budget_id category month)) (codes "month") (Number (pos month))
+    ∷ write dataset (Given (budget_id category month)) (codes "category") (IsText category)
     ∷ []
 
--- the writes of a column of a category's row of a month, which is made where it is not there
+-- the writes of a column of such a row, which is made unless it is there
+abbrev pub column_writes : Bool → Text → Text → ℕ → Text → Value → List Write
+column_writes there dataset category month column value =
+    made_unless there dataset category month ++ write dataset (Given (budget_id category month)) column value ∷ []
+
+abbrev pub row_made : Rows → Text → ℕ → List Write
+row_made rows category month = made_unless (is_some (map.get rows.budgets (budget_id category month))) (codes "zero_budgets") category month
+
 abbrev pub budget_writes : Rows → Text → ℕ → Text → Value → List Write
-budget_writes rows category month column value =
-    row_made rows category month ++ write (codes "zero_budgets") (Given (budget_id category month)) column value ∷ []
+budget_writes rows category month column value = column_writes (is_some (map.get rows.budgets (budget_id category month))) (codes "zero_budgets") category month column value
+
+-- the same of the tracking budget
+abbrev pub track_writes : Rows → Text → ℕ → Text → Value → List Write
+track_writes rows category month column value = column_writes (is_some (map.get rows.tracked (budget_id category month))) (codes "reflect_budgets") category month column value
 
 abbrev pub budget : Rows → ℕ → Text → ℤ → Result (List Write) EditFault
 budget rows month category amount = do
@@ -81,3 +91,20 @@ move rows month from to amount = do
   _ ← a_name (budget_id from month)
   _ ← a_name (budget_id to month)
   Ok (two_amounts rows month from (budgeted rows from month -ℤ amount) to (budgeted rows to month +ℤ amount))
+
+-- ---- the tracking budget, which gives categories that take income their amounts too
+
+abbrev pub track : Rows → ℕ → Text → ℤ → Result (List Write) EditFault
+track rows month category amount = do
+  _ ← a_month month
+  _ ← live_category rows category
+  _ ← an_amount amount
+  _ ← a_name (budget_id category month)
+  Ok (track_writes rows category month (codes "amount") (Number amount))
+
+abbrev pub track_carryover : Rows → ℕ → Text → Bool → Result (List Write) EditFault
+track_carryover rows month category carries = do
+  _ ← a_month month
+  _ ← live_category rows category
+  _ ← a_name (budget_id category month)
+  Ok (track_writes rows category month (codes "carryover") (flag carries))

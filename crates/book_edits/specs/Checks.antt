@@ -1,5 +1,5 @@
 -- What is asked of an edit. A check that fails tells a fault.
-use Rattle.std.specs.Prelude.{ℕ, ℤ, pos, negsuc, unsigned_abs, nat_le, Bool, false, not, ◌&&◌, List, length, Option, None, Some, Result, Ok, Err}
+use Rattle.std.specs.Prelude.{ℕ, ℤ, pos, negsuc, unsigned_abs, nat_le, Bool, true, false, not, ◌&&◌, List, [], ◌∷◌, length, filter, Option, None, Some, is_some, Result, Ok, Err}
 use Rattle.std.specs.Option.{is_none, option_map, option_and_then}
 use Rattle.std.specs.Result.{is_err}
 use Rattle.std.specs.List as list
@@ -9,14 +9,14 @@ use Rattle.field_values.specs.declared.name.NamePart.TheVariants.{Row}
 use Rattle.field_values.specs.Names.{name_fault}
 use Rattle.field_values.specs.Value.{largest_number}
 use Rattle.hybrid_clock.specs.Reading.{read_stamp}
-use Rattle.finite_sums.specs.Maps.{Text, text_cmp}
+use Rattle.finite_sums.specs.Maps.{Text, text_cmp, some_and}
 use Rattle.book_rows.specs.declared.rows.Rows.{Rows}
 use Rattle.book_rows.specs.declared.rows.GroupRow.{GroupRow}
 use Rattle.book_rows.specs.declared.rows.CategoryRow.{CategoryRow}
 use Rattle.book_rows.specs.declared.write.RowName.{RowName}
 use Rattle.book_rows.specs.declared.write.RowName.TheVariants.{Given, Made}
 use Rattle.book_rows.specs.declared.fault.EditFault.{EditFault}
-use Rattle.book_rows.specs.declared.fault.EditFault.TheVariants.{BadId, IdTaken, NoSuchAccount, NoSuchGroup, NoSuchCategory, NoSuchPayee, BadDate, BadAmount, BadMonth, SameAccount, ClosedAccount, IncomeCategory, NameTaken}
+use Rattle.book_rows.specs.declared.fault.EditFault.TheVariants.{BadId, IdTaken, NoSuchAccount, NoSuchGroup, NoSuchCategory, NoSuchPayee, BadDate, BadAmount, BadMonth, SameAccount, ClosedAccount, IncomeCategory, NameTaken, CategoryType, TransferPayee}
 use Rattle.book_rows.specs.Live.{is_live_account, is_live_group, is_live_payee, is_live_category, is_live_category_row, is_income_category}
 use Rattle.book_rows.specs.Kinds.{is_day}
 use Rattle.book_rows.specs.Months.{is_month}
@@ -53,6 +53,11 @@ new_row is_there (Some id) = given_row (is_there id) id
 abbrev pub same_id : Text → Text → Bool
 same_id = eq_by_cmp text_cmp
 
+-- each id once, at its first place
+abbrev pub distinct : List Text → List Text
+distinct [] = []
+distinct (id ∷ ids) = id ∷ filter (λ other. not (same_id id other)) (distinct ids)
+
 -- two ids that have to differ
 abbrev pub two_ids : Text → Text → Check
 two_ids a b = must (not (same_id a b)) (SameAccount a)
@@ -78,6 +83,23 @@ no_income rows id = must (not (is_income_category rows id)) (IncomeCategory id)
 -- an account without a balance
 abbrev pub without_balance : Rows → Text → Check
 without_balance rows id = must (int_eq (balance_of rows id) (pos 0)) (ClosedAccount (balance_of rows id))
+
+-- whether two flags are the same
+abbrev pub same_flag : Bool → Bool → Bool
+same_flag true b = b
+same_flag false b = not b
+
+-- two categories that both take income, or neither does
+abbrev pub same_kind : Rows → Text → Text → Check
+same_kind rows id to = must (same_flag (is_income_category rows id) (is_income_category rows to)) (CategoryType to)
+
+-- whether a payee stands for an account in transfers
+abbrev pub is_transfer_payee : Rows → Text → Bool
+is_transfer_payee rows id = some_and (λ p. is_some p.transfer_acct) (map.get rows.payees id)
+
+-- no payee that stands for an account
+abbrev pub no_transfer : Rows → Text → Check
+no_transfer rows id = must (not (is_transfer_payee rows id)) (TransferPayee id)
 
 -- ---- names
 

@@ -11,12 +11,13 @@ use Rattle.book_rows.specs.declared.write.Write.{Write}
 use Rattle.book_rows.specs.declared.fault.EditFault.{EditFault}
 use Rattle.book_rows.specs.declared.fault.EditFault.TheVariants.{BadId, NoMemory}
 use Rattle.book_edits.specs.declared.edit.BookEdit.{BookEdit}
-use Rattle.book_edits.specs.declared.edit.BookEdit.TheVariants.{Set, AccountAdd, AccountRename, AccountOffbudget, AccountReopen, AccountClose, GroupAdd, GroupRename, GroupDelete, CategoryAdd, CategoryRename, CategoryMove, CategoryDelete, PayeeAdd, PayeeRename, PayeeDelete, TxAdd, Budget, Carryover, Hold, Move, Note}
+use Rattle.book_edits.specs.declared.edit.BookEdit.TheVariants.{Set, AccountAdd, AccountRename, AccountOffbudget, AccountReopen, AccountClose, GroupAdd, GroupRename, GroupDelete, CategoryAdd, CategoryRename, CategoryMove, CategoryDelete, CategoryDeleteTo, PayeeAdd, PayeeRename, PayeeDelete, PayeeMerge, TxAdd, Budget, Carryover, Hold, Move, Track, TrackCarryover, Note}
 use Rattle.book_edits.specs.Writing.{write}
 use Rattle.book_edits.specs.Accounts.{account_add, account_rename, account_offbudget, account_reopen, account_close, payee_add, payee_rename, payee_delete}
 use Rattle.book_edits.specs.Categories.{group_add, group_rename, group_delete, category_add, category_rename, category_move, category_delete}
 use Rattle.book_edits.specs.Transactions.{tx_add, note}
-use Rattle.book_edits.specs.Budgets.{budget, carryover, hold, move}
+use Rattle.book_edits.specs.Budgets.{budget, carryover, hold, move, track, track_carryover}
+use Rattle.book_edits.specs.Mappings.{category_delete_to, payee_merge}
 
 -- names with a fault refuse the edit: the name that the fault is about is told
 abbrev pub bad_id : FieldNames → NameFault → EditFault
@@ -49,14 +50,18 @@ book_writes rows (CategoryAdd id group name) = category_add rows id group name
 book_writes rows (CategoryRename id name) = category_rename rows id name
 book_writes rows (CategoryMove id group) = category_move rows id group
 book_writes rows (CategoryDelete id) = category_delete rows id
+book_writes rows (CategoryDeleteTo id to) = category_delete_to rows id to
 book_writes rows (PayeeAdd id name) = payee_add rows id name
 book_writes rows (PayeeRename id name) = payee_rename rows id name
 book_writes rows (PayeeDelete id) = payee_delete rows id
+book_writes rows (PayeeMerge to ids) = payee_merge rows to ids
 book_writes rows (TxAdd id account date amount payee category notes) = tx_add rows id account date amount payee category notes
 book_writes rows (Budget month category amount) = budget rows month category amount
 book_writes rows (Carryover month category carries) = carryover rows month category carries
 book_writes rows (Hold month amount) = hold month amount
 book_writes rows (Move month from to amount) = move rows month from to amount
+book_writes rows (Track month category amount) = track rows month category amount
+book_writes rows (TrackCarryover month category carries) = track_carryover rows month category carries
 book_writes rows (Note id text) = note id text
 
 -- the values of an edit are valid

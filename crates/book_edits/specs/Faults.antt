@@ -1,5 +1,5 @@
 -- Checks one after the other: the first that fails refuses an edit.
-use Rattle.std.specs.Prelude.{◌≡◌, Bool, Option, None, Some, Result, Ok, Err, if◌then◌else◌}
+use Rattle.std.specs.Prelude.{◌≡◌, Bool, List, [], ◌∷◌, Option, None, Some, Result, Ok, Err, if◌then◌else◌}
 use Rattle.book_rows.specs.declared.fault.EditFault.{EditFault}
 use Rattle.book_rows.specs.declared.fault.EditFault.TheVariants.{NoMemory}
 
@@ -21,6 +21,13 @@ must b fault = if b then Ok tt else Err fault
 abbrev pub if_there : {A : Type 0} → (A → Check) → Option A → Check
 if_there check None = Ok tt
 if_there check (Some a) = check a
+
+-- a check of each, one after the other
+abbrev pub each : {A : Type 0} → (A → Check) → List A → Check
+each check [] = Ok tt
+each check (a ∷ rest) = do
+  _ ← check a
+  each check rest
 
 -- memory ran out, or it is the fault that is due
 abbrev pub IsEditFault : {A : Type 0} → Result A EditFault → EditFault → Type 0

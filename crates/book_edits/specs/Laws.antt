@@ -13,6 +13,7 @@ use Rattle.book_rows.specs.declared.fault.EditFault.TheVariants.{NameTaken}
 use Rattle.book_rows.specs.Live.{is_live_category}
 use Rattle.book_edits.specs.Checks.{free_group_name, free_category_name}
 use Rattle.book_edits.specs.Budgets.{budgeted, two_amounts, budget, carryover, move}
+use Rattle.book_edits.specs.Mappings.{category_delete_to}
 
 -- a group that was not deleted has the name
 pub record IsGroupNamed (rows : Rows) (name id : Text) : Type 0 where
@@ -44,6 +45,7 @@ pub record IdsAloneChoose (rows : Rows) (budgets : Texts BudgetRow) (same : (id 
   pub budget : (month : ℕ) (category : Text) (amount : ℤ) → budget rows month category amount ≡ budget (record rows { budgets = budgets }) month category amount
   pub carryover : (month : ℕ) (category : Text) (carries : Bool) → carryover rows month category carries ≡ carryover (record rows { budgets = budgets }) month category carries
   pub move : (month : ℕ) (from to : Text) (amount : ℤ) → move rows month from to amount ≡ move (record rows { budgets = budgets }) month from to amount
+  pub handed_on : (id to : Text) → category_delete_to rows id to ≡ category_delete_to (record rows { budgets = budgets }) id to
 
 -- what one category is given less the other one is given more: both together are given what they were given before
 abbrev pub MovesKeepMoney : Type 0

@@ -5,5 +5,6 @@ pub mod Accounts
 pub mod Categories
 pub mod Transactions
 pub mod Budgets
+pub mod Mappings
 pub mod Edits
 pub mod Laws

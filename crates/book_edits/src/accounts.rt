@@ -1,5 +1,5 @@
 //! Edits of accounts and payees.
-ghost use Rattle.std.specs.Prelude.{◌≡◌, OnOk, IfOk, IfErr, Ok, false};
+ghost use Rattle.std.specs.Prelude.{◌≡◌, IfOk, IfErr, Ok, false};
 ghost use Rattle.book_edits.specs.Faults.{IsEditFault};
 ghost use Rattle.book_edits.specs.Checks.{new_row};
 ghost use Rattle.book_edits.specs.Accounts.{is_account, is_payee, account_writes, account_add, account_rename, account_offbudget, account_reopen, account_close, payee_add, payee_rename, payee_delete};

@@ -3,7 +3,7 @@ ghost use Rattle.std.specs.Prelude.{◌≡◌, ◌++◌, ◌+ℤ◌, ◌-ℤ◌,
 ghost use Rattle.book_rows.specs.Ids.{budget_id};
 ghost use Rattle.book_edits.specs.Faults.{IsEditFault};
 ghost use Rattle.book_edits.specs.Checks.{an_amount};
-ghost use Rattle.book_edits.specs.Budgets.{amount_at, row_made, budget_writes, budget, carryover, hold, two_amounts, may_move, move};
+ghost use Rattle.book_edits.specs.Budgets.{amount_at, made_unless, column_writes, budget_writes, track_writes, budget, carryover, hold, two_amounts, may_move, move, track, track_carryover};
 
 use crate::checks::{live_category, no_income};
 use crate::given::{a_held, a_month, a_name, an_amount, as_amount, two_ids};
@@ -13,7 +13,7 @@ use field_values::{NoMemory, Txt, Value};
 use std::alloc::Global;
 
 /// The amount of a budget row, 0 where it is not there.
-fn amount_at(book: &Book, id: &Txt) -> i64
+pub(crate) fn amount_at(book: &Book, id: &Txt) -> i64
     ensures { result ≡ amount_at book.now.rows id.now }
 {
     match book.budget_row(id) {
@@ -22,30 +22,52 @@ fn amount_at(book: &Book, id: &Txt) -> i64
     }
 }
 
-/// Puts the writes that make a category's row of a month behind others, where it is not there.
+/// Puts the writes that make the row of what a category is given in a month behind others, unless it is there.
 fn push_row(
     alloc: Global,
     writes: &mut Vec<Write>,
-    book: &Book,
+    there: bool,
+    dataset: &str,
     id: &Txt,
     category: &Txt,
     month: u32,
 ) -> Result<(), NoMemory>
     requires { id.now ≡ budget_id category.now month }
-    ensures { OnOk result (writes.new.items ≡ writes.old.items ++ row_made book.now.rows category.now month) }
+    ensures { OnOk result (writes.new.items ≡ writes.old.items ++ made_unless there dataset.now category.now month) }
 {
-    if book.budget_row(id).is_some() {
+    if there {
         return Ok(());
     }
     let row = RowName::Given(id.copy()?);
     let month = number(month);
-    push(alloc, writes, "zero_budgets", &row, "month", month)?;
+    push(alloc, writes, dataset, &row, "month", month)?;
     let category = text(category)?;
-    push(alloc, writes, "zero_budgets", &row, "category", category)
+    push(alloc, writes, dataset, &row, "category", category)
 }
 
-/// Puts the writes of a column of a category's row of a month behind others.
-fn push_column(
+/// Puts the writes of a column of the row of what a category is given in a month behind others. The row is made, unless it is there.
+fn push_cell(
+    alloc: Global,
+    writes: &mut Vec<Write>,
+    there: bool,
+    dataset: &str,
+    id: &Txt,
+    category: &Txt,
+    month: u32,
+    column: &str,
+    value: Value,
+) -> Result<(), NoMemory>
+    requires { id.now ≡ budget_id category.now month }
+    ensures { OnOk result (writes.new.items ≡ writes.old.items ++ column_writes there dataset.now category.now month column.now value) }
+{
+    push_row(alloc, writes, there, dataset, id, category, month)?;
+    let row = RowName::Given(id.copy()?);
+    push(alloc, writes, dataset, &row, column, value)
+}
+
+/// Puts the writes of a column of the row of what a category is given in a month behind others. The id is that of the row, which is
+/// made where it is not there.
+pub fn push_column(
     alloc: Global,
     writes: &mut Vec<Write>,
     book: &Book,
@@ -58,9 +80,47 @@ fn push_column(
     requires { id.now ≡ budget_id category.now month }
     ensures { OnOk result (writes.new.items ≡ writes.old.items ++ budget_writes book.now.rows category.now month column.now value) }
 {
-    push_row(alloc, writes, book, id, category, month)?;
-    let row = RowName::Given(id.copy()?);
-    push(alloc, writes, "zero_budgets", &row, column, value)
+    let there = book.budget_row(id).is_some();
+    push_cell(
+        alloc,
+        writes,
+        there,
+        "zero_budgets",
+        id,
+        category,
+        month,
+        column,
+        value,
+    )
+}
+
+/// The writes of a column of the row of what the tracking budget gives a category in a month, which is made where it is not there.
+fn track_writes(
+    alloc: Global,
+    book: &Book,
+    id: &Txt,
+    category: &Txt,
+    month: u32,
+    column: &str,
+    value: Value,
+) -> Result<Vec<Write>, NoMemory>
+    requires { id.now ≡ budget_id category.now month }
+    ensures { IfOk result (λ ws. ws.items ≡ track_writes book.now.rows category.now month column.now value) }
+{
+    let there = book.track_row(id).is_some();
+    let mut writes = Vec::new(alloc);
+    push_cell(
+        alloc,
+        &mut writes,
+        there,
+        "reflect_budgets",
+        id,
+        category,
+        month,
+        column,
+        value,
+    )?;
+    Ok(writes)
 }
 
 /// Gives a category an amount in a month.
@@ -162,7 +222,7 @@ fn given_less(book: &Book, id: &Txt, amount: i64) -> Result<i64, EditFault>
 }
 
 /// What the row has with an amount more, as a value holds it.
-fn given_more(book: &Book, id: &Txt, amount: i64) -> Result<i64, EditFault>
+pub(crate) fn given_more(book: &Book, id: &Txt, amount: i64) -> Result<i64, EditFault>
     ensures ok { IfOk result (λ m. (m ≡ amount_at book.now.rows id.now +ℤ amount) × (an_amount (amount_at book.now.rows id.now +ℤ amount) ≡ Ok tt)) }
     ensures err { IfErr result (IsEditFault (an_amount (amount_at book.now.rows id.now +ℤ amount))) }
 {
@@ -223,4 +283,43 @@ pub(crate) fn move_amount(
     a_name(&source)?;
     a_name(&target)?;
     Ok(moved(alloc, book, month, from, &source, less, to, &target, more)?)
+}
+
+/// Gives a category an amount in a month of the tracking budget.
+pub(crate) fn track(
+    alloc: Global,
+    book: &Book,
+    month: u32,
+    category: &Txt,
+    amount: i64,
+) -> Result<Vec<Write>, EditFault>
+    ensures ok { IfOk result (λ ws. track book.now.rows month category.now amount ≡ Ok ws.items) }
+    ensures err { IfErr result (IsEditFault (track book.now.rows month category.now amount)) }
+{
+    a_month(month)?;
+    live_category(book, category)?;
+    an_amount(i128::from(amount))?;
+    let id = budget_id(alloc, category, month)?;
+    a_name(&id)?;
+    let value = Value::Number(amount);
+    Ok(track_writes(alloc, book, &id, category, month, "amount", value)?)
+}
+
+/// Says whether what a category has left in a month of the tracking budget goes on to the next.
+pub(crate) fn track_carryover(
+    alloc: Global,
+    book: &Book,
+    month: u32,
+    category: &Txt,
+    carries: bool,
+) -> Result<Vec<Write>, EditFault>
+    ensures ok { IfOk result (λ ws. track_carryover book.now.rows month category.now carries ≡ Ok ws.items) }
+    ensures err { IfErr result (IsEditFault (track_carryover book.now.rows month category.now carries)) }
+{
+    a_month(month)?;
+    live_category(book, category)?;
+    let id = budget_id(alloc, category, month)?;
+    a_name(&id)?;
+    let value = flag(carries);
+    Ok(track_writes(alloc, book, &id, category, month, "carryover", value)?)
 }

@@ -1,14 +1,12 @@
 //! Edits of groups and of their categories.
 ghost use Rattle.std.specs.Prelude.{◌≡◌, ◌++◌, ◌∷◌, [], map as list_map, OnOk, IfOk, IfErr, Ok};
-ghost use Rattle.std.specs.FinMap as map;
-ghost use Rattle.finite_sums.specs.Maps.{keys_where};
 ghost use Rattle.book_edits.specs.Faults.{IsEditFault};
 ghost use Rattle.book_edits.specs.Checks.{new_row};
 ghost use Rattle.book_edits.specs.Categories.{is_group, is_category, is_live_in, categories_of, group_add, group_rename, category_deletion, group_deletion, group_delete, placed_in, category_add, category_rename, category_move, category_delete};
 
 use crate::checks::{is_live_row, live_category, live_group, takes_income};
-use crate::given::given_row;
-use crate::names::{free_beside, free_category_name, free_group_name, free_in, is_text};
+use crate::given::{given_row, is_text};
+use crate::names::{free_beside, free_category_name, free_group_name, free_in};
 use crate::writing::{flag, one, push, text};
 use book_rows::{Book, CategoryRow, EditFault, RowName, Write};
 use field_values::{NoMemory, Txt};
@@ -80,7 +78,11 @@ pub(crate) fn group_rename(
 }
 
 /// Puts the write that deletes a category behind others.
-fn push_deletion(alloc: Global, writes: &mut Vec<Write>, id: &Txt) -> Result<(), NoMemory>
+pub(crate) fn push_deletion(
+    alloc: Global,
+    writes: &mut Vec<Write>,
+    id: &Txt,
+) -> Result<(), NoMemory>
     ensures { OnOk result (writes.new.items ≡ writes.old.items ++ category_deletion id.now ∷ []) }
 {
     let row = RowName::Given(id.copy()?);

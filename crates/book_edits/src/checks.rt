@@ -2,7 +2,7 @@
 ghost use Rattle.std.specs.Prelude.{◌≡◌, OnOk, IfErr, Ok, false};
 ghost use Rattle.book_rows.specs.Live.{is_live_account, is_live_group, is_live_payee, is_live_category, is_live_category_row, has_income_group, is_income_category, is_live_tx};
 ghost use Rattle.book_edits.specs.Faults.{IsEditFault, if_there};
-ghost use Rattle.book_edits.specs.Checks.{live_account, live_group, live_category, live_payee, no_income, without_balance};
+ghost use Rattle.book_edits.specs.Checks.{live_account, live_group, live_category, live_payee, no_income, without_balance, same_kind, is_transfer_payee, no_transfer};
 ghost use Rattle.book_edits.specs.Categories.{takes_income};
 
 use crate::uncounted::tx;
@@ -83,7 +83,7 @@ pub(crate) fn takes_income(book: &Book, group: &Txt) -> bool
 }
 
 /// Whether a live category of this id takes income.
-fn is_income_category(book: &Book, id: &Txt) -> bool
+pub(crate) fn is_income_category(book: &Book, id: &Txt) -> bool
     ensures { result ≡ is_income_category book.now.rows id.now }
 {
     match book.category(id) {
@@ -199,4 +199,36 @@ pub(crate) fn without_balance(book: &Book, id: &Txt) -> Result<(), EditFault>
         return Ok(());
     }
     Err(EditFault::ClosedAccount { balance })
+}
+
+/// Two categories that both take income, or neither does.
+pub(crate) fn same_kind(book: &Book, id: &Txt, to: &Txt) -> Result<(), EditFault>
+    ensures ok { OnOk result (same_kind book.now.rows id.now to.now ≡ Ok tt) }
+    ensures err { IfErr result (IsEditFault (same_kind book.now.rows id.now to.now)) }
+{
+    if is_income_category(book, id) == is_income_category(book, to) {
+        return Ok(());
+    }
+    Err(EditFault::CategoryType { id: to.copy()? })
+}
+
+/// Whether a payee of this id stands for an account in transfers.
+fn is_transfer_payee(book: &Book, id: &Txt) -> bool
+    ensures { result ≡ is_transfer_payee book.now.rows id.now }
+{
+    match book.payee(id) {
+        Some(row) => row.transfer_acct.is_some(),
+        None => false,
+    }
+}
+
+/// No payee that stands for an account.
+pub(crate) fn no_transfer(book: &Book, id: &Txt) -> Result<(), EditFault>
+    ensures ok { OnOk result (no_transfer book.now.rows id.now ≡ Ok tt) }
+    ensures err { IfErr result (IsEditFault (no_transfer book.now.rows id.now)) }
+{
+    if is_transfer_payee(book, id) {
+        return Err(EditFault::TransferPayee { id: id.copy()? });
+    }
+    Ok(())
 }

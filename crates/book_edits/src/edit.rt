@@ -1,8 +1,9 @@
 //! Edits of a household's books.
 ghost use Rattle.std.specs.Prelude.{◌≡◌, IfOk};
 
-use crate::writing::copied;
-use field_values::{NoMemory, Txt, Value};
+use book_rows::copied;
+use field_values::{Items, NoMemory, Txt, Value};
+use std::alloc::Global;
 
 /// A plain edit of a household's books: one that touches no split and no transfer, but that `Set` may write any field.
 ///
@@ -76,6 +77,12 @@ pub enum BookEdit {
     CategoryDelete {
         id: Txt,
     },
+    /// Deletes a category, and hands its transactions, and what it is given, on to another one of its kind. Both take income, or
+    /// neither does.
+    CategoryDeleteTo {
+        id: Txt,
+        to: Txt,
+    },
     /// Adds a payee.
     PayeeAdd {
         id: Option<Txt>,
@@ -89,6 +96,12 @@ pub enum BookEdit {
     /// Deletes a payee.
     PayeeDelete {
         id: Txt,
+    },
+    /// Deletes payees, and hands their transactions on to another one. None of them stands for an account. An id that comes again is
+    /// passed over.
+    PayeeMerge {
+        to: Txt,
+        ids: Items<Txt>,
     },
     /// Adds a transaction. Empty notes are none.
     TxAdd {
@@ -124,6 +137,18 @@ pub enum BookEdit {
         to: Txt,
         amount: i64,
     },
+    /// Gives a category an amount in a month of the tracking budget.
+    Track {
+        month: u32,
+        category: Txt,
+        amount: i64,
+    },
+    /// Says whether what a category has left in a month of the tracking budget goes on to the next.
+    TrackCarryover {
+        month: u32,
+        category: Txt,
+        flag: bool,
+    },
     /// Notes a text under an id.
     Note {
         id: Txt,
@@ -133,7 +158,7 @@ pub enum BookEdit {
 
 impl BookEdit {
     /// An equal edit.
-    pub fn copy(&self) -> Result<BookEdit, NoMemory>
+    pub fn copy(&self, alloc: Global) -> Result<BookEdit, NoMemory>
         ensures { IfOk result (λ edit. edit ≡ self.now) }
     {
         match self {
@@ -191,6 +216,10 @@ impl BookEdit {
                 group: group.copy()?,
             }),
             BookEdit::CategoryDelete { id } => Ok(BookEdit::CategoryDelete { id: id.copy()? }),
+            BookEdit::CategoryDeleteTo { id, to } => Ok(BookEdit::CategoryDeleteTo {
+                id: id.copy()?,
+                to: to.copy()?,
+            }),
             BookEdit::PayeeAdd { id, name } => Ok(BookEdit::PayeeAdd {
                 id: copied(id)?,
                 name: name.copy()?,
@@ -200,6 +229,10 @@ impl BookEdit {
                 name: name.copy()?,
             }),
             BookEdit::PayeeDelete { id } => Ok(BookEdit::PayeeDelete { id: id.copy()? }),
+            BookEdit::PayeeMerge { to, ids } => Ok(BookEdit::PayeeMerge {
+                to: to.copy()?,
+                ids: ids.copy(alloc)?,
+            }),
             BookEdit::TxAdd {
                 id,
                 account,
@@ -249,6 +282,24 @@ impl BookEdit {
                 from: from.copy()?,
                 to: to.copy()?,
                 amount: *amount,
+            }),
+            BookEdit::Track {
+                month,
+                category,
+                amount,
+            } => Ok(BookEdit::Track {
+                month: *month,
+                category: category.copy()?,
+                amount: *amount,
+            }),
+            BookEdit::TrackCarryover {
+                month,
+                category,
+                flag,
+            } => Ok(BookEdit::TrackCarryover {
+                month: *month,
+                category: category.copy()?,
+                flag: *flag,
             }),
             BookEdit::Note { id, text } => Ok(BookEdit::Note {
                 id: id.copy()?,

@@ -9,12 +9,13 @@ use crate::accounts::{
     account_add, account_close, account_offbudget, account_rename, account_reopen, payee_add,
     payee_delete, payee_rename,
 };
-use crate::budgets::{budget, carryover, hold, move_amount};
+use crate::budgets::{budget, carryover, hold, move_amount, track, track_carryover};
 use crate::categories::{
     category_add, category_delete, category_move, category_rename, group_add, group_delete,
     group_rename,
 };
 use crate::edit::BookEdit;
+use crate::mappings::{category_delete_to, payee_merge};
 use crate::set::set_writes;
 use crate::transactions::{note, tx_add};
 use book_rows::{Book, EditFault, Write};
@@ -52,9 +53,11 @@ fn make(alloc: Global, book: &Book, edit: &BookEdit) -> Result<Vec<Write>, EditF
         BookEdit::CategoryRename { id, name } => category_rename(alloc, book, id, name),
         BookEdit::CategoryMove { id, group } => category_move(alloc, book, id, group),
         BookEdit::CategoryDelete { id } => category_delete(alloc, book, id),
+        BookEdit::CategoryDeleteTo { id, to } => category_delete_to(alloc, book, id, to),
         BookEdit::PayeeAdd { id, name } => payee_add(alloc, book, id, name),
         BookEdit::PayeeRename { id, name } => payee_rename(alloc, book, id, name),
         BookEdit::PayeeDelete { id } => payee_delete(alloc, book, id),
+        BookEdit::PayeeMerge { to, ids } => payee_merge(alloc, book, to, ids.as_slice()),
         BookEdit::TxAdd {
             id,
             account,
@@ -83,6 +86,16 @@ fn make(alloc: Global, book: &Book, edit: &BookEdit) -> Result<Vec<Write>, EditF
             to,
             amount,
         } => move_amount(alloc, book, *month, from, to, *amount),
+        BookEdit::Track {
+            month,
+            category,
+            amount,
+        } => track(alloc, book, *month, category, *amount),
+        BookEdit::TrackCarryover {
+            month,
+            category,
+            flag,
+        } => track_carryover(alloc, book, *month, category, *flag),
         BookEdit::Note { id, text } => note(alloc, id, text),
     }
 }

@@ -1,23 +1,12 @@
 //! Names that have to be free: among groups, and among the categories of one group.
 ghost use Rattle.std.specs.Prelude.{◌≡◌, OnOk, IfErr, Ok};
-ghost use Rattle.book_rows.specs.Parts.{is_text};
 ghost use Rattle.book_edits.specs.Faults.{IsEditFault, if_there};
 ghost use Rattle.book_edits.specs.Checks.{is_group_named, free_group_name, is_category_named, free_category_name, group_of, name_of};
 
 use crate::checks::is_live_row;
-use crate::given::same_id;
+use crate::given::is_text;
 use book_rows::{Book, CategoryRow, EditFault, GroupRow};
 use field_values::Txt;
-
-/// Whether the text is there and is this one.
-pub(crate) fn is_text(text: &Txt, own: &Option<Txt>) -> bool
-    ensures { result ≡ is_text text.now own.now }
-{
-    match own {
-        Some(own) => same_id(own, text),
-        None => false,
-    }
-}
 
 /// Whether a live group has the name.
 fn is_group_named(name: &Txt, row: &GroupRow) -> bool

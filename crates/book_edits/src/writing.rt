@@ -4,6 +4,7 @@ ghost use Rattle.field_values.specs.declared.value.Value.TheVariants.{Number, Te
 ghost use Rattle.book_rows.specs.declared.write.RowName.TheVariants.{Given};
 ghost use Rattle.book_edits.specs.Writing.{write, flag, text_or_null, notes_value, id_value};
 
+pub use book_rows::copied;
 use book_rows::{RowName, Write, WriteValue};
 use field_values::{NoMemory, Txt, Value};
 use std::alloc::Global;
@@ -36,16 +37,6 @@ pub fn text_or_null(text: &Option<Txt>) -> Result<Value, NoMemory>
     match text {
         Some(text) => Ok(Value::Text(text.copy()?)),
         None => Ok(Value::Null),
-    }
-}
-
-/// A copy of a text that may be absent.
-pub fn copied(text: &Option<Txt>) -> Result<Option<Txt>, NoMemory>
-    ensures { IfOk result (λ t. t ≡ text.now) }
-{
-    match text {
-        Some(text) => Ok(Some(text.copy()?)),
-        None => Ok(None),
     }
 }
 

@@ -1,7 +1,6 @@
 -- The numbers that are added up stay such as a value may hold.
-use Rattle.std.proofs.Common.{◌≡◌, Bool, true, false, cond, Option, Some, None, refl, sym, ◌∙◌, if◌then◌else◌, subst}
+use Rattle.std.proofs.Common.{◌≡◌, ℕ, Bool, true, false, cond, Option, Some, None, refl, sym, ◌∙◌, if◌then◌else◌, subst}
 use Rattle.std.specs.Prelude.{is_some, unwrap_or}
-use lib.IntN.{ℤ}
 use Rattle.std.specs.Ordering.{eq_by_cmp}
 use Rattle.std.specs.FinMap as map
 use Rattle.field_values.specs.declared.value.Value.{Value}
@@ -10,46 +9,52 @@ use Rattle.field_values.specs.Value.{HoldsNumber, IsValue}
 use Rattle.finite_sums.specs.Maps.{Text, Texts, text_cmp}
 use Rattle.finite_sums.proofs.Texts.{text_total}
 use Rattle.book_rows.specs.declared.column.Column.{Column}
-use Rattle.book_rows.specs.declared.column.Column.TheVariants.{Acct, Date, Amount, Category, Description, Notes, Name, Tombstone, SortOrder, Cleared, Reconciled, Note, IsParent, IsChild, ParentId, TransferredId, Schedule, ImportedDescription, FinancialId, CatGroup, IsIncome, Hidden, Offbudget, Closed, TransferAcct, Month, Carryover, Buffered, Stage, ConditionsOp, Conditions, Actions, Rule, NextDate, Completed, PostsTransaction}
+use Rattle.book_rows.specs.declared.column.Column.TheVariants.{Acct, Date, Amount, Category, Description, Notes, Name, Tombstone, SortOrder, Cleared, Reconciled, Note, IsParent, IsChild, ParentId, TransferredId, Schedule, ImportedDescription, FinancialId, CatGroup, IsIncome, Hidden, Offbudget, Closed, TransferAcct, Month, Carryover, Buffered, Stage, ConditionsOp, Conditions, Actions, Rule, NextDate, Completed, PostsTransaction, TransferId, TargetId}
 use Rattle.book_rows.specs.declared.rows.TxRow.{TxRow}
 use Rattle.book_rows.specs.declared.rows.BudgetRow.{BudgetRow}
 use Rattle.book_rows.specs.declared.rows.MonthRow.{MonthRow}
 use Rattle.book_rows.specs.Tables.{Table, blank_row, with_column}
 use Rattle.book_rows.specs.Rules.{tx_table, budget_table, month_table, with_tx_column, with_budget_column, with_month_column}
-use Rattle.book_rows.specs.Book.{AreBounded}
+use Rattle.book_rows.specs.Kinds.{is_day}
+use Rattle.book_rows.specs.Book.{AreBounded, HaveDays}
 use Rattle.book_rows.proofs.Named.{held}
+use Rattle.book_rows.proofs.Days.{day_told}
 
-module _ {Row : Type 0} (table : Table Row) (f : Row → ℤ) where
-  abbrev Bounded : Texts Row → Type 0
-  Bounded rows = (id : Text) (x : Row) → map.get rows id ≡ Some x → HoldsNumber (f x)
+module _ {Row : Type 0} (table : Table Row) (P : Row → Type 0) where
+  abbrev All : Texts Row → Type 0
+  All rows = (id : Text) (x : Row) → map.get rows id ≡ Some x → P x
 
-  bounded : (id : Text) (column : Column) (value : Value) (rows new : Texts Row) → Bounded rows → new ≡ with_column table id column value rows
-      → ((row : Row) → HoldsNumber (f row) → HoldsNumber (f (table.set column value row))) → HoldsNumber (f (blank_row table id)) → Bounded new
-  bounded id column value rows new h set_one step none =
-      subst Bounded (sym set_one) (by (is_some (table.kind column)))
+  kept : (id : Text) (column : Column) (value : Value) (rows new : Texts Row) → All rows → new ≡ with_column table id column value rows
+      → ((row : Row) → P row → P (table.set column value row)) → P (blank_row table id) → All new
+  kept id column value rows new h set_one step none =
+      subst All (sym set_one) (by (is_some (table.kind column)))
     where
       one : Row
       one = table.set column value (unwrap_or (map.get rows id) (blank_row table id))
 
-      was : (o : Option Row) → ((x : Row) → o ≡ Some x → HoldsNumber (f x)) → HoldsNumber (f (unwrap_or o (blank_row table id)))
+      was : (o : Option Row) → ((x : Row) → o ≡ Some x → P x) → P (unwrap_or o (blank_row table id))
       was None k = none
       was (Some x) k = k x refl
 
       some_is : {A : Type 0} (x y : A) → Some x ≡ Some y → x ≡ y
       some_is x y e = cc
 
-      pick : (b : Bool) (q : Text) (x : Row) → cond b (Some one) (map.get rows q) ≡ Some x → HoldsNumber (f x)
-      pick true q x e = subst (λ y. HoldsNumber (f y)) (some_is one x e) (step (unwrap_or (map.get rows id) (blank_row table id)) (was (map.get rows id) (h id)))
+      pick : (b : Bool) (q : Text) (x : Row) → cond b (Some one) (map.get rows q) ≡ Some x → P x
+      pick true q x e = subst P (some_is one x e) (step (unwrap_or (map.get rows id) (blank_row table id)) (was (map.get rows id) (h id)))
       pick false q x e = h q x e
 
-      by : (b : Bool) → Bounded (if b then map.insert rows id one else rows)
+      by : (b : Bool) → All (if b then map.insert rows id one else rows)
       by true = λ q x e. pick (eq_by_cmp text_cmp q id) q x (sym (map.get-insert text_total rows id one q) ∙ e)
       by false = h
 
-tx_step : (column : Column) (value : Value) → IsValue value → (row : TxRow) → HoldsNumber row.amount → HoldsNumber (with_tx_column column value row).amount
+-- a transaction's amount may be held, and its day is one
+abbrev IsSound : TxRow → Type 0
+IsSound x = HoldsNumber x.amount × ((day : ℕ) → x.date ≡ Some day → is_day day ≡ true)
+
+tx_step : (column : Column) (value : Value) → IsValue value → (row : TxRow) → IsSound row → IsSound (with_tx_column column value row)
 tx_step Acct value v row h = h
-tx_step Date value v row h = h
-tx_step Amount value v row h = held value v
+tx_step Date value v row h = (h.0, day_told value)
+tx_step Amount value v row h = (held value v, h.1)
 tx_step Category value v row h = h
 tx_step Description value v row h = h
 tx_step Notes value v row h = h
@@ -83,6 +88,8 @@ tx_step Rule value v row h = h
 tx_step NextDate value v row h = h
 tx_step Completed value v row h = h
 tx_step PostsTransaction value v row h = h
+tx_step TransferId value v row h = h
+tx_step TargetId value v row h = h
 
 budget_step : (column : Column) (value : Value) → IsValue value → (row : BudgetRow) → HoldsNumber row.amount → HoldsNumber (with_budget_column column value row).amount
 budget_step Acct value v row h = h
@@ -121,6 +128,8 @@ budget_step Rule value v row h = h
 budget_step NextDate value v row h = h
 budget_step Completed value v row h = h
 budget_step PostsTransaction value v row h = h
+budget_step TransferId value v row h = h
+budget_step TargetId value v row h = h
 
 month_step : (column : Column) (value : Value) → IsValue value → (row : MonthRow) → HoldsNumber row.buffered → HoldsNumber (with_month_column column value row).buffered
 month_step Acct value v row h = h
@@ -159,12 +168,27 @@ month_step Rule value v row h = h
 month_step NextDate value v row h = h
 month_step Completed value v row h = h
 month_step PostsTransaction value v row h = h
+month_step TransferId value v row h = h
+month_step TargetId value v row h = h
 
-pub tx_bounded : (xs : Texts TxRow) (bs : Texts BudgetRow) (ms : Texts MonthRow) (new : Texts TxRow) (id : Text) (column : Column) (value : Value) → IsValue value → AreBounded xs bs ms → new ≡ with_column tx_table id column value xs → AreBounded new bs ms
-tx_bounded xs bs ms new id column value v h set_one = record { txs = bounded tx_table (λ x. x.amount) id column value xs new h.txs set_one (tx_step column value v) (held Null tt); budgets = h.budgets; months = h.months }
+no_day : (day : ℕ) → None ≡ Some day → is_day day ≡ true
+no_day day h = cc
 
-pub budget_bounded : (xs : Texts TxRow) (bs : Texts BudgetRow) (ms : Texts MonthRow) (new : Texts BudgetRow) (id : Text) (column : Column) (value : Value) → IsValue value → AreBounded xs bs ms → new ≡ with_column budget_table id column value bs → AreBounded xs new ms
-budget_bounded xs bs ms new id column value v h set_one = record { txs = h.txs; budgets = bounded budget_table (λ x. x.amount) id column value bs new h.budgets set_one (budget_step column value v) (held Null tt); months = h.months }
+module _ (xs : Texts TxRow) (bs : Texts BudgetRow) (ms : Texts MonthRow) (ts : Texts BudgetRow) (id : Text) (column : Column) (value : Value) (v : IsValue value) (h : AreBounded xs bs ms ts) where
+  tx_sound : HaveDays xs → (new : Texts TxRow) → new ≡ with_column tx_table id column value xs → (q : Text) (x : TxRow) → map.get new q ≡ Some x → IsSound x
+  tx_sound days new set_one = kept tx_table IsSound id column value xs new (λ q x k. (h.txs q x k, λ day e. days q x day k e)) set_one (tx_step column value v) (held Null tt, no_day)
 
-pub month_bounded : (xs : Texts TxRow) (bs : Texts BudgetRow) (ms : Texts MonthRow) (new : Texts MonthRow) (id : Text) (column : Column) (value : Value) → IsValue value → AreBounded xs bs ms → new ≡ with_column month_table id column value ms → AreBounded xs bs new
-month_bounded xs bs ms new id column value v h set_one = record { txs = h.txs; budgets = h.budgets; months = bounded month_table (λ x. x.buffered) id column value ms new h.months set_one (month_step column value v) (held Null tt) }
+  pub tx_bounded : HaveDays xs → (new : Texts TxRow) → new ≡ with_column tx_table id column value xs → AreBounded new bs ms ts
+  tx_bounded days new set_one = record { txs = λ q x k. (tx_sound days new set_one q x k).0; budgets = h.budgets; months = h.months; tracked = h.tracked }
+
+  pub tx_days : HaveDays xs → (new : Texts TxRow) → new ≡ with_column tx_table id column value xs → HaveDays new
+  tx_days days new set_one q x day k e = (tx_sound days new set_one q x k).1 day e
+
+  pub budget_bounded : (new : Texts BudgetRow) → new ≡ with_column budget_table id column value bs → AreBounded xs new ms ts
+  budget_bounded new set_one = record { txs = h.txs; budgets = kept budget_table (λ x. HoldsNumber x.amount) id column value bs new h.budgets set_one (budget_step column value v) (held Null tt); months = h.months; tracked = h.tracked }
+
+  pub month_bounded : (new : Texts MonthRow) → new ≡ with_column month_table id column value ms → AreBounded xs bs new ts
+  month_bounded new set_one = record { txs = h.txs; budgets = h.budgets; months = kept month_table (λ x. HoldsNumber x.buffered) id column value ms new h.months set_one (month_step column value v) (held Null tt); tracked = h.tracked }
+
+  pub track_bounded : (new : Texts BudgetRow) → new ≡ with_column budget_table id column value ts → AreBounded xs bs ms new
+  track_bounded new set_one = record { txs = h.txs; budgets = h.budgets; months = h.months; tracked = kept budget_table (λ x. HoldsNumber x.amount) id column value ts new h.tracked set_one (budget_step column value v) (held Null tt) }

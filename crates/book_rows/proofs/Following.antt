@@ -8,20 +8,20 @@ use Rattle.std.specs.FinMap as map
 use Rattle.field_values.specs.declared.value.Value.{Value}
 use Rattle.field_values.specs.declared.value.Value.TheVariants.{Null}
 use Rattle.field_values.specs.Names.{FieldNames, field_of, names_eq}
-use Rattle.finite_sums.specs.Maps.{Text, Texts, text_cmp}
+use Rattle.finite_sums.specs.Maps.{Text, Texts, text_cmp, some_and}
 use Rattle.finite_sums.proofs.Texts.{text_total, text_same}
 use Rattle.book_rows.specs.declared.column.Dataset.{Dataset}
-use Rattle.book_rows.specs.declared.column.Dataset.TheVariants.{Accounts, CategoryGroups, Categories, Payees, Transactions, ZeroBudgets, ZeroBudgetMonths, Notes, Rules, Schedules}
+use Rattle.book_rows.specs.declared.column.Dataset.TheVariants.{Accounts, CategoryGroups, Categories, Payees, Transactions, ZeroBudgets, ZeroBudgetMonths, Notes, Rules, Schedules, CategoryMapping, PayeeMapping, ReflectBudgets}
 use Rattle.book_rows.specs.declared.column.Column.{Column}
 use Rattle.book_rows.specs.declared.rows.Rows.{Rows}
 use Rattle.book_rows.specs.Columns.{dataset_name, column_name, same_column, all_columns, dataset_of, column_of}
 use Rattle.book_rows.specs.Tables.{Table, blank_row, has_column, row_at, with_column}
-use Rattle.book_rows.specs.Rules.{account_table, group_table, category_table, payee_table, tx_table, budget_table, month_table, note_table, rule_table, schedule_table}
-use Rattle.book_rows.specs.Rows.{Values, values_at, AreTableOf, AreRowsOf, with_known, with_field, with_value, no_rows, kind_of, known_kind, with_cell, dataset_kind}
+use Rattle.book_rows.specs.Rules.{account_table, group_table, category_table, payee_table, tx_table, budget_table, month_table, note_table, rule_table, schedule_table, category_mapping_table, payee_mapping_table}
+use Rattle.book_rows.specs.Rows.{Values, values_at, AreTableOf, AreRowsOf, with_known, with_field, with_value, no_rows, kind_of, known_kind, with_cell, dataset_kind, is_row, has_row}
 use Rattle.book_rows.proofs.Pairs.{is_equal}
 use Rattle.book_rows.proofs.Keyed.{row_after, others_stay}
 use Rattle.book_rows.proofs.Naming.{text_is, is_text_itself, dataset_named, column_named, dataset_found, column_found, no_column, some_column, column_is, names_tell}
-use Rattle.book_rows.proofs.RowFields.{IsTable, with_one, account_is, group_is, category_is, payee_is, tx_is, budget_is, month_is, note_is, rule_is, schedule_is}
+use Rattle.book_rows.proofs.RowFields.{IsTable, with_one, account_is, group_is, category_is, payee_is, tx_is, budget_is, month_is, note_is, rule_is, schedule_is, category_mapping_is, payee_mapping_is}
 
 no_some : {X : Type 0} {P : Type 0} (x : X) → None ≡ Some x → P
 no_some x h = absurd (cc)
@@ -155,6 +155,9 @@ module _ (values : Values) (f : FieldNames) (v : Value) (rows : Rows) (are : Are
     notes = stays_table values f v Notes note_table rows.notes are.notes (other_dataset values f v Notes (λ h. no_some Notes (sym a ∙ h)));
     rules = stays_table values f v Rules rule_table rows.rules are.rules (other_dataset values f v Rules (λ h. no_some Rules (sym a ∙ h)));
     schedules = stays_table values f v Schedules schedule_table rows.schedules are.schedules (other_dataset values f v Schedules (λ h. no_some Schedules (sym a ∙ h)));
+    category_mappings = stays_table values f v CategoryMapping category_mapping_table rows.category_mappings are.category_mappings (other_dataset values f v CategoryMapping (λ h. no_some CategoryMapping (sym a ∙ h)));
+    payee_mappings = stays_table values f v PayeeMapping payee_mapping_table rows.payee_mappings are.payee_mappings (other_dataset values f v PayeeMapping (λ h. no_some PayeeMapping (sym a ∙ h)));
+    tracked = stays_table values f v ReflectBudgets budget_table rows.tracked are.tracked (other_dataset values f v ReflectBudgets (λ h. no_some ReflectBudgets (sym a ∙ h)));
   }
   go (Some ds) None a b = record {
     accounts = stays_table values f v Accounts account_table rows.accounts are.accounts (other_column values f v Accounts b);
@@ -167,6 +170,9 @@ module _ (values : Values) (f : FieldNames) (v : Value) (rows : Rows) (are : Are
     notes = stays_table values f v Notes note_table rows.notes are.notes (other_column values f v Notes b);
     rules = stays_table values f v Rules rule_table rows.rules are.rules (other_column values f v Rules b);
     schedules = stays_table values f v Schedules schedule_table rows.schedules are.schedules (other_column values f v Schedules b);
+    category_mappings = stays_table values f v CategoryMapping category_mapping_table rows.category_mappings are.category_mappings (other_column values f v CategoryMapping b);
+    payee_mappings = stays_table values f v PayeeMapping payee_mapping_table rows.payee_mappings are.payee_mappings (other_column values f v PayeeMapping b);
+    tracked = stays_table values f v ReflectBudgets budget_table rows.tracked are.tracked (other_column values f v ReflectBudgets b);
   }
   go (Some Accounts) (Some c) a b = record {
     accounts = table_follows values f v Accounts account_table rows.accounts are.accounts account_is c a b;
@@ -179,6 +185,9 @@ module _ (values : Values) (f : FieldNames) (v : Value) (rows : Rows) (are : Are
     notes = stays_table values f v Notes note_table rows.notes are.notes (other_dataset values f v Notes (other f a (λ h. cc)));
     rules = stays_table values f v Rules rule_table rows.rules are.rules (other_dataset values f v Rules (other f a (λ h. cc)));
     schedules = stays_table values f v Schedules schedule_table rows.schedules are.schedules (other_dataset values f v Schedules (other f a (λ h. cc)));
+    category_mappings = stays_table values f v CategoryMapping category_mapping_table rows.category_mappings are.category_mappings (other_dataset values f v CategoryMapping (other f a (λ h. cc)));
+    payee_mappings = stays_table values f v PayeeMapping payee_mapping_table rows.payee_mappings are.payee_mappings (other_dataset values f v PayeeMapping (other f a (λ h. cc)));
+    tracked = stays_table values f v ReflectBudgets budget_table rows.tracked are.tracked (other_dataset values f v ReflectBudgets (other f a (λ h. cc)));
   }
   go (Some CategoryGroups) (Some c) a b = record {
     accounts = stays_table values f v Accounts account_table rows.accounts are.accounts (other_dataset values f v Accounts (other f a (λ h. cc)));
@@ -191,6 +200,9 @@ module _ (values : Values) (f : FieldNames) (v : Value) (rows : Rows) (are : Are
     notes = stays_table values f v Notes note_table rows.notes are.notes (other_dataset values f v Notes (other f a (λ h. cc)));
     rules = stays_table values f v Rules rule_table rows.rules are.rules (other_dataset values f v Rules (other f a (λ h. cc)));
     schedules = stays_table values f v Schedules schedule_table rows.schedules are.schedules (other_dataset values f v Schedules (other f a (λ h. cc)));
+    category_mappings = stays_table values f v CategoryMapping category_mapping_table rows.category_mappings are.category_mappings (other_dataset values f v CategoryMapping (other f a (λ h. cc)));
+    payee_mappings = stays_table values f v PayeeMapping payee_mapping_table rows.payee_mappings are.payee_mappings (other_dataset values f v PayeeMapping (other f a (λ h. cc)));
+    tracked = stays_table values f v ReflectBudgets budget_table rows.tracked are.tracked (other_dataset values f v ReflectBudgets (other f a (λ h. cc)));
   }
   go (Some Categories) (Some c) a b = record {
     accounts = stays_table values f v Accounts account_table rows.accounts are.accounts (other_dataset values f v Accounts (other f a (λ h. cc)));
@@ -203,6 +215,9 @@ module _ (values : Values) (f : FieldNames) (v : Value) (rows : Rows) (are : Are
     notes = stays_table values f v Notes note_table rows.notes are.notes (other_dataset values f v Notes (other f a (λ h. cc)));
     rules = stays_table values f v Rules rule_table rows.rules are.rules (other_dataset values f v Rules (other f a (λ h. cc)));
     schedules = stays_table values f v Schedules schedule_table rows.schedules are.schedules (other_dataset values f v Schedules (other f a (λ h. cc)));
+    category_mappings = stays_table values f v CategoryMapping category_mapping_table rows.category_mappings are.category_mappings (other_dataset values f v CategoryMapping (other f a (λ h. cc)));
+    payee_mappings = stays_table values f v PayeeMapping payee_mapping_table rows.payee_mappings are.payee_mappings (other_dataset values f v PayeeMapping (other f a (λ h. cc)));
+    tracked = stays_table values f v ReflectBudgets budget_table rows.tracked are.tracked (other_dataset values f v ReflectBudgets (other f a (λ h. cc)));
   }
   go (Some Payees) (Some c) a b = record {
     accounts = stays_table values f v Accounts account_table rows.accounts are.accounts (other_dataset values f v Accounts (other f a (λ h. cc)));
@@ -215,6 +230,9 @@ module _ (values : Values) (f : FieldNames) (v : Value) (rows : Rows) (are : Are
     notes = stays_table values f v Notes note_table rows.notes are.notes (other_dataset values f v Notes (other f a (λ h. cc)));
     rules = stays_table values f v Rules rule_table rows.rules are.rules (other_dataset values f v Rules (other f a (λ h. cc)));
     schedules = stays_table values f v Schedules schedule_table rows.schedules are.schedules (other_dataset values f v Schedules (other f a (λ h. cc)));
+    category_mappings = stays_table values f v CategoryMapping category_mapping_table rows.category_mappings are.category_mappings (other_dataset values f v CategoryMapping (other f a (λ h. cc)));
+    payee_mappings = stays_table values f v PayeeMapping payee_mapping_table rows.payee_mappings are.payee_mappings (other_dataset values f v PayeeMapping (other f a (λ h. cc)));
+    tracked = stays_table values f v ReflectBudgets budget_table rows.tracked are.tracked (other_dataset values f v ReflectBudgets (other f a (λ h. cc)));
   }
   go (Some Transactions) (Some c) a b = record {
     accounts = stays_table values f v Accounts account_table rows.accounts are.accounts (other_dataset values f v Accounts (other f a (λ h. cc)));
@@ -227,6 +245,9 @@ module _ (values : Values) (f : FieldNames) (v : Value) (rows : Rows) (are : Are
     notes = stays_table values f v Notes note_table rows.notes are.notes (other_dataset values f v Notes (other f a (λ h. cc)));
     rules = stays_table values f v Rules rule_table rows.rules are.rules (other_dataset values f v Rules (other f a (λ h. cc)));
     schedules = stays_table values f v Schedules schedule_table rows.schedules are.schedules (other_dataset values f v Schedules (other f a (λ h. cc)));
+    category_mappings = stays_table values f v CategoryMapping category_mapping_table rows.category_mappings are.category_mappings (other_dataset values f v CategoryMapping (other f a (λ h. cc)));
+    payee_mappings = stays_table values f v PayeeMapping payee_mapping_table rows.payee_mappings are.payee_mappings (other_dataset values f v PayeeMapping (other f a (λ h. cc)));
+    tracked = stays_table values f v ReflectBudgets budget_table rows.tracked are.tracked (other_dataset values f v ReflectBudgets (other f a (λ h. cc)));
   }
   go (Some ZeroBudgets) (Some c) a b = record {
     accounts = stays_table values f v Accounts account_table rows.accounts are.accounts (other_dataset values f v Accounts (other f a (λ h. cc)));
@@ -239,6 +260,9 @@ module _ (values : Values) (f : FieldNames) (v : Value) (rows : Rows) (are : Are
     notes = stays_table values f v Notes note_table rows.notes are.notes (other_dataset values f v Notes (other f a (λ h. cc)));
     rules = stays_table values f v Rules rule_table rows.rules are.rules (other_dataset values f v Rules (other f a (λ h. cc)));
     schedules = stays_table values f v Schedules schedule_table rows.schedules are.schedules (other_dataset values f v Schedules (other f a (λ h. cc)));
+    category_mappings = stays_table values f v CategoryMapping category_mapping_table rows.category_mappings are.category_mappings (other_dataset values f v CategoryMapping (other f a (λ h. cc)));
+    payee_mappings = stays_table values f v PayeeMapping payee_mapping_table rows.payee_mappings are.payee_mappings (other_dataset values f v PayeeMapping (other f a (λ h. cc)));
+    tracked = stays_table values f v ReflectBudgets budget_table rows.tracked are.tracked (other_dataset values f v ReflectBudgets (other f a (λ h. cc)));
   }
   go (Some ZeroBudgetMonths) (Some c) a b = record {
     accounts = stays_table values f v Accounts account_table rows.accounts are.accounts (other_dataset values f v Accounts (other f a (λ h. cc)));
@@ -251,6 +275,9 @@ module _ (values : Values) (f : FieldNames) (v : Value) (rows : Rows) (are : Are
     notes = stays_table values f v Notes note_table rows.notes are.notes (other_dataset values f v Notes (other f a (λ h. cc)));
     rules = stays_table values f v Rules rule_table rows.rules are.rules (other_dataset values f v Rules (other f a (λ h. cc)));
     schedules = stays_table values f v Schedules schedule_table rows.schedules are.schedules (other_dataset values f v Schedules (other f a (λ h. cc)));
+    category_mappings = stays_table values f v CategoryMapping category_mapping_table rows.category_mappings are.category_mappings (other_dataset values f v CategoryMapping (other f a (λ h. cc)));
+    payee_mappings = stays_table values f v PayeeMapping payee_mapping_table rows.payee_mappings are.payee_mappings (other_dataset values f v PayeeMapping (other f a (λ h. cc)));
+    tracked = stays_table values f v ReflectBudgets budget_table rows.tracked are.tracked (other_dataset values f v ReflectBudgets (other f a (λ h. cc)));
   }
   go (Some Notes) (Some c) a b = record {
     accounts = stays_table values f v Accounts account_table rows.accounts are.accounts (other_dataset values f v Accounts (other f a (λ h. cc)));
@@ -263,6 +290,9 @@ module _ (values : Values) (f : FieldNames) (v : Value) (rows : Rows) (are : Are
     notes = table_follows values f v Notes note_table rows.notes are.notes note_is c a b;
     rules = stays_table values f v Rules rule_table rows.rules are.rules (other_dataset values f v Rules (other f a (λ h. cc)));
     schedules = stays_table values f v Schedules schedule_table rows.schedules are.schedules (other_dataset values f v Schedules (other f a (λ h. cc)));
+    category_mappings = stays_table values f v CategoryMapping category_mapping_table rows.category_mappings are.category_mappings (other_dataset values f v CategoryMapping (other f a (λ h. cc)));
+    payee_mappings = stays_table values f v PayeeMapping payee_mapping_table rows.payee_mappings are.payee_mappings (other_dataset values f v PayeeMapping (other f a (λ h. cc)));
+    tracked = stays_table values f v ReflectBudgets budget_table rows.tracked are.tracked (other_dataset values f v ReflectBudgets (other f a (λ h. cc)));
   }
   go (Some Rules) (Some c) a b = record {
     accounts = stays_table values f v Accounts account_table rows.accounts are.accounts (other_dataset values f v Accounts (other f a (λ h. cc)));
@@ -275,6 +305,9 @@ module _ (values : Values) (f : FieldNames) (v : Value) (rows : Rows) (are : Are
     notes = stays_table values f v Notes note_table rows.notes are.notes (other_dataset values f v Notes (other f a (λ h. cc)));
     rules = table_follows values f v Rules rule_table rows.rules are.rules rule_is c a b;
     schedules = stays_table values f v Schedules schedule_table rows.schedules are.schedules (other_dataset values f v Schedules (other f a (λ h. cc)));
+    category_mappings = stays_table values f v CategoryMapping category_mapping_table rows.category_mappings are.category_mappings (other_dataset values f v CategoryMapping (other f a (λ h. cc)));
+    payee_mappings = stays_table values f v PayeeMapping payee_mapping_table rows.payee_mappings are.payee_mappings (other_dataset values f v PayeeMapping (other f a (λ h. cc)));
+    tracked = stays_table values f v ReflectBudgets budget_table rows.tracked are.tracked (other_dataset values f v ReflectBudgets (other f a (λ h. cc)));
   }
   go (Some Schedules) (Some c) a b = record {
     accounts = stays_table values f v Accounts account_table rows.accounts are.accounts (other_dataset values f v Accounts (other f a (λ h. cc)));
@@ -287,6 +320,54 @@ module _ (values : Values) (f : FieldNames) (v : Value) (rows : Rows) (are : Are
     notes = stays_table values f v Notes note_table rows.notes are.notes (other_dataset values f v Notes (other f a (λ h. cc)));
     rules = stays_table values f v Rules rule_table rows.rules are.rules (other_dataset values f v Rules (other f a (λ h. cc)));
     schedules = table_follows values f v Schedules schedule_table rows.schedules are.schedules schedule_is c a b;
+    category_mappings = stays_table values f v CategoryMapping category_mapping_table rows.category_mappings are.category_mappings (other_dataset values f v CategoryMapping (other f a (λ h. cc)));
+    payee_mappings = stays_table values f v PayeeMapping payee_mapping_table rows.payee_mappings are.payee_mappings (other_dataset values f v PayeeMapping (other f a (λ h. cc)));
+    tracked = stays_table values f v ReflectBudgets budget_table rows.tracked are.tracked (other_dataset values f v ReflectBudgets (other f a (λ h. cc)));
+  }
+  go (Some CategoryMapping) (Some c) a b = record {
+    accounts = stays_table values f v Accounts account_table rows.accounts are.accounts (other_dataset values f v Accounts (other f a (λ h. cc)));
+    groups = stays_table values f v CategoryGroups group_table rows.groups are.groups (other_dataset values f v CategoryGroups (other f a (λ h. cc)));
+    categories = stays_table values f v Categories category_table rows.categories are.categories (other_dataset values f v Categories (other f a (λ h. cc)));
+    payees = stays_table values f v Payees payee_table rows.payees are.payees (other_dataset values f v Payees (other f a (λ h. cc)));
+    txs = stays_table values f v Transactions tx_table rows.txs are.txs (other_dataset values f v Transactions (other f a (λ h. cc)));
+    budgets = stays_table values f v ZeroBudgets budget_table rows.budgets are.budgets (other_dataset values f v ZeroBudgets (other f a (λ h. cc)));
+    months = stays_table values f v ZeroBudgetMonths month_table rows.months are.months (other_dataset values f v ZeroBudgetMonths (other f a (λ h. cc)));
+    notes = stays_table values f v Notes note_table rows.notes are.notes (other_dataset values f v Notes (other f a (λ h. cc)));
+    rules = stays_table values f v Rules rule_table rows.rules are.rules (other_dataset values f v Rules (other f a (λ h. cc)));
+    schedules = stays_table values f v Schedules schedule_table rows.schedules are.schedules (other_dataset values f v Schedules (other f a (λ h. cc)));
+    category_mappings = table_follows values f v CategoryMapping category_mapping_table rows.category_mappings are.category_mappings category_mapping_is c a b;
+    payee_mappings = stays_table values f v PayeeMapping payee_mapping_table rows.payee_mappings are.payee_mappings (other_dataset values f v PayeeMapping (other f a (λ h. cc)));
+    tracked = stays_table values f v ReflectBudgets budget_table rows.tracked are.tracked (other_dataset values f v ReflectBudgets (other f a (λ h. cc)));
+  }
+  go (Some PayeeMapping) (Some c) a b = record {
+    accounts = stays_table values f v Accounts account_table rows.accounts are.accounts (other_dataset values f v Accounts (other f a (λ h. cc)));
+    groups = stays_table values f v CategoryGroups group_table rows.groups are.groups (other_dataset values f v CategoryGroups (other f a (λ h. cc)));
+    categories = stays_table values f v Categories category_table rows.categories are.categories (other_dataset values f v Categories (other f a (λ h. cc)));
+    payees = stays_table values f v Payees payee_table rows.payees are.payees (other_dataset values f v Payees (other f a (λ h. cc)));
+    txs = stays_table values f v Transactions tx_table rows.txs are.txs (other_dataset values f v Transactions (other f a (λ h. cc)));
+    budgets = stays_table values f v ZeroBudgets budget_table rows.budgets are.budgets (other_dataset values f v ZeroBudgets (other f a (λ h. cc)));
+    months = stays_table values f v ZeroBudgetMonths month_table rows.months are.months (other_dataset values f v ZeroBudgetMonths (other f a (λ h. cc)));
+    notes = stays_table values f v Notes note_table rows.notes are.notes (other_dataset values f v Notes (other f a (λ h. cc)));
+    rules = stays_table values f v Rules rule_table rows.rules are.rules (other_dataset values f v Rules (other f a (λ h. cc)));
+    schedules = stays_table values f v Schedules schedule_table rows.schedules are.schedules (other_dataset values f v Schedules (other f a (λ h. cc)));
+    category_mappings = stays_table values f v CategoryMapping category_mapping_table rows.category_mappings are.category_mappings (other_dataset values f v CategoryMapping (other f a (λ h. cc)));
+    payee_mappings = table_follows values f v PayeeMapping payee_mapping_table rows.payee_mappings are.payee_mappings payee_mapping_is c a b;
+    tracked = stays_table values f v ReflectBudgets budget_table rows.tracked are.tracked (other_dataset values f v ReflectBudgets (other f a (λ h. cc)));
+  }
+  go (Some ReflectBudgets) (Some c) a b = record {
+    accounts = stays_table values f v Accounts account_table rows.accounts are.accounts (other_dataset values f v Accounts (other f a (λ h. cc)));
+    groups = stays_table values f v CategoryGroups group_table rows.groups are.groups (other_dataset values f v CategoryGroups (other f a (λ h. cc)));
+    categories = stays_table values f v Categories category_table rows.categories are.categories (other_dataset values f v Categories (other f a (λ h. cc)));
+    payees = stays_table values f v Payees payee_table rows.payees are.payees (other_dataset values f v Payees (other f a (λ h. cc)));
+    txs = stays_table values f v Transactions tx_table rows.txs are.txs (other_dataset values f v Transactions (other f a (λ h. cc)));
+    budgets = stays_table values f v ZeroBudgets budget_table rows.budgets are.budgets (other_dataset values f v ZeroBudgets (other f a (λ h. cc)));
+    months = stays_table values f v ZeroBudgetMonths month_table rows.months are.months (other_dataset values f v ZeroBudgetMonths (other f a (λ h. cc)));
+    notes = stays_table values f v Notes note_table rows.notes are.notes (other_dataset values f v Notes (other f a (λ h. cc)));
+    rules = stays_table values f v Rules rule_table rows.rules are.rules (other_dataset values f v Rules (other f a (λ h. cc)));
+    schedules = stays_table values f v Schedules schedule_table rows.schedules are.schedules (other_dataset values f v Schedules (other f a (λ h. cc)));
+    category_mappings = stays_table values f v CategoryMapping category_mapping_table rows.category_mappings are.category_mappings (other_dataset values f v CategoryMapping (other f a (λ h. cc)));
+    payee_mappings = stays_table values f v PayeeMapping payee_mapping_table rows.payee_mappings are.payee_mappings (other_dataset values f v PayeeMapping (other f a (λ h. cc)));
+    tracked = table_follows values f v ReflectBudgets budget_table rows.tracked are.tracked budget_is c a b;
   }
 
   pub rows_follow : AreRowsOf (with_value values f v) (with_field rows f v)
@@ -304,6 +385,9 @@ one_book values r s a b = λ i. record {
   notes = map.same_map text_total text_same r.notes s.notes (λ q. a.notes q ∙ sym (b.notes q)) i;
   rules = map.same_map text_total text_same r.rules s.rules (λ q. a.rules q ∙ sym (b.rules q)) i;
   schedules = map.same_map text_total text_same r.schedules s.schedules (λ q. a.schedules q ∙ sym (b.schedules q)) i;
+  category_mappings = map.same_map text_total text_same r.category_mappings s.category_mappings (λ q. a.category_mappings q ∙ sym (b.category_mappings q)) i;
+  payee_mappings = map.same_map text_total text_same r.payee_mappings s.payee_mappings (λ q. a.payee_mappings q ∙ sym (b.payee_mappings q)) i;
+  tracked = map.same_map text_total text_same r.tracked s.tracked (λ q. a.tracked q ∙ sym (b.tracked q)) i;
 }
 
 pub no_fields : AreRowsOf (λ f. None) no_rows
@@ -318,6 +402,9 @@ no_fields = record {
   notes = λ q. map.get-empty _ q ∙ sym (nothing note_table q);
   rules = λ q. map.get-empty _ q ∙ sym (nothing rule_table q);
   schedules = λ q. map.get-empty _ q ∙ sym (nothing schedule_table q);
+  category_mappings = λ q. map.get-empty _ q ∙ sym (nothing category_mapping_table q);
+  payee_mappings = λ q. map.get-empty _ q ∙ sym (nothing payee_mapping_table q);
+  tracked = λ q. map.get-empty _ q ∙ sym (nothing budget_table q);
 }
   where
     none_known : (p : Column → Bool) → ((c : Column) → p c ≡ false) → (xs : List Column) → list_any p xs ≡ false
@@ -343,6 +430,9 @@ unknown_cell ZeroBudgetMonths c id v rows h = ap (λ o. record rows { months = i
 unknown_cell Notes c id v rows h = ap (λ o. record rows { notes = if is_some o then map.insert rows.notes id (row_after note_table id c v rows.notes) else rows.notes }) h
 unknown_cell Rules c id v rows h = ap (λ o. record rows { rules = if is_some o then map.insert rows.rules id (row_after rule_table id c v rows.rules) else rows.rules }) h
 unknown_cell Schedules c id v rows h = ap (λ o. record rows { schedules = if is_some o then map.insert rows.schedules id (row_after schedule_table id c v rows.schedules) else rows.schedules }) h
+unknown_cell CategoryMapping c id v rows h = ap (λ o. record rows { category_mappings = if is_some o then map.insert rows.category_mappings id (row_after category_mapping_table id c v rows.category_mappings) else rows.category_mappings }) h
+unknown_cell PayeeMapping c id v rows h = ap (λ o. record rows { payee_mappings = if is_some o then map.insert rows.payee_mappings id (row_after payee_mapping_table id c v rows.payee_mappings) else rows.payee_mappings }) h
+unknown_cell ReflectBudgets c id v rows h = ap (λ o. record rows { tracked = if is_some o then map.insert rows.tracked id (row_after budget_table id c v rows.tracked) else rows.tracked }) h
 
 unknown_known : (o : Option Dataset) (k : Option Column) (id : Text) (v : Value) (rows : Rows) → known_kind o k ≡ None → with_known o k id v rows ≡ rows
 unknown_known None k id v rows h = refl
@@ -351,3 +441,30 @@ unknown_known (Some ds) (Some c) id v rows h = unknown_cell ds c id v rows h
 
 pub unknown_stays : (rows : Rows) (f : FieldNames) (v : Value) → kind_of f.dataset f.column ≡ None → with_field rows f v ≡ rows
 unknown_stays rows f v h = unknown_known (dataset_of f.dataset) (column_of f.column) f.row v rows h
+
+-- ---- which rows are there
+in_table : {Row : Type 0} (t : Table Row) (d : Dataset) (values : Values) (rows : Texts Row) (id : Text) → AreTableOf t d values rows → is_some (map.get rows id) ≡ has_column t.kind (values_at values d id)
+in_table t d values rows id are = ap is_some (are id) ∙ by (has_column t.kind (values_at values d id))
+  where
+    by : (b : Bool) → is_some (if b then Some (t.row id (λ c. unwrap_or (values_at values d id c) Null)) else None) ≡ b
+    by true = refl
+    by false = refl
+
+there_is : (values : Values) (rows : Rows) → AreRowsOf values rows → (o : Option Dataset) (id : Text) → is_row rows o id ≡ some_and (λ d. has_column (dataset_kind d) (values_at values d id)) o
+there_is values rows are None id = refl
+there_is values rows are (Some Accounts) id = in_table account_table Accounts values rows.accounts id are.accounts
+there_is values rows are (Some CategoryGroups) id = in_table group_table CategoryGroups values rows.groups id are.groups
+there_is values rows are (Some Categories) id = in_table category_table Categories values rows.categories id are.categories
+there_is values rows are (Some Payees) id = in_table payee_table Payees values rows.payees id are.payees
+there_is values rows are (Some Transactions) id = in_table tx_table Transactions values rows.txs id are.txs
+there_is values rows are (Some ZeroBudgets) id = in_table budget_table ZeroBudgets values rows.budgets id are.budgets
+there_is values rows are (Some ZeroBudgetMonths) id = in_table month_table ZeroBudgetMonths values rows.months id are.months
+there_is values rows are (Some Notes) id = in_table note_table Notes values rows.notes id are.notes
+there_is values rows are (Some Rules) id = in_table rule_table Rules values rows.rules id are.rules
+there_is values rows are (Some Schedules) id = in_table schedule_table Schedules values rows.schedules id are.schedules
+there_is values rows are (Some CategoryMapping) id = in_table category_mapping_table CategoryMapping values rows.category_mappings id are.category_mappings
+there_is values rows are (Some PayeeMapping) id = in_table payee_mapping_table PayeeMapping values rows.payee_mappings id are.payee_mappings
+there_is values rows are (Some ReflectBudgets) id = in_table budget_table ReflectBudgets values rows.tracked id are.tracked
+
+pub row_there : (values : Values) (rows : Rows) (f : FieldNames) → AreRowsOf values rows → is_row rows (dataset_of f.dataset) f.row ≡ has_row values f
+row_there values rows f are = there_is values rows are (dataset_of f.dataset) f.row

@@ -8,7 +8,7 @@ use Rattle.field_values.specs.declared.value.Value.{Value}
 use Rattle.finite_sums.specs.Maps.{Text, Texts, text_cmp}
 use Rattle.finite_sums.proofs.Texts.{text_total, text_same}
 use Rattle.book_rows.specs.declared.column.Column.{Column}
-use Rattle.book_rows.specs.declared.column.Column.TheVariants.{Acct, Date, Amount, Category, Description, Notes, Name, Tombstone, SortOrder, Cleared, Reconciled, Note, IsParent, IsChild, ParentId, TransferredId, Schedule, ImportedDescription, FinancialId, CatGroup, IsIncome, Hidden, Offbudget, Closed, TransferAcct, Month, Carryover, Buffered, Stage, ConditionsOp, Conditions, Actions, Rule, NextDate, Completed, PostsTransaction}
+use Rattle.book_rows.specs.declared.column.Column.TheVariants.{Acct, Date, Amount, Category, Description, Notes, Name, Tombstone, SortOrder, Cleared, Reconciled, Note, IsParent, IsChild, ParentId, TransferredId, Schedule, ImportedDescription, FinancialId, CatGroup, IsIncome, Hidden, Offbudget, Closed, TransferAcct, Month, Carryover, Buffered, Stage, ConditionsOp, Conditions, Actions, Rule, NextDate, Completed, PostsTransaction, TransferId, TargetId}
 use Rattle.book_rows.specs.declared.rows.TxRow.{TxRow}
 use Rattle.book_rows.specs.declared.txs.Keys.{Keys}
 use Rattle.book_rows.specs.declared.txs.TxIndex.{TxIndex}
@@ -53,7 +53,7 @@ keys_stay : (column : Column) (value : Value) (row : TxRow) → moves column ≡
 keys_stay Acct value row h = false_true h
 keys_stay Date value row h = false_true h
 keys_stay Amount value row h = refl
-keys_stay Category value row h = refl
+keys_stay Category value row h = false_true h
 keys_stay Description value row h = refl
 keys_stay Notes value row h = refl
 keys_stay Name value row h = refl
@@ -86,6 +86,8 @@ keys_stay Rule value row h = refl
 keys_stay NextDate value row h = refl
 keys_stay Completed value row h = refl
 keys_stay PostsTransaction value row h = refl
+keys_stay TransferId value row h = refl
+keys_stay TargetId value row h = refl
 
 blank_keys : (id : Text) → keys_of (Some (blank_row tx_table id)) ≡ keys_of None
 blank_keys id = refl
@@ -100,6 +102,7 @@ unmoved index xs ys id column value h is set_one =
     record {
       children = λ k q. is.children k q ∙ ap (λ keys. is_text k keys.parent) (sym (same q));
       accounts = λ k q. is.accounts k q ∙ ap (λ keys. is_text k keys.account) (sym (same q));
+      categories = λ k q. is.categories k q ∙ ap (λ keys. is_text k keys.category) (sym (same q));
       months = λ m q. is.months m q ∙ ap (λ keys. is_month_of m keys.month) (sym (same q));
     }
 
@@ -117,5 +120,6 @@ pub keyed : (old new : TxIndex) (xs ys : Texts TxRow) (id : Text) (column : Colu
 keyed old new xs ys id column value is set_one moved = record {
   children = one xs ys id column value set_one (holds old.children) (holds new.children) (λ k keys. is_text k keys.parent) is.children moved.children;
   accounts = one xs ys id column value set_one (holds old.accounts) (holds new.accounts) (λ k keys. is_text k keys.account) is.accounts moved.accounts;
+  categories = one xs ys id column value set_one (holds old.categories) (holds new.categories) (λ k keys. is_text k keys.category) is.categories moved.categories;
   months = one xs ys id column value set_one (λ m q. set.contains dated_cmp old.months (m, q)) (λ m q. set.contains dated_cmp new.months (m, q)) (λ m keys. is_month_of m keys.month) is.months moved.months;
 }

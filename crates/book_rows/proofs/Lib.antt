@@ -5,9 +5,13 @@ pub mod Named
 pub mod Bounds
 pub mod Lists
 pub mod Spans
+pub mod Resolving
 pub mod Empty
 pub mod Naming
 pub mod RowFields
+pub mod Powers
+pub mod FewCents
 pub mod Following
+pub mod MonthIds
 pub mod Balances
 pub mod RowNames

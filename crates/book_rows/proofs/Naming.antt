@@ -6,10 +6,10 @@ use Rattle.std.specs.List.{list_any}
 use Rattle.finite_sums.specs.Maps.{Text}
 use Rattle.finite_sums.proofs.Texts.{text_same}
 use Rattle.book_rows.specs.declared.column.Dataset.{Dataset}
-use Rattle.book_rows.specs.declared.column.Dataset.TheVariants.{Accounts, CategoryGroups, Categories, Payees, Transactions, ZeroBudgets, ZeroBudgetMonths, Notes, Rules, Schedules}
+use Rattle.book_rows.specs.declared.column.Dataset.TheVariants.{Accounts, CategoryGroups, Categories, Payees, Transactions, ZeroBudgets, ZeroBudgetMonths, Notes, Rules, Schedules, CategoryMapping, PayeeMapping, ReflectBudgets}
 use Rattle.book_rows.specs.declared.column.Column.{Column}
-use Rattle.book_rows.specs.declared.column.Column.TheVariants.{Acct, Date, Amount, Category, Description, Notes, Name, Tombstone, SortOrder, Cleared, Reconciled, Note, IsParent, IsChild, ParentId, TransferredId, Schedule, ImportedDescription, FinancialId, CatGroup, IsIncome, Hidden, Offbudget, Closed, TransferAcct, Month, Carryover, Buffered, Stage, ConditionsOp, Conditions, Actions, Rule, NextDate, Completed, PostsTransaction}
-use Rattle.book_rows.specs.Columns.{same_text, dataset_name, column_name, column_number, same_column, all_columns, dataset_of, later_dataset_of, column_of, second_column_of, third_column_of, fourth_column_of, fifth_column_of, sixth_column_of}
+use Rattle.book_rows.specs.declared.column.Column.TheVariants.{Acct, Date, Amount, Category, Description, Notes, Name, Tombstone, SortOrder, Cleared, Reconciled, Note, IsParent, IsChild, ParentId, TransferredId, Schedule, ImportedDescription, FinancialId, CatGroup, IsIncome, Hidden, Offbudget, Closed, TransferAcct, Month, Carryover, Buffered, Stage, ConditionsOp, Conditions, Actions, Rule, NextDate, Completed, PostsTransaction, TransferId, TargetId}
+use Rattle.book_rows.specs.Columns.{same_text, dataset_name, column_name, column_number, same_column, all_columns, dataset_of, later_dataset_of, last_dataset_of, column_of, second_column_of, third_column_of, fourth_column_of, fifth_column_of, sixth_column_of, seventh_column_of}
 use Rattle.book_rows.proofs.Pairs.{is_equal, itself}
 
 never : {P : Type 0} → false ≡ true → P
@@ -39,14 +39,22 @@ step name t w x y rest at more h = by (same_text t w) refl h
     by true e k = same_is t w e ∙ sym at ∙ ap name (some_is x y k)
     by false e k = more k
 
+last_dataset_named : (t : Text) (y : Dataset) → last_dataset_of t ≡ Some y → t ≡ dataset_name y
+unfolding last_dataset_of
+last_dataset_named t y h =
+    step dataset_name t (codes "reflect_budgets") ReflectBudgets y None refl (λ h.
+    no_some y h) h
+
 later_dataset_named : (t : Text) (y : Dataset) → later_dataset_of t ≡ Some y → t ≡ dataset_name y
 unfolding later_dataset_of
 later_dataset_named t y h =
-    step dataset_name t (codes "zero_budget_months") ZeroBudgetMonths y (if same_text t (codes "notes") then Some Notes else (if same_text t (codes "rules") then Some Rules else (if same_text t (codes "schedules") then Some Schedules else None))) refl (λ h.
-    step dataset_name t (codes "notes") Notes y (if same_text t (codes "rules") then Some Rules else (if same_text t (codes "schedules") then Some Schedules else None)) refl (λ h.
-    step dataset_name t (codes "rules") Rules y (if same_text t (codes "schedules") then Some Schedules else None) refl (λ h.
-    step dataset_name t (codes "schedules") Schedules y None refl (λ h.
-    no_some y h) h) h) h) h
+    step dataset_name t (codes "zero_budget_months") ZeroBudgetMonths y (if same_text t (codes "notes") then Some Notes else (if same_text t (codes "rules") then Some Rules else (if same_text t (codes "schedules") then Some Schedules else (if same_text t (codes "category_mapping") then Some CategoryMapping else (if same_text t (codes "payee_mapping") then Some PayeeMapping else last_dataset_of t))))) refl (λ h.
+    step dataset_name t (codes "notes") Notes y (if same_text t (codes "rules") then Some Rules else (if same_text t (codes "schedules") then Some Schedules else (if same_text t (codes "category_mapping") then Some CategoryMapping else (if same_text t (codes "payee_mapping") then Some PayeeMapping else last_dataset_of t)))) refl (λ h.
+    step dataset_name t (codes "rules") Rules y (if same_text t (codes "schedules") then Some Schedules else (if same_text t (codes "category_mapping") then Some CategoryMapping else (if same_text t (codes "payee_mapping") then Some PayeeMapping else last_dataset_of t))) refl (λ h.
+    step dataset_name t (codes "schedules") Schedules y (if same_text t (codes "category_mapping") then Some CategoryMapping else (if same_text t (codes "payee_mapping") then Some PayeeMapping else last_dataset_of t)) refl (λ h.
+    step dataset_name t (codes "category_mapping") CategoryMapping y (if same_text t (codes "payee_mapping") then Some PayeeMapping else last_dataset_of t) refl (λ h.
+    step dataset_name t (codes "payee_mapping") PayeeMapping y (last_dataset_of t) refl (λ h.
+    last_dataset_named t y h) h) h) h) h) h) h
 
 pub dataset_named : (t : Text) (y : Dataset) → dataset_of t ≡ Some y → t ≡ dataset_name y
 unfolding dataset_of
@@ -59,16 +67,23 @@ dataset_named t y h =
     step dataset_name t (codes "payees") Payees y (later_dataset_of t) refl (λ h.
     later_dataset_named t y h) h) h) h) h) h) h
 
+seventh_named : (t : Text) (y : Column) → seventh_column_of t ≡ Some y → t ≡ column_name y
+unfolding seventh_column_of
+seventh_named t y h =
+    step column_name t (codes "transferId") TransferId y (if same_text t (codes "targetId") then Some TargetId else None) refl (λ h.
+    step column_name t (codes "targetId") TargetId y None refl (λ h.
+    no_some y h) h) h
+
 sixth_named : (t : Text) (y : Column) → sixth_column_of t ≡ Some y → t ≡ column_name y
 unfolding sixth_column_of
 sixth_named t y h =
-    step column_name t (codes "conditions") Conditions y (if same_text t (codes "actions") then Some Actions else (if same_text t (codes "rule") then Some Rule else (if same_text t (codes "next_date") then Some NextDate else (if same_text t (codes "completed") then Some Completed else (if same_text t (codes "posts_transaction") then Some PostsTransaction else None))))) refl (λ h.
-    step column_name t (codes "actions") Actions y (if same_text t (codes "rule") then Some Rule else (if same_text t (codes "next_date") then Some NextDate else (if same_text t (codes "completed") then Some Completed else (if same_text t (codes "posts_transaction") then Some PostsTransaction else None)))) refl (λ h.
-    step column_name t (codes "rule") Rule y (if same_text t (codes "next_date") then Some NextDate else (if same_text t (codes "completed") then Some Completed else (if same_text t (codes "posts_transaction") then Some PostsTransaction else None))) refl (λ h.
-    step column_name t (codes "next_date") NextDate y (if same_text t (codes "completed") then Some Completed else (if same_text t (codes "posts_transaction") then Some PostsTransaction else None)) refl (λ h.
-    step column_name t (codes "completed") Completed y (if same_text t (codes "posts_transaction") then Some PostsTransaction else None) refl (λ h.
-    step column_name t (codes "posts_transaction") PostsTransaction y None refl (λ h.
-    no_some y h) h) h) h) h) h) h
+    step column_name t (codes "conditions") Conditions y (if same_text t (codes "actions") then Some Actions else (if same_text t (codes "rule") then Some Rule else (if same_text t (codes "next_date") then Some NextDate else (if same_text t (codes "completed") then Some Completed else (if same_text t (codes "posts_transaction") then Some PostsTransaction else seventh_column_of t))))) refl (λ h.
+    step column_name t (codes "actions") Actions y (if same_text t (codes "rule") then Some Rule else (if same_text t (codes "next_date") then Some NextDate else (if same_text t (codes "completed") then Some Completed else (if same_text t (codes "posts_transaction") then Some PostsTransaction else seventh_column_of t)))) refl (λ h.
+    step column_name t (codes "rule") Rule y (if same_text t (codes "next_date") then Some NextDate else (if same_text t (codes "completed") then Some Completed else (if same_text t (codes "posts_transaction") then Some PostsTransaction else seventh_column_of t))) refl (λ h.
+    step column_name t (codes "next_date") NextDate y (if same_text t (codes "completed") then Some Completed else (if same_text t (codes "posts_transaction") then Some PostsTransaction else seventh_column_of t)) refl (λ h.
+    step column_name t (codes "completed") Completed y (if same_text t (codes "posts_transaction") then Some PostsTransaction else seventh_column_of t) refl (λ h.
+    step column_name t (codes "posts_transaction") PostsTransaction y (seventh_column_of t) refl (λ h.
+    seventh_named t y h) h) h) h) h) h) h
 
 fifth_named : (t : Text) (y : Column) → fifth_column_of t ≡ Some y → t ≡ column_name y
 unfolding fifth_column_of
@@ -126,7 +141,7 @@ column_named t y h =
     second_named t y h) h) h) h) h) h) h
 
 pub dataset_found : (d : Dataset) → dataset_of (dataset_name d) ≡ Some d
-unfolding dataset_of later_dataset_of same_text
+unfolding dataset_of later_dataset_of last_dataset_of same_text
 dataset_found Transactions = refl
 dataset_found ZeroBudgets = refl
 dataset_found Accounts = refl
@@ -137,9 +152,12 @@ dataset_found ZeroBudgetMonths = refl
 dataset_found Notes = refl
 dataset_found Rules = refl
 dataset_found Schedules = refl
+dataset_found CategoryMapping = refl
+dataset_found PayeeMapping = refl
+dataset_found ReflectBudgets = refl
 
 pub column_found : (c : Column) → column_of (column_name c) ≡ Some c
-unfolding column_of second_column_of third_column_of fourth_column_of fifth_column_of sixth_column_of same_text
+unfolding column_of second_column_of third_column_of fourth_column_of fifth_column_of sixth_column_of seventh_column_of same_text
 column_found Acct = refl
 column_found Date = refl
 column_found Amount = refl
@@ -176,6 +194,8 @@ column_found Rule = refl
 column_found NextDate = refl
 column_found Completed = refl
 column_found PostsTransaction = refl
+column_found TransferId = refl
+column_found TargetId = refl
 
 -- ---- all columns
 abbrev pick : {X : Type 0} → ℕ → List X → Option X
@@ -220,6 +240,8 @@ placed Rule = refl
 placed NextDate = refl
 placed Completed = refl
 placed PostsTransaction = refl
+placed TransferId = refl
+placed TargetId = refl
 
 none_passes : {X : Type 0} (p : X → Bool) (xs : List X) (i : ℕ) (x : X) → list_any p xs ≡ false → pick i xs ≡ Some x → p x ≡ false
 none_passes p [] i x h at = no_some x at

@@ -4,10 +4,10 @@ use Rattle.std.specs.Prelude.{is_some}
 use Rattle.field_values.specs.declared.value.Value.{Value}
 use Rattle.finite_sums.specs.Maps.{Text}
 use Rattle.book_rows.specs.declared.column.Column.{Column}
-use Rattle.book_rows.specs.declared.column.Column.TheVariants.{Acct, Date, Amount, Category, Description, Notes, Name, Tombstone, SortOrder, Cleared, Reconciled, Note, IsParent, IsChild, ParentId, TransferredId, Schedule, ImportedDescription, FinancialId, CatGroup, IsIncome, Hidden, Offbudget, Closed, TransferAcct, Month, Carryover, Buffered, Stage, ConditionsOp, Conditions, Actions, Rule, NextDate, Completed, PostsTransaction}
+use Rattle.book_rows.specs.declared.column.Column.TheVariants.{Acct, Date, Amount, Category, Description, Notes, Name, Tombstone, SortOrder, Cleared, Reconciled, Note, IsParent, IsChild, ParentId, TransferredId, Schedule, ImportedDescription, FinancialId, CatGroup, IsIncome, Hidden, Offbudget, Closed, TransferAcct, Month, Carryover, Buffered, Stage, ConditionsOp, Conditions, Actions, Rule, NextDate, Completed, PostsTransaction, TransferId, TargetId}
 use Rattle.book_rows.specs.Columns.{same_column}
 use Rattle.book_rows.specs.Tables.{Table}
-use Rattle.book_rows.specs.Rules.{account_table, group_table, category_table, payee_table, tx_table, budget_table, month_table, note_table, rule_table, schedule_table}
+use Rattle.book_rows.specs.Rules.{account_table, group_table, category_table, payee_table, tx_table, budget_table, month_table, note_table, rule_table, schedule_table, category_mapping_table, payee_mapping_table}
 
 -- the values with another one in a column
 abbrev pub with_one : Column → Value → (Column → Value) → Column → Value
@@ -55,6 +55,8 @@ account_after id Rule v g = refl
 account_after id NextDate v g = refl
 account_after id Completed v g = refl
 account_after id PostsTransaction v g = refl
+account_after id TransferId v g = refl
+account_after id TargetId v g = refl
 
 pub account_is : IsTable account_table
 account_is = record {
@@ -105,6 +107,8 @@ group_after id Rule v g = refl
 group_after id NextDate v g = refl
 group_after id Completed v g = refl
 group_after id PostsTransaction v g = refl
+group_after id TransferId v g = refl
+group_after id TargetId v g = refl
 
 pub group_is : IsTable group_table
 group_is = record {
@@ -155,6 +159,8 @@ category_after id Rule v g = refl
 category_after id NextDate v g = refl
 category_after id Completed v g = refl
 category_after id PostsTransaction v g = refl
+category_after id TransferId v g = refl
+category_after id TargetId v g = refl
 
 pub category_is : IsTable category_table
 category_is = record {
@@ -206,6 +212,8 @@ payee_after id Rule v g = refl
 payee_after id NextDate v g = refl
 payee_after id Completed v g = refl
 payee_after id PostsTransaction v g = refl
+payee_after id TransferId v g = refl
+payee_after id TargetId v g = refl
 
 pub payee_is : IsTable payee_table
 payee_is = record {
@@ -254,6 +262,8 @@ tx_after id Rule v g = refl
 tx_after id NextDate v g = refl
 tx_after id Completed v g = refl
 tx_after id PostsTransaction v g = refl
+tx_after id TransferId v g = refl
+tx_after id TargetId v g = refl
 
 pub tx_is : IsTable tx_table
 tx_is = record {
@@ -316,6 +326,8 @@ budget_after id Rule v g = refl
 budget_after id NextDate v g = refl
 budget_after id Completed v g = refl
 budget_after id PostsTransaction v g = refl
+budget_after id TransferId v g = refl
+budget_after id TargetId v g = refl
 
 pub budget_is : IsTable budget_table
 budget_is = record {
@@ -365,6 +377,8 @@ month_after id Rule v g = refl
 month_after id NextDate v g = refl
 month_after id Completed v g = refl
 month_after id PostsTransaction v g = refl
+month_after id TransferId v g = refl
+month_after id TargetId v g = refl
 
 pub month_is : IsTable month_table
 month_is = record {
@@ -411,6 +425,8 @@ note_after id Rule v g = refl
 note_after id NextDate v g = refl
 note_after id Completed v g = refl
 note_after id PostsTransaction v g = refl
+note_after id TransferId v g = refl
+note_after id TargetId v g = refl
 
 pub note_is : IsTable note_table
 note_is = record {
@@ -457,6 +473,8 @@ rule_after id Rule v g = refl
 rule_after id NextDate v g = refl
 rule_after id Completed v g = refl
 rule_after id PostsTransaction v g = refl
+rule_after id TransferId v g = refl
+rule_after id TargetId v g = refl
 
 pub rule_is : IsTable rule_table
 rule_is = record {
@@ -507,6 +525,8 @@ schedule_after id Rule v g = refl
 schedule_after id NextDate v g = refl
 schedule_after id Completed v g = refl
 schedule_after id PostsTransaction v g = refl
+schedule_after id TransferId v g = refl
+schedule_after id TargetId v g = refl
 
 pub schedule_is : IsTable schedule_table
 schedule_is = record {
@@ -518,5 +538,101 @@ schedule_is = record {
       let e3 = h Completed refl in
       let e4 = h PostsTransaction refl in
       let e5 = h Tombstone refl in
+      cc;
+}
+
+category_mapping_after : (id : Text) (c : Column) (v : Value) (g : Column → Value) → category_mapping_table.row id (with_one c v g) ≡ category_mapping_table.set c v (category_mapping_table.row id g)
+category_mapping_after id Acct v g = refl
+category_mapping_after id Date v g = refl
+category_mapping_after id Amount v g = refl
+category_mapping_after id Category v g = refl
+category_mapping_after id Description v g = refl
+category_mapping_after id Notes v g = refl
+category_mapping_after id Name v g = refl
+category_mapping_after id Tombstone v g = refl
+category_mapping_after id SortOrder v g = refl
+category_mapping_after id Cleared v g = refl
+category_mapping_after id Reconciled v g = refl
+category_mapping_after id Note v g = refl
+category_mapping_after id IsParent v g = refl
+category_mapping_after id IsChild v g = refl
+category_mapping_after id ParentId v g = refl
+category_mapping_after id TransferredId v g = refl
+category_mapping_after id Schedule v g = refl
+category_mapping_after id ImportedDescription v g = refl
+category_mapping_after id FinancialId v g = refl
+category_mapping_after id CatGroup v g = refl
+category_mapping_after id IsIncome v g = refl
+category_mapping_after id Hidden v g = refl
+category_mapping_after id Offbudget v g = refl
+category_mapping_after id Closed v g = refl
+category_mapping_after id TransferAcct v g = refl
+category_mapping_after id Month v g = refl
+category_mapping_after id Carryover v g = refl
+category_mapping_after id Buffered v g = refl
+category_mapping_after id Stage v g = refl
+category_mapping_after id ConditionsOp v g = refl
+category_mapping_after id Conditions v g = refl
+category_mapping_after id Actions v g = refl
+category_mapping_after id Rule v g = refl
+category_mapping_after id NextDate v g = refl
+category_mapping_after id Completed v g = refl
+category_mapping_after id PostsTransaction v g = refl
+category_mapping_after id TransferId v g = refl
+category_mapping_after id TargetId v g = refl
+
+pub category_mapping_is : IsTable category_mapping_table
+category_mapping_is = record {
+  after = category_mapping_after;
+  depends = λ id f g h.
+      let e0 = h TransferId refl in
+      cc;
+}
+
+payee_mapping_after : (id : Text) (c : Column) (v : Value) (g : Column → Value) → payee_mapping_table.row id (with_one c v g) ≡ payee_mapping_table.set c v (payee_mapping_table.row id g)
+payee_mapping_after id Acct v g = refl
+payee_mapping_after id Date v g = refl
+payee_mapping_after id Amount v g = refl
+payee_mapping_after id Category v g = refl
+payee_mapping_after id Description v g = refl
+payee_mapping_after id Notes v g = refl
+payee_mapping_after id Name v g = refl
+payee_mapping_after id Tombstone v g = refl
+payee_mapping_after id SortOrder v g = refl
+payee_mapping_after id Cleared v g = refl
+payee_mapping_after id Reconciled v g = refl
+payee_mapping_after id Note v g = refl
+payee_mapping_after id IsParent v g = refl
+payee_mapping_after id IsChild v g = refl
+payee_mapping_after id ParentId v g = refl
+payee_mapping_after id TransferredId v g = refl
+payee_mapping_after id Schedule v g = refl
+payee_mapping_after id ImportedDescription v g = refl
+payee_mapping_after id FinancialId v g = refl
+payee_mapping_after id CatGroup v g = refl
+payee_mapping_after id IsIncome v g = refl
+payee_mapping_after id Hidden v g = refl
+payee_mapping_after id Offbudget v g = refl
+payee_mapping_after id Closed v g = refl
+payee_mapping_after id TransferAcct v g = refl
+payee_mapping_after id Month v g = refl
+payee_mapping_after id Carryover v g = refl
+payee_mapping_after id Buffered v g = refl
+payee_mapping_after id Stage v g = refl
+payee_mapping_after id ConditionsOp v g = refl
+payee_mapping_after id Conditions v g = refl
+payee_mapping_after id Actions v g = refl
+payee_mapping_after id Rule v g = refl
+payee_mapping_after id NextDate v g = refl
+payee_mapping_after id Completed v g = refl
+payee_mapping_after id PostsTransaction v g = refl
+payee_mapping_after id TransferId v g = refl
+payee_mapping_after id TargetId v g = refl
+
+pub payee_mapping_is : IsTable payee_mapping_table
+payee_mapping_is = record {
+  after = payee_mapping_after;
+  depends = λ id f g h.
+      let e0 = h TargetId refl in
       cc;
 }

@@ -1,6 +1,7 @@
 -- The first and the last of the months that rows have.
 use Rattle.std.proofs.Common.{◌≡◌, ◌⊎◌, inl, inr, ℕ, zero, suc, min, max, Bool, true, false, cond, List, [], ◌∷◌, map, Option, Some, None, refl, sym, ap, ap₂, ◌∙◌, true≢false, arith, subst}
-use Rattle.std.specs.Prelude.{◌||◌}
+use Rattle.std.specs.Prelude.{◌/◌, ◌||◌, IfSome, if◌then◌else◌, nat_lt, ◌==◌, length, slice_index}
+use Rattle.std.specs.Option.{option_map}
 use Rattle.std.specs.Ordering.{eq_by_cmp, nat_cmp}
 use Rattle.std.specs.Cmp.{eq_by_cmp_equiv, nat_cmp_total}
 use Rattle.std.specs.List.{filter, list_any}
@@ -16,10 +17,12 @@ use Rattle.book_rows.specs.declared.txs.TxIndex.{TxIndex}
 use Rattle.book_rows.specs.declared.rows.BudgetRow.{BudgetRow}
 use Rattle.book_rows.specs.declared.rows.MonthRow.{MonthRow}
 use Rattle.book_rows.specs.Laws.{HasRowIn, WindowsSpan}
-use Rattle.book_rows.specs.Months.{month_of_row, budget_month, month_row_month, hull, month_span, span_of, window_of}
-use Rattle.book_rows.specs.Book.{IsIndexed, keys_of, is_month_of, has_named}
+use Rattle.book_rows.specs.Kinds.{is_day}
+use Rattle.book_rows.specs.Months.{is_month, month_in, behind, two_at, four_at, month_of_row, budget_month, month_row_month, hull, month_span, span_of, window_of}
+use Rattle.book_rows.specs.Book.{HaveDays, IsIndexed, keys_of, is_month_of, has_named}
 use Rattle.book_rows.specs.Spans.{Spans, HasDated, HasMonth}
 use Rattle.book_rows.proofs.Pairs.{is_equal, itself}
+use Rattle.book_rows.proofs.Days.{day_month}
 
 never : {P : Type 0} → false ≡ true → P
 never h = absurd (true≢false (sym h))
@@ -135,7 +138,7 @@ month_there m None = refl
 month_there m (Some x) = refl
 
 -- ---- the window
-pub window_is : (index : TxIndex) (named : BTreeSet ℕ) (rows : Rows) → IsIndexed index named rows.txs rows.budgets rows.months → (dates ids : Option (ℕ × ℕ)) → Spans (HasDated index.months) dates → Spans (HasMonth named) ids → hull dates ids ≡ window_of rows
+pub window_is : (index : TxIndex) (named : BTreeSet ℕ) (rows : Rows) → IsIndexed index named rows.txs rows.budgets rows.months rows.tracked → (dates ids : Option (ℕ × ℕ)) → Spans (HasDated index.months) dates → Spans (HasMonth named) ids → hull dates ids ≡ window_of rows
 window_is index named rows is dates ids of_dates of_ids = ap₂ (λ (a b : Option (ℕ × ℕ)). hull a b) by_day by_id
   where
     HasDay : ℕ → Type 0
@@ -234,3 +237,55 @@ windows_span_lem rows =
     (λ m h. let found = any_key (λ id. is_month_of m (month_row_month id)) (map.entries rows.months) h in (found.0, found.1.0, map.get-entries rows.months found.0 ∙ found.1.1.0, month_told m _ found.1.1.1))
     (λ m h. key_any (λ id. is_month_of m (month_row_month id)) h.0 h.1 (map.entries rows.months) (sym (map.get-entries rows.months h.0) ∙ h.2) (month_tells m _ h.3))
     _ (list_spans (λ e. month_row_month e.0) (map.entries rows.months))))
+
+-- ---- the months that rows have are months
+no_some : {P : Type 0} (m : ℕ) → None ≡ Some m → P
+no_some m h = absurd (cc)
+
+one_of : (n m : ℕ) → Some n ≡ Some m → n ≡ m
+one_of n m h = cc
+
+unless : (b : Bool) (o : Option ℕ) (m : ℕ) → (if b then None else o) ≡ Some m → o ≡ Some m
+unless true o m h = no_some m h
+unless false o m h = h
+
+only : (b : Bool) (o : Option ℕ) (m : ℕ) → (if b then o else None) ≡ Some m → o ≡ Some m
+only true o m h = h
+only false o m h = no_some m h
+
+in_year : (o : Option ℕ) (m : ℕ) → month_in o ≡ Some m → is_month m ≡ true
+in_year None m h = no_some m h
+in_year (Some n) m h = by (is_month n) refl h
+  where
+    by : (b : Bool) → is_month n ≡ b → (if b then Some n else None) ≡ Some m → is_month m ≡ true
+    by true e k = ap is_month (sym (one_of n m k)) ∙ e
+    by false e k = no_some m k
+
+budget_told : (id : Text) (m : ℕ) → budget_month id ≡ Some m → is_month m ≡ true
+unfolding budget_month
+budget_told id m h =
+    let o = behind 100 (four_at id 0) (two_at id 4) in
+    in_year o m (only (slice_index id 6 == 45) (month_in o) m (unless (nat_lt (length id) 7) (if slice_index id 6 == 45 then month_in o else None) m h))
+
+month_row_told : (id : Text) (m : ℕ) → month_row_month id ≡ Some m → is_month m ≡ true
+unfolding month_row_month
+month_row_told id m h =
+    let o = behind 100 (four_at id 0) (two_at id 5) in
+    in_year o m (only (slice_index id 4 == 45) (month_in o) m (only (length id == 7) (if slice_index id 4 == 45 then month_in o else None) m h))
+
+dated_told : (o : Option ℕ) (m : ℕ) → ((day : ℕ) → o ≡ Some day → is_day day ≡ true) → option_map (λ day. day / 100) o ≡ Some m → is_month m ≡ true
+dated_told None m days h = no_some m h
+dated_told (Some day) m days h = ap is_month (sym (one_of _ m h)) ∙ day_month day (days day refl)
+
+row_month : (rows : Rows) → HaveDays rows.txs → (m : ℕ) → HasRowIn rows m → is_month m ≡ true
+row_month rows days m (inl h) = dated_told h.1.date m (λ day e. days h.0 h.1 day h.2 e) h.3
+row_month rows days m (inr (inl h)) = budget_told h.0 m h.3
+row_month rows days m (inr (inr h)) = month_row_told h.0 m h.3
+
+span_months : (P : ℕ → Type 0) → ((m : ℕ) → P m → is_month m ≡ true) → (o : Option (ℕ × ℕ)) → Spans P o → IfSome o (λ w. (is_month w.0 ≡ true) × (is_month w.1 ≡ true))
+span_months P told None s = tt
+span_months P told (Some w) s = (told w.0 s.first, told w.1 s.last)
+
+-- the window begins and ends with a month
+pub window_months : (rows : Rows) → HaveDays rows.txs → IfSome (window_of rows) (λ w. (is_month w.0 ≡ true) × (is_month w.1 ≡ true))
+window_months rows days = span_months (HasRowIn rows) (row_month rows days) (window_of rows) (windows_span_lem rows)

@@ -3,9 +3,9 @@ use Rattle.std.specs.Prelude.{ℕ, Bool, nat_eq, ◌==◌, List, [], ◌∷◌, 
 use Rattle.std.specs.Cmp.Lexicographic.{pointwise}
 use Rattle.finite_sums.specs.Maps.{Text}
 use Rattle.book_rows.specs.declared.column.Dataset.{Dataset}
-use Rattle.book_rows.specs.declared.column.Dataset.TheVariants.{Transactions, ZeroBudgets, Accounts, CategoryGroups, Categories, Payees, ZeroBudgetMonths, Notes, Rules, Schedules}
+use Rattle.book_rows.specs.declared.column.Dataset.TheVariants.{Transactions, ZeroBudgets, Accounts, CategoryGroups, Categories, Payees, ZeroBudgetMonths, Notes, Rules, Schedules, CategoryMapping, PayeeMapping, ReflectBudgets}
 use Rattle.book_rows.specs.declared.column.Column.{Column}
-use Rattle.book_rows.specs.declared.column.Column.TheVariants.{Acct, Date, Amount, Category, Description, Notes, Name, Tombstone, SortOrder, Cleared, Reconciled, Note, IsParent, IsChild, ParentId, TransferredId, Schedule, ImportedDescription, FinancialId, CatGroup, IsIncome, Hidden, Offbudget, Closed, TransferAcct, Month, Carryover, Buffered, Stage, ConditionsOp, Conditions, Actions, Rule, NextDate, Completed, PostsTransaction}
+use Rattle.book_rows.specs.declared.column.Column.TheVariants.{Acct, Date, Amount, Category, Description, Notes, Name, Tombstone, SortOrder, Cleared, Reconciled, Note, IsParent, IsChild, ParentId, TransferredId, Schedule, ImportedDescription, FinancialId, CatGroup, IsIncome, Hidden, Offbudget, Closed, TransferAcct, Month, Carryover, Buffered, Stage, ConditionsOp, Conditions, Actions, Rule, NextDate, Completed, PostsTransaction, TransferId, TargetId}
 
 -- two texts are the same
 unfoldable pub same_text : Text → Text → Bool
@@ -23,6 +23,9 @@ dataset_name ZeroBudgetMonths = codes "zero_budget_months"
 dataset_name Notes = codes "notes"
 dataset_name Rules = codes "rules"
 dataset_name Schedules = codes "schedules"
+dataset_name CategoryMapping = codes "category_mapping"
+dataset_name PayeeMapping = codes "payee_mapping"
+dataset_name ReflectBudgets = codes "reflect_budgets"
 
 -- the names of the columns
 abbrev pub column_name : Column → Text
@@ -62,6 +65,8 @@ column_name Rule = codes "rule"
 column_name NextDate = codes "next_date"
 column_name Completed = codes "completed"
 column_name PostsTransaction = codes "posts_transaction"
+column_name TransferId = codes "transferId"
+column_name TargetId = codes "targetId"
 
 -- the place of a column among all of them
 abbrev pub column_number : Column → ℕ
@@ -101,6 +106,8 @@ column_number Rule = 32
 column_number NextDate = 33
 column_number Completed = 34
 column_number PostsTransaction = 35
+column_number TransferId = 36
+column_number TargetId = 37
 
 -- whether two columns are the same
 abbrev pub same_column : Column → Column → Bool
@@ -108,16 +115,24 @@ same_column a b = column_number a == column_number b
 
 -- all columns
 abbrev pub all_columns : List Column
-all_columns = Acct ∷ Date ∷ Amount ∷ Category ∷ Description ∷ Notes ∷ Name ∷ Tombstone ∷ SortOrder ∷ Cleared ∷ Reconciled ∷ Note ∷ IsParent ∷ IsChild ∷ ParentId ∷ TransferredId ∷ Schedule ∷ ImportedDescription ∷ FinancialId ∷ CatGroup ∷ IsIncome ∷ Hidden ∷ Offbudget ∷ Closed ∷ TransferAcct ∷ Month ∷ Carryover ∷ Buffered ∷ Stage ∷ ConditionsOp ∷ Conditions ∷ Actions ∷ Rule ∷ NextDate ∷ Completed ∷ PostsTransaction ∷ []
+all_columns = Acct ∷ Date ∷ Amount ∷ Category ∷ Description ∷ Notes ∷ Name ∷ Tombstone ∷ SortOrder ∷ Cleared ∷ Reconciled ∷ Note ∷ IsParent ∷ IsChild ∷ ParentId ∷ TransferredId ∷ Schedule ∷ ImportedDescription ∷ FinancialId ∷ CatGroup ∷ IsIncome ∷ Hidden ∷ Offbudget ∷ Closed ∷ TransferAcct ∷ Month ∷ Carryover ∷ Buffered ∷ Stage ∷ ConditionsOp ∷ Conditions ∷ Actions ∷ Rule ∷ NextDate ∷ Completed ∷ PostsTransaction ∷ TransferId ∷ TargetId ∷ []
 
--- the dataset of a name, among the last four
+-- the dataset of a name, from the third six on
+unfoldable pub last_dataset_of : Text → Option Dataset
+last_dataset_of name =
+    if same_text name (codes "reflect_budgets") then Some ReflectBudgets else
+    None
+
+-- the dataset of a name, from the second six on
 unfoldable pub later_dataset_of : Text → Option Dataset
 later_dataset_of name =
     if same_text name (codes "zero_budget_months") then Some ZeroBudgetMonths else
     if same_text name (codes "notes") then Some Notes else
     if same_text name (codes "rules") then Some Rules else
     if same_text name (codes "schedules") then Some Schedules else
-    None
+    if same_text name (codes "category_mapping") then Some CategoryMapping else
+    if same_text name (codes "payee_mapping") then Some PayeeMapping else
+    last_dataset_of name
 
 -- the dataset of a name
 unfoldable pub dataset_of : Text → Option Dataset
@@ -130,6 +145,13 @@ dataset_of name =
     if same_text name (codes "payees") then Some Payees else
     later_dataset_of name
 
+-- the column of a name, from the seventh six on
+unfoldable pub seventh_column_of : Text → Option Column
+seventh_column_of name =
+    if same_text name (codes "transferId") then Some TransferId else
+    if same_text name (codes "targetId") then Some TargetId else
+    None
+
 -- the column of a name, from the sixth six on
 unfoldable pub sixth_column_of : Text → Option Column
 sixth_column_of name =
@@ -139,7 +161,7 @@ sixth_column_of name =
     if same_text name (codes "next_date") then Some NextDate else
     if same_text name (codes "completed") then Some Completed else
     if same_text name (codes "posts_transaction") then Some PostsTransaction else
-    None
+    seventh_column_of name
 
 -- the column of a name, from the fifth six on
 unfoldable pub fifth_column_of : Text → Option Column

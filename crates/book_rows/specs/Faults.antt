@@ -1,6 +1,6 @@
 -- What a refusal of an edit tells.
 use Rattle.book_rows.specs.declared.fault.EditFault.{EditFault}
-use Rattle.book_rows.specs.declared.fault.EditFault.TheVariants.{BadId, IdTaken, NoSuchAccount, NoSuchGroup, NoSuchCategory, NoSuchPayee, NoSuchTransaction, IsChild, IsTransferPart, SameAccount, IncomeCategory, NameTaken, NoSuchSchedule, ScheduleDone}
+use Rattle.book_rows.specs.declared.fault.EditFault.TheVariants.{BadId, IdTaken, NoSuchAccount, NoSuchGroup, NoSuchCategory, NoSuchPayee, NoSuchTransaction, IsChild, IsTransferPart, SameAccount, IncomeCategory, NameTaken, NoSuchSchedule, ScheduleDone, CategoryType, TransferPayee}
 
 -- the refusal tells an id, which takes memory to copy
 abbrev pub TellsId : EditFault → Type 0
@@ -18,4 +18,6 @@ TellsId (IncomeCategory id) = Unit {0}
 TellsId (NameTaken id) = Unit {0}
 TellsId (NoSuchSchedule id) = Unit {0}
 TellsId (ScheduleDone id) = Unit {0}
+TellsId (CategoryType id) = Unit {0}
+TellsId (TransferPayee id) = Unit {0}
 TellsId fault = ⊥

@@ -14,3 +14,4 @@ pub mod Balances
 pub mod Faults
 pub mod Ids
 pub mod Named
+pub mod Amounts

@@ -1,7 +1,8 @@
 -- Which rows are live, and which transactions count.
-use Rattle.std.specs.Prelude.{Bool, true, not, ◌&&◌, Option, is_some, if◌then◌else◌}
+use Rattle.std.specs.Prelude.{Bool, true, not, ◌&&◌, Option, None, Some, is_some, unwrap_or, if◌then◌else◌}
+use Rattle.std.specs.Option.{option_map}
 use Rattle.std.specs.FinMap as map
-use Rattle.finite_sums.specs.Maps.{Text, some_and}
+use Rattle.finite_sums.specs.Maps.{Text, Texts, some_and}
 use Rattle.book_rows.specs.declared.rows.Rows.{Rows}
 use Rattle.book_rows.specs.declared.rows.TxRow.{TxRow}
 use Rattle.book_rows.specs.declared.rows.CategoryRow.{CategoryRow}
@@ -59,9 +60,26 @@ is_on_budget rows x = some_and (λ a. some_and (λ row. not row.offbudget) (map.
 abbrev pub is_counted : Rows → TxRow → Bool
 is_counted rows x = is_live_tx rows x && (not x.is_parent && (is_some x.date && is_on_budget rows x))
 
--- the category and the payee of a transaction
+-- ---- mappings
+
+-- the target of a row, if it is there and has one
+abbrev pub target_of : {Row : Type 0} → (Row → Option Text) → Option Row → Option Text
+target_of target None = None
+target_of target (Some row) = target row
+
+-- what an id is mapped to: the target of its own row, where that is there and has one, and else the id itself. It is one step: the row of the target is not asked
+abbrev pub mapped : {Row : Type 0} → (Row → Option Text) → Texts Row → Text → Text
+mapped target rows id = unwrap_or (target_of target (map.get rows id)) id
+
+abbrev pub mapped_category : Rows → Text → Text
+mapped_category rows id = mapped (λ m. m.transfer_id) rows.category_mappings id
+
+abbrev pub mapped_payee : Rows → Text → Text
+mapped_payee rows id = mapped (λ m. m.target_id) rows.payee_mappings id
+
+-- the category and the payee of a transaction: what the ids in its columns are mapped to
 abbrev pub category_of : Rows → TxRow → Option Text
-category_of rows x = x.category
+category_of rows x = option_map (mapped_category rows) x.category
 
 abbrev pub payee_of : Rows → TxRow → Option Text
-payee_of rows x = x.description
+payee_of rows x = option_map (mapped_payee rows) x.description

@@ -14,3 +14,6 @@ pub record HasNames (rows : Rows) : Type 0 where
   pub notes : AreNamed rows.notes
   pub rules : AreNamed rows.rules
   pub schedules : AreNamed rows.schedules
+  pub category_mappings : AreNamed rows.category_mappings
+  pub payee_mappings : AreNamed rows.payee_mappings
+  pub tracked : AreNamed rows.tracked

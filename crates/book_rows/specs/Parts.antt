@@ -1,4 +1,4 @@
--- The parts of a split, and the transactions of an account.
+-- The parts of a split, and the transactions of an account and of a category.
 use Rattle.std.specs.Prelude.{Bool, ◌&&◌, List, Option}
 use Rattle.std.specs.Ordering.{eq_by_cmp}
 use Rattle.std.specs.FinMap as map
@@ -18,6 +18,10 @@ is_child_of id x = x.is_child && is_text id x.parent_id
 abbrev pub is_in_account : Text → TxRow → Bool
 is_in_account id x = is_text id x.acct
 
+-- the transaction says that it is one of the category with this id, whatever that is mapped to
+abbrev pub is_in_category : Text → TxRow → Bool
+is_in_category id x = is_text id x.category
+
 -- the ids of the parts of a transaction, dead or alive, in order
 abbrev pub children_of : Rows → Text → List Text
 children_of rows id = keys_where (is_child_of id) (map.entries rows.txs)
@@ -25,3 +29,7 @@ children_of rows id = keys_where (is_child_of id) (map.entries rows.txs)
 -- the ids of the transactions of an account, dead or alive, in order
 abbrev pub account_txs : Rows → Text → List Text
 account_txs rows id = keys_where (is_in_account id) (map.entries rows.txs)
+
+-- the ids of the transactions whose category column is this id, dead or alive, in order
+abbrev pub category_txs : Rows → Text → List Text
+category_txs rows id = keys_where (is_in_category id) (map.entries rows.txs)

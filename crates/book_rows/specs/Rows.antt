@@ -1,17 +1,17 @@
 -- The rows of a book, and how they follow the values of fields.
-use Rattle.std.specs.Prelude.{◌≡◌, Bool, Option, None, Some, is_some, if◌then◌else◌, codes}
+use Rattle.std.specs.Prelude.{◌≡◌, Bool, false, Option, None, Some, is_some, if◌then◌else◌, codes}
 use Rattle.std.specs.FinMap as map
 use Rattle.field_values.specs.declared.value.Value.{Value}
 use Rattle.field_values.specs.Names.{FieldNames, field_of, names_eq}
-use Rattle.finite_sums.specs.Maps.{Text, Texts}
+use Rattle.finite_sums.specs.Maps.{Text, Texts, some_and}
 use Rattle.book_rows.specs.declared.column.Dataset.{Dataset}
-use Rattle.book_rows.specs.declared.column.Dataset.TheVariants.{Accounts, CategoryGroups, Categories, Payees, Transactions, ZeroBudgets, ZeroBudgetMonths, Notes, Rules, Schedules}
+use Rattle.book_rows.specs.declared.column.Dataset.TheVariants.{Accounts, CategoryGroups, Categories, Payees, Transactions, ZeroBudgets, ZeroBudgetMonths, Notes, Rules, Schedules, CategoryMapping, PayeeMapping, ReflectBudgets}
 use Rattle.book_rows.specs.declared.column.Column.{Column}
 use Rattle.book_rows.specs.declared.kind.Kind.{Kind}
 use Rattle.book_rows.specs.declared.rows.Rows.{Rows}
 use Rattle.book_rows.specs.Columns.{dataset_name, column_name, dataset_of, column_of}
-use Rattle.book_rows.specs.Tables.{Table, row_at, with_column}
-use Rattle.book_rows.specs.Rules.{account_table, group_table, category_table, payee_table, tx_table, budget_table, month_table, note_table, rule_table, schedule_table}
+use Rattle.book_rows.specs.Tables.{Table, has_column, row_at, with_column}
+use Rattle.book_rows.specs.Rules.{account_table, group_table, category_table, payee_table, tx_table, budget_table, month_table, note_table, rule_table, schedule_table, category_mapping_table, payee_mapping_table}
 
 -- the values that fields have
 abbrev pub Values : Type 0
@@ -37,6 +37,9 @@ pub record AreRowsOf (values : Values) (rows : Rows) : Type 0 where
   pub notes : AreTableOf note_table Notes values rows.notes
   pub rules : AreTableOf rule_table Rules values rows.rules
   pub schedules : AreTableOf schedule_table Schedules values rows.schedules
+  pub category_mappings : AreTableOf category_mapping_table CategoryMapping values rows.category_mappings
+  pub payee_mappings : AreTableOf payee_mapping_table PayeeMapping values rows.payee_mappings
+  pub tracked : AreTableOf budget_table ReflectBudgets values rows.tracked
 
 -- no rows at all
 abbrev pub no_rows : Rows
@@ -51,6 +54,9 @@ no_rows = record {
   notes = map.empty;
   rules = map.empty;
   schedules = map.empty;
+  category_mappings = map.empty;
+  payee_mappings = map.empty;
+  tracked = map.empty;
 }
 
 -- the rows with another value in a column of a row
@@ -65,6 +71,9 @@ with_cell ZeroBudgetMonths id column value rows = record rows { months = with_co
 with_cell Notes id column value rows = record rows { notes = with_column note_table id column value rows.notes }
 with_cell Rules id column value rows = record rows { rules = with_column rule_table id column value rows.rules }
 with_cell Schedules id column value rows = record rows { schedules = with_column schedule_table id column value rows.schedules }
+with_cell CategoryMapping id column value rows = record rows { category_mappings = with_column category_mapping_table id column value rows.category_mappings }
+with_cell PayeeMapping id column value rows = record rows { payee_mappings = with_column payee_mapping_table id column value rows.payee_mappings }
+with_cell ReflectBudgets id column value rows = record rows { tracked = with_column budget_table id column value rows.tracked }
 
 -- the rows with another value in a column of a row, where the dataset and the column are known
 abbrev pub with_known : Option Dataset → Option Column → Text → Value → Rows → Rows
@@ -92,6 +101,9 @@ dataset_kind ZeroBudgetMonths column = month_table.kind column
 dataset_kind Notes column = note_table.kind column
 dataset_kind Rules column = rule_table.kind column
 dataset_kind Schedules column = schedule_table.kind column
+dataset_kind CategoryMapping column = category_mapping_table.kind column
+dataset_kind PayeeMapping column = payee_mapping_table.kind column
+dataset_kind ReflectBudgets column = budget_table.kind column
 
 abbrev pub known_kind : Option Dataset → Option Column → Option Kind
 known_kind None column = None
@@ -105,3 +117,26 @@ kind_of dataset column = known_kind (dataset_of dataset) (column_of column)
 -- whether the rows of a dataset can be deleted
 abbrev pub has_tombstone : Text → Bool
 has_tombstone dataset = is_some (kind_of dataset (codes "tombstone"))
+
+-- ---- which rows are there
+
+-- a dataset has the row of an id; no row of a dataset that is not known is there
+abbrev pub is_row : Rows → Option Dataset → Text → Bool
+is_row rows None id = false
+is_row rows (Some Accounts) id = is_some (map.get rows.accounts id)
+is_row rows (Some CategoryGroups) id = is_some (map.get rows.groups id)
+is_row rows (Some Categories) id = is_some (map.get rows.categories id)
+is_row rows (Some Payees) id = is_some (map.get rows.payees id)
+is_row rows (Some Transactions) id = is_some (map.get rows.txs id)
+is_row rows (Some ZeroBudgets) id = is_some (map.get rows.budgets id)
+is_row rows (Some ZeroBudgetMonths) id = is_some (map.get rows.months id)
+is_row rows (Some Notes) id = is_some (map.get rows.notes id)
+is_row rows (Some Rules) id = is_some (map.get rows.rules id)
+is_row rows (Some Schedules) id = is_some (map.get rows.schedules id)
+is_row rows (Some CategoryMapping) id = is_some (map.get rows.category_mappings id)
+is_row rows (Some PayeeMapping) id = is_some (map.get rows.payee_mappings id)
+is_row rows (Some ReflectBudgets) id = is_some (map.get rows.tracked id)
+
+-- the row of a field is there: one of the columns that a book knows of it has a value
+abbrev pub has_row : Values → FieldNames → Bool
+has_row values f = some_and (λ dataset. has_column (dataset_kind dataset) (values_at values dataset f.row)) (dataset_of f.dataset)

@@ -3,7 +3,7 @@ use Rattle.std.specs.Prelude.{Option, None, Some}
 use Rattle.field_values.specs.declared.value.Value.{Value}
 use Rattle.finite_sums.specs.Maps.{Text}
 use Rattle.book_rows.specs.declared.column.Column.{Column}
-use Rattle.book_rows.specs.declared.column.Column.TheVariants.{Acct, Date, Amount, Category, Description, Notes, Name, Tombstone, SortOrder, Cleared, Reconciled, Note, IsParent, IsChild, ParentId, TransferredId, Schedule, ImportedDescription, FinancialId, CatGroup, IsIncome, Hidden, Offbudget, Closed, TransferAcct, Month, Carryover, Buffered, Stage, ConditionsOp, Conditions, Actions, Rule, NextDate, Completed, PostsTransaction}
+use Rattle.book_rows.specs.declared.column.Column.TheVariants.{Acct, Date, Amount, Category, Description, Notes, Name, Tombstone, SortOrder, Cleared, Reconciled, Note, IsParent, IsChild, ParentId, TransferredId, Schedule, ImportedDescription, FinancialId, CatGroup, IsIncome, Hidden, Offbudget, Closed, TransferAcct, Month, Carryover, Buffered, Stage, ConditionsOp, Conditions, Actions, Rule, NextDate, Completed, PostsTransaction, TransferId, TargetId}
 use Rattle.book_rows.specs.declared.kind.Kind.{Kind}
 use Rattle.book_rows.specs.declared.kind.Kind.TheVariants.{Flag, Int, Day, Text as Words}
 use Rattle.book_rows.specs.Kinds.{flag_of, int_of, text_of, day_of}
@@ -18,6 +18,8 @@ use Rattle.book_rows.specs.declared.rows.MonthRow.{MonthRow}
 use Rattle.book_rows.specs.declared.rows.NoteRow.{NoteRow}
 use Rattle.book_rows.specs.declared.rows.RuleRow.{RuleRow}
 use Rattle.book_rows.specs.declared.rows.ScheduleRow.{ScheduleRow}
+use Rattle.book_rows.specs.declared.rows.CategoryMappingRow.{CategoryMappingRow}
+use Rattle.book_rows.specs.declared.rows.PayeeMappingRow.{PayeeMappingRow}
 
 -- ---- transactions
 abbrev pub tx_kind : Column → Option Kind
@@ -85,7 +87,7 @@ with_tx_column other v row = row
 abbrev pub tx_table : Table TxRow
 tx_table = record { kind = tx_kind; row = tx_row; set = with_tx_column }
 
--- ---- zero_budgets
+-- ---- zero_budgets, and reflect_budgets, whose rows are the same
 abbrev pub budget_kind : Column → Option Kind
 budget_kind Month = Some Int
 budget_kind Category = Some Words
@@ -327,3 +329,39 @@ with_schedule_column other v row = row
 
 abbrev pub schedule_table : Table ScheduleRow
 schedule_table = record { kind = schedule_kind; row = schedule_row; set = with_schedule_column }
+
+-- ---- category_mapping
+abbrev pub category_mapping_kind : Column → Option Kind
+category_mapping_kind TransferId = Some Words
+category_mapping_kind other = None
+
+abbrev pub category_mapping_row : Text → (Column → Value) → CategoryMappingRow
+category_mapping_row id value = record {
+  id = id;
+  transfer_id = text_of (value TransferId);
+}
+
+abbrev pub with_category_mapping_column : Column → Value → CategoryMappingRow → CategoryMappingRow
+with_category_mapping_column TransferId v row = record row { transfer_id = text_of v }
+with_category_mapping_column other v row = row
+
+abbrev pub category_mapping_table : Table CategoryMappingRow
+category_mapping_table = record { kind = category_mapping_kind; row = category_mapping_row; set = with_category_mapping_column }
+
+-- ---- payee_mapping
+abbrev pub payee_mapping_kind : Column → Option Kind
+payee_mapping_kind TargetId = Some Words
+payee_mapping_kind other = None
+
+abbrev pub payee_mapping_row : Text → (Column → Value) → PayeeMappingRow
+payee_mapping_row id value = record {
+  id = id;
+  target_id = text_of (value TargetId);
+}
+
+abbrev pub with_payee_mapping_column : Column → Value → PayeeMappingRow → PayeeMappingRow
+with_payee_mapping_column TargetId v row = record row { target_id = text_of v }
+with_payee_mapping_column other v row = row
+
+abbrev pub payee_mapping_table : Table PayeeMappingRow
+payee_mapping_table = record { kind = payee_mapping_kind; row = payee_mapping_row; set = with_payee_mapping_column }

@@ -1,14 +1,14 @@
 //! A book: the rows that the fields of messages make.
-ghost use Rattle.std.specs.Prelude.{◌≡◌, ◌+◌, true, false, OnOk, OnErr, IfOk, IsSome, length, is_some, if◌then◌else◌};
+ghost use Rattle.std.specs.Prelude.{◌≡◌, ◌≤◌, ◌+◌, true, false, OnOk, OnErr, IfOk, IfSome, IsSome, length, is_some, if◌then◌else◌};
 ghost use Rattle.std.specs.Option.{option_copied};
-ghost use Rattle.std.specs.BTreeSet as set;
 ghost use Rattle.std.specs.FinMap as map;
 ghost use Rattle.field_values.specs.Names.{IsName};
 ghost use Rattle.field_values.specs.Value.{IsValue};
-ghost use Rattle.book_rows.specs.Rows.{no_rows, with_cell, with_field, kind_of};
-ghost use Rattle.book_rows.specs.Live.{is_live_tx, is_alive, has_parent};
-ghost use Rattle.book_rows.specs.Months.{month_of_tx, window_of};
-ghost use Rattle.book_rows.specs.Parts.{children_of, account_txs};
+ghost use Rattle.book_rows.specs.Columns.{dataset_of};
+ghost use Rattle.book_rows.specs.Rows.{no_rows, with_cell, with_field, kind_of, is_row};
+ghost use Rattle.book_rows.specs.Live.{is_alive, has_parent, mapped_category, mapped_payee, category_of, payee_of};
+ghost use Rattle.book_rows.specs.Months.{is_month, month_of_tx, window_of};
+ghost use Rattle.book_rows.specs.Parts.{children_of, account_txs, category_txs};
 ghost use Rattle.book_rows.specs.Balances.{adds, balance_of};
 ghost use Rattle.finite_sums.specs.Sums.{total};
 ghost use Rattle.finite_sums.specs.Maps.{text_cmp, value_or_zero};
@@ -22,8 +22,8 @@ use crate::indexes::{Dated, list};
 use crate::known::dataset_kind;
 use crate::months::hull;
 use crate::rows::{
-    AccountRow, BudgetRow, CategoryRow, GroupRow, MonthRow, NoteRow, PayeeRow, Rows, RuleRow,
-    ScheduleRow, TxRow,
+    AccountRow, BudgetRow, CategoryMappingRow, CategoryRow, GroupRow, MonthRow, NoteRow,
+    PayeeMappingRow, PayeeRow, Rows, RuleRow, ScheduleRow, TrackRow, TxRow,
 };
 use crate::table::Table;
 use crate::txs::{TxIndex, month_of_row, set_budget, set_month, set_tx};
@@ -38,8 +38,9 @@ use std::sync::ledger::Ledger;
 ///
 /// A call that answers `NoMemory` and may have changed the book leaves it spent: no clause tells then which rows it has, and it is to
 /// be dropped.
-/// What is asked often is found without a walk over all rows: the parts of a transaction, the transactions of an account, and the
-/// first and the last month.
+///
+/// What is asked often is found without a walk over all rows: the parts of a transaction, the transactions of an account and of a
+/// category, and the first and the last month.
 #[derive(Drop)]
 pub struct Book {
     alloc: Global,
@@ -62,7 +63,7 @@ impl Model for Book {
 
     ghost view = { λ b. record { rows = b.rows; spent = b.spent } };
 
-    ghost invariant = { λ b. b.spent ≡ false → IsIndexed b.index b.named b.rows.txs b.rows.budgets b.rows.months };
+    ghost invariant = { λ b. b.spent ≡ false → IsIndexed b.index b.named b.rows.txs b.rows.budgets b.rows.months b.rows.tracked };
 }
 
 /// Sets a column of a row.
@@ -76,11 +77,11 @@ fn set_cell(
     column: Column,
     value: &Value,
 ) -> Result<(), NoMemory>
-    requires indexed { IsIndexed index.old named.old rows.old.txs rows.old.budgets rows.old.months }
+    requires indexed { IsIndexed index.old named.old rows.old.txs rows.old.budgets rows.old.months rows.old.tracked }
     requires name { IsName id.now }
     requires valid { IsValue value.now }
     ensures rows { OnOk result (rows.new ≡ with_cell dataset id.now column value.now rows.old) }
-    ensures indexed { OnOk result (IsIndexed index.new named.new rows.new.txs rows.new.budgets rows.new.months) }
+    ensures indexed { OnOk result (IsIndexed index.new named.new rows.new.txs rows.new.budgets rows.new.months rows.new.tracked) }
 {
     match dataset {
         Dataset::Transactions => set_tx(alloc, &mut rows.txs, index, id, column, value),
@@ -93,6 +94,9 @@ fn set_cell(
         Dataset::Rules => rows.rules.set(id, column, value),
         Dataset::Schedules => rows.schedules.set(id, column, value),
         Dataset::Notes => rows.notes.set(id, column, value),
+        Dataset::CategoryMapping => rows.category_mappings.set(id, column, value),
+        Dataset::PayeeMapping => rows.payee_mappings.set(id, column, value),
+        Dataset::ReflectBudgets => rows.tracked.set(id, column, value),
     }
 }
 
@@ -105,10 +109,10 @@ fn set_field(
     field: &Field,
     value: &Value,
 ) -> Result<(), NoMemory>
-    requires indexed { IsIndexed index.old named.old rows.old.txs rows.old.budgets rows.old.months }
+    requires indexed { IsIndexed index.old named.old rows.old.txs rows.old.budgets rows.old.months rows.old.tracked }
     requires valid { IsValue value.now }
     ensures rows { OnOk result (rows.new ≡ with_field rows.old field.now value.now) }
-    ensures indexed { OnOk result (IsIndexed index.new named.new rows.new.txs rows.new.budgets rows.new.months) }
+    ensures indexed { OnOk result (IsIndexed index.new named.new rows.new.txs rows.new.budgets rows.new.months rows.new.tracked) }
     ensures memory { OnErr result (IsSome (kind_of field.now.dataset field.now.column)) }
 {
     let Some(dataset) = dataset_of(field.dataset()) else {
@@ -172,10 +176,14 @@ impl Book {
                 notes: Table::new(alloc),
                 rules: Table::new(alloc),
                 schedules: Table::new(alloc),
+                category_mappings: Table::new(alloc),
+                payee_mappings: Table::new(alloc),
+                tracked: Table::new(alloc),
             },
             index: TxIndex {
                 children: BTreeMap::new(alloc),
                 accounts: BTreeMap::new(alloc),
+                categories: BTreeMap::new(alloc),
                 months: BTreeSet::new(alloc),
             },
             named: BTreeSet::new(alloc),
@@ -188,6 +196,14 @@ impl Book {
         ensures { result ≡ self.now.spent }
     {
         self.spent
+    }
+
+    /// Spoils the book, as a want of memory of its own does: for a call that was to change it and something else together, and ran
+    /// out of memory between them.
+    pub fn spend(&mut self)
+        ensures { self.new ≡ record { rows = self.old.rows; spent = true } }
+    {
+        self.spent = true;
     }
 
     /// Gives a field a value. A dataset that a book doesn't know, or a column that the dataset doesn't have, changes nothing, and
@@ -339,6 +355,121 @@ impl Book {
         self.rows.notes.all()
     }
 
+    /// The row that maps a category to another one.
+    pub fn category_mapping(&self, id: &Txt) -> Option<&CategoryMappingRow>
+        ensures { option_copied result ≡ map.get self.now.rows.category_mappings id.now }
+    {
+        self.rows.category_mappings.get(id)
+    }
+
+    /// The row that maps a payee to another one.
+    pub fn payee_mapping(&self, id: &Txt) -> Option<&PayeeMappingRow>
+        ensures { option_copied result ≡ map.get self.now.rows.payee_mappings id.now }
+    {
+        self.rows.payee_mappings.get(id)
+    }
+
+    /// The row of what a category is given in a month by the tracking budget.
+    pub fn track_row(&self, id: &Txt) -> Option<&TrackRow>
+        ensures { option_copied result ≡ map.get self.now.rows.tracked id.now }
+    {
+        self.rows.tracked.get(id)
+    }
+
+    /// The rows of all mappings of categories, by id.
+    pub fn category_mappings(&self) -> &BTreeMap<Txt, CategoryMappingRow>
+        ensures { result.now.entries ≡ map.entries self.now.rows.category_mappings }
+    {
+        self.rows.category_mappings.all()
+    }
+
+    /// The rows of all mappings of payees, by id.
+    pub fn payee_mappings(&self) -> &BTreeMap<Txt, PayeeMappingRow>
+        ensures { result.now.entries ≡ map.entries self.now.rows.payee_mappings }
+    {
+        self.rows.payee_mappings.all()
+    }
+
+    /// The rows of all that categories are given in months by the tracking budget, by id.
+    pub fn track_rows(&self) -> &BTreeMap<Txt, TrackRow>
+        ensures { result.now.entries ≡ map.entries self.now.rows.tracked }
+    {
+        self.rows.tracked.all()
+    }
+
+    /// What a category is mapped to: the target of its own mapping row, where that is there and has one, and else the category
+    /// itself. It is one step: a mapping of the target isn't followed.
+    pub fn mapped_category<'a>(&'a self, id: &'a Txt) -> &'a Txt
+        ensures { result.now ≡ mapped_category self.now.rows id.now }
+    {
+        match self.rows.category_mappings.get(id) {
+            Some(mapping) => match &mapping.transfer_id {
+                Some(target) => target,
+                None => id,
+            },
+            None => id,
+        }
+    }
+
+    /// What a payee is mapped to: the target of its own mapping row, where that is there and has one, and else the payee itself. It
+    /// is one step: a mapping of the target isn't followed.
+    pub fn mapped_payee<'a>(&'a self, id: &'a Txt) -> &'a Txt
+        ensures { result.now ≡ mapped_payee self.now.rows id.now }
+    {
+        match self.rows.payee_mappings.get(id) {
+            Some(mapping) => match &mapping.target_id {
+                Some(target) => target,
+                None => id,
+            },
+            None => id,
+        }
+    }
+
+    /// The category in which a transaction counts: what its own is mapped to, if it has one.
+    pub fn resolved_category<'a>(&'a self, row: &'a TxRow) -> Option<&'a Txt>
+        ensures { option_copied result ≡ category_of self.now.rows row.now }
+    {
+        match &row.category {
+            Some(id) => Some(self.mapped_category(id)),
+            None => None,
+        }
+    }
+
+    /// The payee of a transaction: what its own is mapped to, if it has one.
+    pub fn resolved_payee<'a>(&'a self, row: &'a TxRow) -> Option<&'a Txt>
+        ensures { option_copied result ≡ payee_of self.now.rows row.now }
+    {
+        match &row.description {
+            Some(id) => Some(self.mapped_payee(id)),
+            None => None,
+        }
+    }
+
+    /// Whether the dataset of this name has a row of this id, dead or alive. No row of a dataset that a book doesn't know is there.
+    /// It takes no step.
+    pub fn has_row(&self, dataset: &str, id: &Txt) -> bool
+        ensures { result ≡ is_row self.now.rows (dataset_of dataset.now) id.now }
+    {
+        let Some(dataset) = dataset_of(dataset) else {
+            return false;
+        };
+        match dataset {
+            Dataset::Transactions => self.rows.txs.get(id).is_some(),
+            Dataset::ZeroBudgets => self.rows.budgets.get(id).is_some(),
+            Dataset::ZeroBudgetMonths => self.rows.months.get(id).is_some(),
+            Dataset::Accounts => self.rows.accounts.get(id).is_some(),
+            Dataset::CategoryGroups => self.rows.groups.get(id).is_some(),
+            Dataset::Categories => self.rows.categories.get(id).is_some(),
+            Dataset::Payees => self.rows.payees.get(id).is_some(),
+            Dataset::Rules => self.rows.rules.get(id).is_some(),
+            Dataset::Schedules => self.rows.schedules.get(id).is_some(),
+            Dataset::Notes => self.rows.notes.get(id).is_some(),
+            Dataset::CategoryMapping => self.rows.category_mappings.get(id).is_some(),
+            Dataset::PayeeMapping => self.rows.payee_mappings.get(id).is_some(),
+            Dataset::ReflectBudgets => self.rows.tracked.get(id).is_some(),
+        }
+    }
+
     /// The row of a transaction. It is one step where it is there.
     pub fn tx<G: Ledger>(&self, id: &Txt, steps: &mut Steps<G>) -> Option<&TxRow>
         ensures row { option_copied result ≡ map.get self.now.rows.txs id.now }
@@ -413,6 +544,7 @@ impl Book {
         requires live { self.now.spent ≡ false }
         ensures ids { IfOk result (λ v. v ≡ children_of self.now.rows id.now) }
         ensures cost { IfOk result (λ v. steps.new ≡ steps.old + length v) }
+        ensures most { steps.new ≤ steps.old + length (children_of self.now.rows id.now) }
     {
         list(self.alloc, &self.index.children, id, steps)
     }
@@ -426,8 +558,24 @@ impl Book {
         requires live { self.now.spent ≡ false }
         ensures ids { IfOk result (λ v. v ≡ account_txs self.now.rows id.now) }
         ensures cost { IfOk result (λ v. steps.new ≡ steps.old + length v) }
+        ensures most { steps.new ≤ steps.old + length (account_txs self.now.rows id.now) }
     {
         list(self.alloc, &self.index.accounts, id, steps)
+    }
+
+    /// The ids of the transactions whose category column is this id, dead or alive, in order, whatever the category is mapped to.
+    /// Each is one step.
+    pub fn of_category<G: Ledger>(
+        &self,
+        id: &Txt,
+        steps: &mut Steps<G>,
+    ) -> Result<Items<Txt>, NoMemory>
+        requires live { self.now.spent ≡ false }
+        ensures ids { IfOk result (λ v. v ≡ category_txs self.now.rows id.now) }
+        ensures cost { IfOk result (λ v. steps.new ≡ steps.old + length v) }
+        ensures most { steps.new ≤ steps.old + length (category_txs self.now.rows id.now) }
+    {
+        list(self.alloc, &self.index.categories, id, steps)
     }
 
     /// What a transaction adds to the balance of its account.
@@ -475,7 +623,8 @@ impl Book {
     /// row. There is none where no row has a month.
     pub fn window(&self) -> Option<(u32, u32)>
         requires live { self.now.spent ≡ false }
-        ensures { result ≡ window_of self.now.rows }
+        ensures window { result ≡ window_of self.now.rows }
+        ensures months { IfSome result (λ w. (is_month w.0 ≡ true) × (is_month w.1 ≡ true)) }
     {
         hull(dated_span(&self.index.months), named_span(&self.named))
     }
@@ -494,10 +643,13 @@ impl Book {
         self.rows.notes.tell_names();
         self.rows.rules.tell_names();
         self.rows.schedules.tell_names();
+        self.rows.category_mappings.tell_names();
+        self.rows.payee_mappings.tell_names();
+        self.rows.tracked.tell_names();
     }
 
-    /// How many rows there are of each kind, and how great the numbers are that are added up: none is greater than a value may
-    /// hold.
+    /// How many rows there are of each kind; how great the numbers are that are added up: none is greater than a value may hold;
+    /// and that each day of a transaction is one of the calendar from 1970 to 2199.
     pub fn sizes(&self)
         requires live { self.now.spent ≡ false }
         ensures { HasSizes self.now.rows }
@@ -512,5 +664,8 @@ impl Book {
         let _ = self.rows.notes.len();
         let _ = self.rows.rules.len();
         let _ = self.rows.schedules.len();
+        let _ = self.rows.category_mappings.len();
+        let _ = self.rows.payee_mappings.len();
+        let _ = self.rows.tracked.len();
     }
 }

@@ -1,6 +1,6 @@
 //! The names of datasets and columns that a book knows.
 ghost use Rattle.std.specs.Prelude.{◌≡◌};
-ghost use Rattle.book_rows.specs.Columns.{dataset_of, later_dataset_of, column_of, second_column_of, third_column_of, fourth_column_of, fifth_column_of, sixth_column_of, same_text};
+ghost use Rattle.book_rows.specs.Columns.{dataset_of, later_dataset_of, last_dataset_of, column_of, second_column_of, third_column_of, fourth_column_of, fifth_column_of, sixth_column_of, seventh_column_of, same_text};
 
 /// A dataset whose messages make rows of a book.
 #[derive(Clone, Copy, Debug, PartialEq, Eq)]
@@ -25,6 +25,12 @@ pub enum Dataset {
     Rules,
     /// `schedules`.
     Schedules,
+    /// `category_mapping`.
+    CategoryMapping,
+    /// `payee_mapping`.
+    PayeeMapping,
+    /// `reflect_budgets`.
+    ReflectBudgets,
 }
 
 /// A column that rows of some dataset have.
@@ -102,6 +108,10 @@ pub enum Column {
     Completed,
     /// `posts_transaction`.
     PostsTransaction,
+    /// `transferId`.
+    TransferId,
+    /// `targetId`.
+    TargetId,
 }
 
 /// Whether a name is this word.
@@ -113,7 +123,7 @@ fn is(name: &[u8], word: &[u8]) -> bool
 
 /// The dataset of this name, where a book knows it.
 #[tactic(auto, unfolding(crate::specs::Columns::dataset_of))]
-pub(crate) fn dataset_of(name: &str) -> Option<Dataset>
+pub fn dataset_of(name: &str) -> Option<Dataset>
     ensures { result ≡ dataset_of name.now }
 {
     let name = name.as_bytes();
@@ -138,7 +148,7 @@ pub(crate) fn dataset_of(name: &str) -> Option<Dataset>
     later_dataset(name)
 }
 
-/// The dataset of this name, among the last four.
+/// The dataset of this name, from the second six on.
 #[tactic(auto, unfolding(crate::specs::Columns::later_dataset_of))]
 fn later_dataset(name: &[u8]) -> Option<Dataset>
     ensures { result ≡ later_dataset_of name.now }
@@ -155,12 +165,29 @@ fn later_dataset(name: &[u8]) -> Option<Dataset>
     if is(name, b"schedules") {
         return Some(Dataset::Schedules);
     }
+    if is(name, b"category_mapping") {
+        return Some(Dataset::CategoryMapping);
+    }
+    if is(name, b"payee_mapping") {
+        return Some(Dataset::PayeeMapping);
+    }
+    last_dataset(name)
+}
+
+/// The dataset of this name, from the third six on.
+#[tactic(auto, unfolding(crate::specs::Columns::last_dataset_of))]
+fn last_dataset(name: &[u8]) -> Option<Dataset>
+    ensures { result ≡ last_dataset_of name.now }
+{
+    if is(name, b"reflect_budgets") {
+        return Some(Dataset::ReflectBudgets);
+    }
     None
 }
 
 /// The column of this name, where some dataset has it.
 #[tactic(auto, unfolding(crate::specs::Columns::column_of))]
-pub(crate) fn column_of(name: &str) -> Option<Column>
+pub fn column_of(name: &str) -> Option<Column>
     ensures { result ≡ column_of name.now }
 {
     let name = name.as_bytes();
@@ -311,6 +338,20 @@ fn sixth_column(name: &[u8]) -> Option<Column>
     }
     if is(name, b"posts_transaction") {
         return Some(Column::PostsTransaction);
+    }
+    seventh_column(name)
+}
+
+/// The column of this name, from the seventh six on.
+#[tactic(auto, unfolding(crate::specs::Columns::seventh_column_of))]
+fn seventh_column(name: &[u8]) -> Option<Column>
+    ensures { result ≡ seventh_column_of name.now }
+{
+    if is(name, b"transferId") {
+        return Some(Column::TransferId);
+    }
+    if is(name, b"targetId") {
+        return Some(Column::TargetId);
     }
     None
 }

@@ -99,6 +99,10 @@ pub enum EditFault {
     NothingToUndo,
     /// There is nothing to redo.
     NothingToRedo,
+    /// One of two categories takes income and the other, this one, doesn't, or the other way round.
+    CategoryType { id: Txt },
+    /// This payee stands for an account in transfers.
+    TransferPayee { id: Txt },
     /// Memory ran out.
     NoMemory,
 }
@@ -163,6 +167,8 @@ impl EditFault {
             }),
             EditFault::NothingToUndo => Ok(EditFault::NothingToUndo),
             EditFault::NothingToRedo => Ok(EditFault::NothingToRedo),
+            EditFault::CategoryType { id } => Ok(EditFault::CategoryType { id: id.copy()? }),
+            EditFault::TransferPayee { id } => Ok(EditFault::TransferPayee { id: id.copy()? }),
             EditFault::NoMemory => Ok(EditFault::NoMemory),
         }
     }

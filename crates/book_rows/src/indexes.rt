@@ -1,12 +1,11 @@
 //! What a book keeps beside its rows, to find transactions and months without a walk over all rows.
-ghost use Rattle.std.specs.Prelude.{◌≡◌, ◌+◌, ℕ, OnOk, IfOk, if◌then◌else◌, true, false, length};
-ghost use Rattle.std.specs.List.{list_any};
+ghost use Rattle.std.specs.Prelude.{◌≡◌, ◌≤◌, ◌+◌, ℕ, OnOk, IfOk, if◌then◌else◌, true, false, [], length};
 ghost use Rattle.std.specs.List.Sorted.{IsStrictlySortedBy};
 ghost use Rattle.std.specs.Ordering.{eq_by_cmp};
 ghost use Rattle.std.specs.BTreeSet as set;
 ghost use Rattle.finite_sums.specs.Maps.{Text, text_cmp};
 ghost use Rattle.book_rows.specs.Parts.{is_text};
-ghost use Rattle.book_rows.specs.Book.{holds, is_pair, is_month_of, dated_cmp};
+ghost use Rattle.book_rows.specs.Book.{holds, ids_under, is_pair, is_month_of, dated_cmp};
 
 use field_values::{Items, NoMemory, Steps, Txt};
 use std::alloc::Global;
@@ -33,12 +32,26 @@ fn add(alloc: Global, index: &mut Index, key: &Txt, id: &Txt) -> Result<(), NoMe
     Ok(())
 }
 
-/// Takes an id from under a key.
+/// Takes an id from under a key, and tells whether the key has no id left.
+fn take(index: &mut Index, key: &Txt, id: &Txt) -> bool
+    ensures pairs { (k q : Text) → holds index.new k q ≡ (if is_pair key.now id.now k q then false else holds index.old k q) }
+    ensures left { result ≡ true → ids_under index.new key.now ≡ [] }
+{
+    match index.get_mut(key) {
+        Some(ids) => {
+            ids.remove(id);
+            ids.is_empty()
+        }
+        None => false,
+    }
+}
+
+/// Takes an id from under a key; a key without ids isn't kept.
 fn remove(index: &mut Index, key: &Txt, id: &Txt)
     ensures { (k q : Text) → holds index.new k q ≡ (if is_pair key.now id.now k q then false else holds index.old k q) }
 {
-    if let Some(ids) = index.get_mut(key) {
-        ids.remove(id);
+    if take(index, key, id) {
+        index.remove(key);
     }
 }
 
@@ -128,9 +141,10 @@ pub(crate) fn list<G: Ledger>(
     key: &Txt,
     steps: &mut Steps<G>,
 ) -> Result<Items<Txt>, NoMemory>
-    ensures sorted { IfOk result (λ v. IsStrictlySortedBy text_cmp v) }
-    ensures held { IfOk result (λ v. (q : Text) → list_any (eq_by_cmp text_cmp q) v ≡ holds index.now key.now q) }
+    ensures sorted { IsStrictlySortedBy text_cmp (ids_under index.now key.now) }
+    ensures all { IfOk result (λ v. v ≡ ids_under index.now key.now) }
     ensures cost { IfOk result (λ v. steps.new ≡ steps.old + length v) }
+    ensures most { steps.new ≤ steps.old + length (ids_under index.now key.now) }
 {
     match index.get(key) {
         None => Ok(Items::new(Vec::new(alloc))),
@@ -144,10 +158,12 @@ fn copies<G: Ledger>(
     ids: &BTreeSet<Txt>,
     steps: &mut Steps<G>,
 ) -> Result<Items<Txt>, NoMemory>
-    ensures sorted { IfOk result (λ v. IsStrictlySortedBy text_cmp v) }
+    ensures sorted { IsStrictlySortedBy text_cmp ids.now.keys }
     ensures all { IfOk result (λ v. v ≡ ids.now.keys) }
     ensures cost { IfOk result (λ v. steps.new ≡ steps.old + length v) }
+    ensures most { steps.new ≤ steps.old + length ids.now.keys }
 {
+    let _ = ids.len();
     let mut found = Vec::new(alloc);
     for id in ids.iter() {
         steps.tick();

@@ -19,8 +19,8 @@ pub enum Kind {
     Day,
 }
 
-/// Whether the value sets a flag.
-pub(crate) fn flag(value: &Value) -> bool
+/// Whether the value sets a flag: the number 1 does, and nothing else.
+pub fn flag(value: &Value) -> bool
     ensures { result ≡ flag_of value.now }
 {
     match value {

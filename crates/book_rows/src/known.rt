@@ -5,13 +5,13 @@ ghost use Rattle.book_rows.specs.Rows.{dataset_kind, kind_of};
 use crate::column::{Column, Dataset, column_of, dataset_of};
 use crate::kind::Kind;
 use crate::rows::{
-    AccountRow, BudgetRow, CategoryRow, GroupRow, MonthRow, NoteRow, PayeeRow, RuleRow,
-    ScheduleRow, TxRow,
+    AccountRow, BudgetRow, CategoryMappingRow, CategoryRow, GroupRow, MonthRow, NoteRow,
+    PayeeMappingRow, PayeeRow, RuleRow, ScheduleRow, TrackRow, TxRow,
 };
 use crate::table::Row;
 
-/// How a column of a dataset is read.
-pub(crate) fn dataset_kind(dataset: Dataset, column: Column) -> Option<Kind>
+/// How a column of a dataset is read, where the dataset has it.
+pub fn dataset_kind(dataset: Dataset, column: Column) -> Option<Kind>
     ensures { result ≡ dataset_kind dataset column }
 {
     match dataset {
@@ -25,6 +25,9 @@ pub(crate) fn dataset_kind(dataset: Dataset, column: Column) -> Option<Kind>
         Dataset::Notes => NoteRow::kind(column),
         Dataset::Rules => RuleRow::kind(column),
         Dataset::Schedules => ScheduleRow::kind(column),
+        Dataset::CategoryMapping => CategoryMappingRow::kind(column),
+        Dataset::PayeeMapping => PayeeMappingRow::kind(column),
+        Dataset::ReflectBudgets => TrackRow::kind(column),
     }
 }
 

@@ -17,9 +17,10 @@ fn month_in(year: u32, month: u32) -> Option<u32>
     Some(100 * year + month)
 }
 
-/// The month in the id of a budget row: six digits, `-`, and anything.
+/// The month YYYYMM in the id of a budget row, if it is six digits that are a month from January 1970 to December 2199, `-`, and
+/// anything.
 #[tactic(auto, unfolding(crate::specs::Months::budget_month))]
-pub(crate) fn budget_month(id: &Txt) -> Option<u32>
+pub fn budget_month(id: &Txt) -> Option<u32>
     ensures { result ≡ budget_month id.now }
 {
     let id = id.bytes();
@@ -31,9 +32,10 @@ pub(crate) fn budget_month(id: &Txt) -> Option<u32>
     month_in(year, month)
 }
 
-/// The month in the id of a month row: four digits, `-`, and two digits.
+/// The month YYYYMM in the id of a month row, if it is four digits, `-`, and two digits that are a month from January 1970 to
+/// December 2199.
 #[tactic(auto, unfolding(crate::specs::Months::month_row_month))]
-pub(crate) fn month_row_month(id: &Txt) -> Option<u32>
+pub fn month_row_month(id: &Txt) -> Option<u32>
     ensures { result ≡ month_row_month id.now }
 {
     let id = id.bytes();

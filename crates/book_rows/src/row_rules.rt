@@ -1,12 +1,11 @@
 //! Which columns each kind of row has, and how each is set.
-ghost use Rattle.std.specs.Prelude.{◌≡◌, OnOk, true};
-ghost use Rattle.book_rows.specs.Rules.{tx_table, budget_table, account_table, group_table, category_table, payee_table, month_table, note_table, rule_table, schedule_table};
+ghost use Rattle.book_rows.specs.Rules.{tx_table, budget_table, account_table, group_table, category_table, payee_table, month_table, note_table, rule_table, schedule_table, category_mapping_table, payee_mapping_table};
 
 use crate::column::Column;
 use crate::kind::{Kind, day, flag, int, text};
 use crate::rows::{
-    AccountRow, BudgetRow, CategoryRow, GroupRow, MonthRow, NoteRow, PayeeRow, RuleRow,
-    ScheduleRow, TxRow,
+    AccountRow, BudgetRow, CategoryMappingRow, CategoryRow, GroupRow, MonthRow, NoteRow,
+    PayeeMappingRow, PayeeRow, RuleRow, ScheduleRow, TxRow,
 };
 use crate::table::Row;
 use field_values::{NoMemory, Txt, Value};
@@ -388,6 +387,58 @@ impl Row for ScheduleRow {
             Column::Completed => self.completed = flag(value),
             Column::PostsTransaction => self.posts_transaction = flag(value),
             Column::Tombstone => self.tombstone = flag(value),
+            _ => {}
+        }
+        Ok(())
+    }
+}
+
+impl Row for CategoryMappingRow {
+    ghost table = { category_mapping_table };
+
+    fn kind(column: Column) -> Option<Kind> {
+        match column {
+            Column::TransferId => Some(Kind::Text),
+            _ => None,
+        }
+    }
+
+    fn blank(id: Txt) -> CategoryMappingRow {
+        CategoryMappingRow {
+            id,
+            transfer_id: None,
+        }
+    }
+
+    fn set(&mut self, column: Column, value: &Value) -> Result<(), NoMemory> {
+        match column {
+            Column::TransferId => self.transfer_id = text(value)?,
+            _ => {}
+        }
+        Ok(())
+    }
+}
+
+impl Row for PayeeMappingRow {
+    ghost table = { payee_mapping_table };
+
+    fn kind(column: Column) -> Option<Kind> {
+        match column {
+            Column::TargetId => Some(Kind::Text),
+            _ => None,
+        }
+    }
+
+    fn blank(id: Txt) -> PayeeMappingRow {
+        PayeeMappingRow {
+            id,
+            target_id: None,
+        }
+    }
+
+    fn set(&mut self, column: Column, value: &Value) -> Result<(), NoMemory> {
+        match column {
+            Column::TargetId => self.target_id = text(value)?,
             _ => {}
         }
         Ok(())

@@ -5,7 +5,7 @@ use crate::table::Table;
 use field_values::{Copied, NoMemory, Txt};
 
 /// A copy of a text that may be absent.
-fn copy_of(text: &Option<Txt>) -> Result<Option<Txt>, NoMemory>
+pub fn copied(text: &Option<Txt>) -> Result<Option<Txt>, NoMemory>
     ensures { IfOk result (λ t. t ≡ text.now) }
 {
     match text {
@@ -62,19 +62,19 @@ impl TxRow {
     {
         Ok(TxRow {
             id: self.id.copy()?,
-            acct: copy_of(&self.acct)?,
+            acct: copied(&self.acct)?,
             date: self.date,
             amount: self.amount,
-            description: copy_of(&self.description)?,
-            category: copy_of(&self.category)?,
-            notes: copy_of(&self.notes)?,
-            imported_description: copy_of(&self.imported_description)?,
-            financial_id: copy_of(&self.financial_id)?,
-            transferred_id: copy_of(&self.transferred_id)?,
-            schedule: copy_of(&self.schedule)?,
+            description: copied(&self.description)?,
+            category: copied(&self.category)?,
+            notes: copied(&self.notes)?,
+            imported_description: copied(&self.imported_description)?,
+            financial_id: copied(&self.financial_id)?,
+            transferred_id: copied(&self.transferred_id)?,
+            schedule: copied(&self.schedule)?,
             is_parent: self.is_parent,
             is_child: self.is_child,
-            parent_id: copy_of(&self.parent_id)?,
+            parent_id: copied(&self.parent_id)?,
             cleared: self.cleared,
             reconciled: self.reconciled,
             sort_order: self.sort_order,
@@ -112,7 +112,7 @@ impl BudgetRow {
         Ok(BudgetRow {
             id: self.id.copy()?,
             month: self.month,
-            category: copy_of(&self.category)?,
+            category: copied(&self.category)?,
             amount: self.amount,
             carryover: self.carryover,
         })
@@ -149,7 +149,7 @@ impl AccountRow {
     {
         Ok(AccountRow {
             id: self.id.copy()?,
-            name: copy_of(&self.name)?,
+            name: copied(&self.name)?,
             offbudget: self.offbudget,
             closed: self.closed,
             sort_order: self.sort_order,
@@ -188,7 +188,7 @@ impl GroupRow {
     {
         Ok(GroupRow {
             id: self.id.copy()?,
-            name: copy_of(&self.name)?,
+            name: copied(&self.name)?,
             is_income: self.is_income,
             sort_order: self.sort_order,
             hidden: self.hidden,
@@ -229,8 +229,8 @@ impl CategoryRow {
     {
         Ok(CategoryRow {
             id: self.id.copy()?,
-            name: copy_of(&self.name)?,
-            cat_group: copy_of(&self.cat_group)?,
+            name: copied(&self.name)?,
+            cat_group: copied(&self.cat_group)?,
             is_income: self.is_income,
             sort_order: self.sort_order,
             hidden: self.hidden,
@@ -265,8 +265,8 @@ impl PayeeRow {
     {
         Ok(PayeeRow {
             id: self.id.copy()?,
-            name: copy_of(&self.name)?,
-            transfer_acct: copy_of(&self.transfer_acct)?,
+            name: copied(&self.name)?,
+            transfer_acct: copied(&self.transfer_acct)?,
             tombstone: self.tombstone,
         })
     }
@@ -321,7 +321,7 @@ impl NoteRow {
     {
         Ok(NoteRow {
             id: self.id.copy()?,
-            note: copy_of(&self.note)?,
+            note: copied(&self.note)?,
         })
     }
 }
@@ -356,10 +356,10 @@ impl RuleRow {
     {
         Ok(RuleRow {
             id: self.id.copy()?,
-            stage: copy_of(&self.stage)?,
-            conditions_op: copy_of(&self.conditions_op)?,
-            conditions: copy_of(&self.conditions)?,
-            actions: copy_of(&self.actions)?,
+            stage: copied(&self.stage)?,
+            conditions_op: copied(&self.conditions_op)?,
+            conditions: copied(&self.conditions)?,
+            actions: copied(&self.actions)?,
             tombstone: self.tombstone,
         })
     }
@@ -397,8 +397,8 @@ impl ScheduleRow {
     {
         Ok(ScheduleRow {
             id: self.id.copy()?,
-            rule: copy_of(&self.rule)?,
-            name: copy_of(&self.name)?,
+            rule: copied(&self.rule)?,
+            name: copied(&self.name)?,
             next_date: self.next_date,
             completed: self.completed,
             posts_transaction: self.posts_transaction,
@@ -409,6 +409,64 @@ impl ScheduleRow {
 
 impl Copied for ScheduleRow {
     fn copied(&self) -> Result<ScheduleRow, NoMemory> {
+        self.copy()
+    }
+}
+
+/// What a category is given in a month by the tracking budget. The id is the month, `-` and the id of the category, as that of a
+/// budget row is.
+pub type TrackRow = BudgetRow;
+
+/// Where the transactions of a category count. The id is that of the category.
+#[derive(Debug, PartialEq, Eq, Drop)]
+pub struct CategoryMappingRow {
+    /// Its id.
+    pub id: Txt,
+    /// The id of the category in whose place they count. The column is `transferId`.
+    pub transfer_id: Option<Txt>,
+}
+
+impl CategoryMappingRow {
+    /// An equal row.
+    pub fn copy(&self) -> Result<CategoryMappingRow, NoMemory>
+        ensures { IfOk result (λ r. r ≡ self.now) }
+    {
+        Ok(CategoryMappingRow {
+            id: self.id.copy()?,
+            transfer_id: copied(&self.transfer_id)?,
+        })
+    }
+}
+
+impl Copied for CategoryMappingRow {
+    fn copied(&self) -> Result<CategoryMappingRow, NoMemory> {
+        self.copy()
+    }
+}
+
+/// For which payee another one stands. The id is that of the payee that was merged.
+#[derive(Debug, PartialEq, Eq, Drop)]
+pub struct PayeeMappingRow {
+    /// Its id.
+    pub id: Txt,
+    /// The id of the payee for which it stands. The column is `targetId`.
+    pub target_id: Option<Txt>,
+}
+
+impl PayeeMappingRow {
+    /// An equal row.
+    pub fn copy(&self) -> Result<PayeeMappingRow, NoMemory>
+        ensures { IfOk result (λ r. r ≡ self.now) }
+    {
+        Ok(PayeeMappingRow {
+            id: self.id.copy()?,
+            target_id: copied(&self.target_id)?,
+        })
+    }
+}
+
+impl Copied for PayeeMappingRow {
+    fn copied(&self) -> Result<PayeeMappingRow, NoMemory> {
         self.copy()
     }
 }
@@ -436,4 +494,10 @@ pub(crate) struct Rows {
     pub rules: Table<RuleRow>,
     /// Schedules.
     pub schedules: Table<ScheduleRow>,
+    /// Where the transactions of categories count.
+    pub category_mappings: Table<CategoryMappingRow>,
+    /// For which payees others stand.
+    pub payee_mappings: Table<PayeeMappingRow>,
+    /// What categories are given in months by the tracking budget.
+    pub tracked: Table<TrackRow>,
 }

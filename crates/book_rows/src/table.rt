@@ -1,5 +1,5 @@
 //! The rows of one dataset, by id.
-ghost use Rattle.std.specs.Prelude.{◌≡◌, ◌<◌, ◌^◌, OnOk, unwrap_or, length};
+ghost use Rattle.std.specs.Prelude.{◌≡◌, ◌<◌, ◌^◌, OnOk, IfOk, unwrap_or, length};
 ghost use Rattle.std.specs.Option.{option_copied};
 ghost use Rattle.std.specs.BTreeMap.{IsOrdered};
 ghost use Rattle.std.specs.FinMap as map;
@@ -52,6 +52,15 @@ impl<R> Model for Table<R> {
     ghost invariant = { λ t. IsOrdered text_cmp t.rows × AreNamed (map_of t.rows) };
 }
 
+/// The row of which one column alone is known.
+fn new_row<R: Row>(id: &Txt, column: Column, value: &Value) -> Result<R, NoMemory>
+    ensures { IfOk result (λ row. row ≡ R.table.set column value.now (blank_row R.table id.now)) }
+{
+    let mut row = R::blank(id.copy()?);
+    row.set(column, value)?;
+    Ok(row)
+}
+
 /// Sets a column of a row, which is made where it is not there.
 fn set_row<R: Row>(
     rows: &mut BTreeMap<Txt, R>,
@@ -66,9 +75,7 @@ fn set_row<R: Row>(
     if let Some(row) = rows.get_mut(id) {
         return row.set(column, value);
     }
-    let mut row = R::blank(id.copy()?);
-    row.set(column, value)?;
-    rows.insert(id.copy()?, row)?;
+    rows.insert(id.copy()?, new_row(id, column, value)?)?;
     Ok(())
 }
 

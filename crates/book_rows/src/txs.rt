@@ -13,7 +13,7 @@ ghost use Rattle.book_rows.specs.Book.{IsTxIndex, HasKeys, MovesKeys, keys_of, p
 use crate::column::Column;
 use crate::indexes::{Dated, Index, change, change_month};
 use crate::months::{budget_month, month_row_month};
-use crate::rows::{BudgetRow, MonthRow, TxRow};
+use crate::rows::{BudgetRow, MonthRow, TxRow, copied};
 use crate::table::{Row, Table};
 use field_values::{NoMemory, Txt, Value};
 use std::alloc::Global;
@@ -26,6 +26,8 @@ pub(crate) struct TxIndex {
     pub children: Index,
     /// The transactions of each account.
     pub accounts: Index,
+    /// The transactions of each category, by their own column.
+    pub categories: Index,
     /// The transactions of each month.
     pub months: Dated,
 }
@@ -37,18 +39,10 @@ pub(crate) struct Keys {
     pub parent: Option<Txt>,
     /// Its account.
     pub account: Option<Txt>,
+    /// Its category.
+    pub category: Option<Txt>,
     /// Its month.
     pub month: Option<u32>,
-}
-
-/// A copy of a text that may be absent.
-fn copy_of(text: &Option<Txt>) -> Result<Option<Txt>, NoMemory>
-    ensures { IfOk result (λ t. t ≡ text.now) }
-{
-    match text {
-        Some(text) => Ok(Some(text.copy()?)),
-        None => Ok(None),
-    }
 }
 
 /// The month of a transaction.
@@ -66,7 +60,7 @@ fn parent_of(row: &TxRow) -> Result<Option<Txt>, NoMemory>
     ensures { IfOk result (λ p. p ≡ parent_of row.now) }
 {
     if row.is_child {
-        copy_of(&row.parent_id)
+        copied(&row.parent_id)
     } else {
         Ok(None)
     }
@@ -80,11 +74,13 @@ fn keys_of(row: Option<&TxRow>) -> Result<Keys, NoMemory>
         None => Ok(Keys {
             parent: None,
             account: None,
+            category: None,
             month: None,
         }),
         Some(row) => Ok(Keys {
             parent: parent_of(row)?,
-            account: copy_of(&row.acct)?,
+            account: copied(&row.acct)?,
+            category: copied(&row.category)?,
             month: month_of_row(row),
         }),
     }
@@ -95,7 +91,7 @@ fn moves(column: Column) -> bool
     ensures { result ≡ moves column }
 {
     match column {
-        Column::Acct | Column::Date | Column::IsChild | Column::ParentId => true,
+        Column::Acct | Column::Category | Column::Date | Column::IsChild | Column::ParentId => true,
         _ => false,
     }
 }
@@ -124,6 +120,13 @@ fn change_keys(
         id,
         &before.account,
         &after.account,
+    )?;
+    change(
+        alloc,
+        &mut index.categories,
+        id,
+        &before.category,
+        &after.category,
     )?;
     change_month(&mut index.months, id, before.month, after.month)
 }

@@ -1,48 +1,18 @@
--- Which rows are there.
+-- Which rows of values are there.
 use Rattle.std.proofs.Common.{◌≡◌, Bool, true, false, List, [], ◌∷◌, Option, Some, None, refl, ap, ap₂, sym, ◌∙◌}
-use Rattle.std.specs.Prelude.{◌&&◌, ◌||◌, is_some, if◌then◌else◌}
+use Rattle.std.specs.Prelude.{◌&&◌, ◌||◌, is_some}
 use Rattle.std.specs.List.{list_any}
-use Rattle.std.specs.FinMap as map
 use Rattle.field_values.specs.declared.value.Value.{Value}
 use Rattle.field_values.specs.Names.{FieldNames, field_of}
-use Rattle.finite_sums.specs.Maps.{Text, Texts, some_and}
+use Rattle.finite_sums.specs.Maps.{Text, some_and}
 use Rattle.book_rows.specs.declared.column.Column.{Column}
 use Rattle.book_rows.specs.declared.column.Dataset.{Dataset}
-use Rattle.book_rows.specs.declared.column.Dataset.TheVariants.{Accounts, CategoryGroups, Categories, Payees, Transactions, ZeroBudgets, ZeroBudgetMonths, Notes, Rules, Schedules}
 use Rattle.book_rows.specs.declared.kind.Kind.{Kind}
-use Rattle.book_rows.specs.declared.rows.Rows.{Rows}
 use Rattle.book_rows.specs.Columns.{dataset_name, column_name, all_columns, dataset_of, column_of}
-use Rattle.book_rows.specs.Tables.{Table, has_column}
-use Rattle.book_rows.specs.Rules.{account_table, group_table, category_table, payee_table, tx_table, budget_table, month_table, note_table, rule_table, schedule_table}
-use Rattle.book_rows.specs.Rows.{Values, values_at, AreTableOf, AreRowsOf, dataset_kind, known_kind, kind_of}
+use Rattle.book_rows.specs.Tables.{has_column}
+use Rattle.book_rows.specs.Rows.{Values, values_at, dataset_kind, known_kind, kind_of, has_row}
 use Rattle.book_rows.proofs.Naming.{dataset_named, column_named, some_column}
-use Rattle.edit_history.specs.There.{is_row}
-use Rattle.edit_history.specs.Undo.{has_row}
 use Rattle.edit_history.proofs.Basics.{both, both_parts, bool_cases, true_false, second_false, or_left, none_some}
-
--- ---- the rows of a book
-
-some_if : {X : Type 0} (b : Bool) (x : X) → is_some (if b then Some x else None) ≡ b
-some_if true x = refl
-some_if false x = refl
-
-in_table : {Row : Type 0} (t : Table Row) (dataset : Dataset) (values : Values) (rows : Texts Row) (id : Text) → AreTableOf t dataset values rows
-    → is_some (map.get rows id) ≡ has_column t.kind (values_at values dataset id)
-in_table t dataset values rows id are = ap is_some (are id) ∙ some_if (has_column t.kind (values_at values dataset id)) _
-
-pub there_is : (values : Values) (rows : Rows) → AreRowsOf values rows → (o : Option Dataset) (id : Text)
-    → is_row rows o id ≡ some_and (λ (d : Dataset). has_column (dataset_kind d) (values_at values d id)) o
-there_is values rows are None id = refl
-there_is values rows are (Some Accounts) id = in_table account_table Accounts values rows.accounts id are.accounts
-there_is values rows are (Some CategoryGroups) id = in_table group_table CategoryGroups values rows.groups id are.groups
-there_is values rows are (Some Categories) id = in_table category_table Categories values rows.categories id are.categories
-there_is values rows are (Some Payees) id = in_table payee_table Payees values rows.payees id are.payees
-there_is values rows are (Some Transactions) id = in_table tx_table Transactions values rows.txs id are.txs
-there_is values rows are (Some ZeroBudgets) id = in_table budget_table ZeroBudgets values rows.budgets id are.budgets
-there_is values rows are (Some ZeroBudgetMonths) id = in_table month_table ZeroBudgetMonths values rows.months id are.months
-there_is values rows are (Some Notes) id = in_table note_table Notes values rows.notes id are.notes
-there_is values rows are (Some Rules) id = in_table rule_table Rules values rows.rules id are.rules
-there_is values rows are (Some Schedules) id = in_table schedule_table Schedules values rows.schedules id are.schedules
 
 -- ---- the values of a row
 

@@ -7,9 +7,9 @@ use Rattle.field_values.specs.declared.value.Value.{Value}
 use Rattle.field_values.specs.declared.value.Value.TheVariants.{Number}
 use Rattle.book_rows.specs.declared.kind.Kind.{Kind}
 use Rattle.book_rows.specs.declared.kind.Kind.TheVariants.{Flag, Int, Text, Day}
-use Rattle.book_rows.specs.Rows.{Values, with_value, kind_of, has_tombstone}
+use Rattle.book_rows.specs.Rows.{Values, with_value, kind_of, has_tombstone, has_row}
 use Rattle.edit_history.specs.declared.before.Before.{Before}
-use Rattle.edit_history.specs.Undo.{has_row, first_of_each, before_of, entry_over, tombstone_of, blank_of, undo_to, undo_of, undo_values}
+use Rattle.edit_history.specs.Undo.{first_of_each, before_of, entry_over, tombstone_of, blank_of, undo_to, undo_of, undo_values}
 use Rattle.edit_history.specs.Laws.{with_values, ReadsAsNone, HasNone, MakesRow, EntriesUndo}
 use Rattle.edit_history.proofs.Basics.{bool_cases, true_false, some_is, option_cases, none_some, or_left, or_right, hidden_parts, same, itself, turned}
 use Rattle.edit_history.proofs.Rows.{row_of, has_got}

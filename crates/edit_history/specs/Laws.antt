@@ -7,9 +7,9 @@ use Rattle.field_values.specs.Names.{FieldNames, names_eq}
 use Rattle.book_rows.specs.declared.kind.Kind.{Kind}
 use Rattle.book_rows.specs.declared.kind.Kind.TheVariants.{Flag, Int, Text, Day}
 use Rattle.book_rows.specs.Kinds.{flag_of, int_of, text_of, day_of}
-use Rattle.book_rows.specs.Rows.{Values, with_value, kind_of, has_tombstone}
+use Rattle.book_rows.specs.Rows.{Values, with_value, kind_of, has_tombstone, has_row}
 use Rattle.edit_history.specs.declared.before.Before.{Before}
-use Rattle.edit_history.specs.Undo.{has_row, before_of, entry_over, tombstone_of, undo_values}
+use Rattle.edit_history.specs.Undo.{before_of, entry_over, tombstone_of, undo_values}
 
 -- an entry tells each field that is written, once, and no other field, each as it is before
 pub record TellsBefore (values : Values) (fs : List FieldNames) (entry : List Before) : Type 0 where

@@ -1,4 +1,3 @@
 pub mod Undo
-pub mod There
 pub mod History
 pub mod Laws

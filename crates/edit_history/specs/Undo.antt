@@ -3,20 +3,13 @@ use Rattle.std.specs.Prelude.{◌&&◌, not, pos, Bool, List, [], ◌∷◌, map
 use Rattle.field_values.specs.declared.value.Value.{Value}
 use Rattle.field_values.specs.declared.value.Value.TheVariants.{Null, Number}
 use Rattle.field_values.specs.Names.{FieldNames, field_of, names_eq}
-use Rattle.finite_sums.specs.Maps.{some_and}
 use Rattle.book_rows.specs.declared.kind.Kind.{Kind}
 use Rattle.book_rows.specs.declared.kind.Kind.TheVariants.{Flag, Int, Text, Day}
 use Rattle.book_rows.specs.declared.write.RowName.TheVariants.{Given}
 use Rattle.book_rows.specs.declared.write.WriteValue.TheVariants.{Plain}
 use Rattle.book_rows.specs.declared.write.Write.{Write}
-use Rattle.book_rows.specs.Columns.{dataset_of}
-use Rattle.book_rows.specs.Tables.{has_column}
-use Rattle.book_rows.specs.Rows.{Values, values_at, dataset_kind, kind_of, has_tombstone}
+use Rattle.book_rows.specs.Rows.{Values, kind_of, has_tombstone, has_row}
 use Rattle.edit_history.specs.declared.before.Before.{Before}
-
--- the row of a field is there: one of the columns that a book knows of it has a value
-abbrev pub has_row : Values → FieldNames → Bool
-has_row values f = some_and (λ dataset. has_column (dataset_kind dataset) (values_at values dataset f.row)) (dataset_of f.dataset)
 
 -- of those with one field, the first
 abbrev pub first_of_each : {X : Type 0} → (X → FieldNames) → List X → List X

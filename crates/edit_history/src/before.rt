@@ -89,7 +89,7 @@ pub fn entry_over(
     ensures valid { IfOk result IsEntry }
 {
     let mut seen = BTreeSet::new(alloc);
-    let mut found = Vec::new(alloc);
+    let mut found = Vec::with_capacity(alloc, messages.len())?;
     for message in messages {
         push_before(alloc, log, book, &message.field, &mut seen, &mut found)?;
     }

@@ -1,5 +1,5 @@
 //! The entries that can be undone and redone.
-ghost use Rattle.std.specs.Prelude.{◌≡◌, IfOk, OnOk, IfSome};
+ghost use Rattle.std.specs.Prelude.{◌≡◌, OnOk, IfSome};
 ghost use Rattle.std.specs.Option.{option_copied};
 ghost use Rattle.edit_history.specs.History.{no_entries, latest_of, after, IsEntry, AreEntries};
 

@@ -1,12 +1,11 @@
 //! The writes that undo an entry.
-ghost use Rattle.std.specs.Prelude.{◌≡◌, true, ◌++◌, ◌∷◌, [], ◌≤◌, ◌<◌, length, map, if◌then◌else◌, IfOk, OnOk};
-ghost use Rattle.std.specs.List.{list_any, AllByRecursion};
+ghost use Rattle.std.specs.Prelude.{◌≡◌, true, ◌++◌, ◌∷◌, [], ◌≤◌, ◌<◌, length, if◌then◌else◌, IfOk, OnOk};
 ghost use Rattle.std.specs.BTreeSet as set;
 ghost use Rattle.field_values.specs.Names.{FieldNames, names_eq, names_cmp};
 ghost use Rattle.book_rows.specs.Writes.{AreWrites};
 ghost use Rattle.book_rows.specs.Rows.{has_tombstone};
-ghost use Rattle.edit_history.specs.Undo.{tombstone_of, blank_of, undo_none, undo_of, undo_values, undo_writes, write_of};
-ghost use Rattle.edit_history.specs.History.{IsBefore, IsEntry};
+ghost use Rattle.edit_history.specs.Undo.{tombstone_of, blank_of, undo_none, undo_of, undo_writes, write_of};
+ghost use Rattle.edit_history.specs.History.{IsEntry};
 
 use crate::before::Before;
 use book_rows::{Kind, RowName, Write, WriteValue, kind_of};

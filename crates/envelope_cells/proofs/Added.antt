@@ -14,7 +14,7 @@ use Rattle.finite_sums.specs.Maps.{Text, text_cmp, some_and}
 use Rattle.finite_sums.proofs.MapSums.{both_true, and_both}
 use Rattle.book_rows.specs.declared.rows.Rows.{Rows}
 use Rattle.book_rows.specs.declared.rows.TxRow.{TxRow}
-use Rattle.book_rows.specs.Live.{is_counted}
+use Rattle.book_rows.specs.Live.{is_counted, category_of}
 use Rattle.book_rows.specs.Parts.{is_text}
 use Rattle.book_rows.specs.Months.{month_of_row}
 use Rattle.envelope_cells.specs.Names.{Cells, cell_cmp, cells_total}
@@ -64,7 +64,7 @@ at_name sums a b z true h = ap (λ n. value_at sums n +ℤ z) (sym (cells_same a
 at_name sums a b z false h = refl
 
 module _ (r : Rows) (sums new : Cells) (d : Text) (n : ℕ) (x : TxRow) where
-  pub added : x.category ≡ Some d → month_of_row x ≡ Some n → is_counted r x ≡ true → new ≡ insert sums (sum_name d n) (value_at sums (sum_name d n) +ℤ x.amount)
+  pub added : category_of r x ≡ Some d → month_of_row x ≡ Some n → is_counted r x ≡ true → new ≡ insert sums (sum_name d n) (value_at sums (sum_name d n) +ℤ x.amount)
       → (c : Text) (m : ℕ) → value_at new (sum_name c m) ≡ value_at sums (sum_name c m) +ℤ share r c m x
   added category month counted e c m =
       let t = eq_by_cmp cell_cmp (sum_name c m) (sum_name d n) in

@@ -78,7 +78,7 @@ module _ {X : Type 0} (q : Text) (t : X → Bool) where
       by true h = omega (arith, h)
       by false h = omega (arith, h)
 
-hits-map : {A X : Type 0} (p : X → Bool) (f : A → X) (xs : List A) → hits p (map f xs) ≡ hits (λ x. p (f x)) xs
+pub hits-map : {A X : Type 0} (p : X → Bool) (f : A → X) (xs : List A) → hits p (map f xs) ≡ hits (λ x. p (f x)) xs
 hits-map p f [] = refl
 hits-map p f (x ∷ xs) = ap (λ n. one_if (p (f x)) + n) (hits-map p f xs)
 
@@ -118,7 +118,7 @@ module _ (rows : Rows) where
   category_list = placed (category_places (entries rows.categories)) []
 
   -- no group is listed twice
-  groups_once : (q : Text) → hits (λ e. eq_by_cmp text_cmp q e.0.id) group_list ≤ 1
+  pub groups_once : (q : Text) → hits (λ e. eq_by_cmp text_cmp q e.0.id) group_list ≤ 1
   groups_once q =
       let live = filter (λ (e : Text × GroupRow). not e.1.tombstone) (entries rows.groups) in
       let one : hits (λ e. eq_by_cmp text_cmp q e.0.id) group_list ≤ hits (λ e. eq_by_cmp text_cmp q e.0.id) (group_places (entries rows.groups)) + 0 = hits-placed (λ id v. eq_by_cmp text_cmp q id) (group_places (entries rows.groups)) [] in

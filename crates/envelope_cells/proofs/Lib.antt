@@ -13,3 +13,5 @@ pub mod Parts
 pub mod Past
 pub mod Quiet
 pub mod Listed
+pub mod NamesOf
+pub mod Small

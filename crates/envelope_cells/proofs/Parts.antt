@@ -59,7 +59,7 @@ weight_rises b c k n h =
     let e : k + (n - k) ≡ n = omega arith in
     omega (arith, weight_more b c k (n - k), ap (weight_before b c) e)
 
-picked_small : (b : Budget) (m : ℕ) (k : Pick) (c : Text) → part_weight k (part_of b m c) ≤ weight_before b c (suc m)
+pub picked_small : (b : Budget) (m : ℕ) (k : Pick) (c : Text) → part_weight k (part_of b m c) ≤ weight_before b c (suc m)
 picked_small b m Sum c = omega arith
 picked_small b m OfBudget c = omega arith
 picked_small b m Leftover c = left_small b c (suc m)
@@ -98,7 +98,7 @@ module _ (b : Budget) (m : ℕ) (k : Pick) where
       by false h = omega (arith, ints, h, total-map (picked k) (part_of b m) g.categories, total-append (λ c. picked k (part_of b m c)) g.categories (categories_of (filter (λ g. not g.is_income) gs)))
 
 -- ---- the whole month
-moved_is : (b : Budget) (n : ℕ) → total (λ c. sums_before b c n) (categories b) ≡ money_before b n
+pub moved_is : (b : Budget) (n : ℕ) → total (λ c. sums_before b c n) (categories b) ≡ money_before b n
 moved_is b zero = total_zero (categories b)
 moved_is b (suc m) = omega (arith, ints, moved_is b m, total-plus (λ c. sums_before b c m) (λ c. b.category_sum c m) (categories b))
 

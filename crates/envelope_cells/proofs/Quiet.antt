@@ -1,11 +1,10 @@
 -- Before the first month of a book's window there is nothing.
-use Rattle.std.proofs.Common.{◌≡◌, ℕ, ◌+◌, ◌-◌, ◌*◌, ◌/◌, ◌%◌, ◌==◌, ◌<◌, ◌≤◌, Bool, true, false, cond, Option, Some, None, zero, suc, length, refl, ap, sym, ◌∙◌, subst, arith, ltb, inl, inr}
+use Rattle.std.proofs.Common.{◌≡◌, ℕ, ◌+◌, ◌/◌, ◌%◌, ◌==◌, ◌<◌, ◌≤◌, Bool, true, false, Option, Some, None, zero, suc, refl, ap, sym, ◌∙◌, subst, arith, inl, inr}
 use Rattle.std.specs.Prelude.{◌&&◌}
 use lib.IntN.{ℤ, pos}
 use Rattle.std.proofs.lemmas.Int.{ints, clamps}
 use Rattle.std.proofs.lemmas.Bool.Decides.{nat_tests}
 use Rattle.std.specs.FinMap.{get, entries}
-use Rattle.std.specs.Char.{is_ascii_digit}
 use Rattle.finite_sums.specs.Sums.{only_if}
 use Rattle.finite_sums.specs.Maps.{Text, value_or_zero, some_and}
 use Rattle.finite_sums.proofs.MapSums.{total_same}
@@ -15,9 +14,10 @@ use Rattle.book_rows.specs.declared.rows.TxRow.{TxRow}
 use Rattle.book_rows.specs.declared.rows.BudgetRow.{BudgetRow}
 use Rattle.book_rows.specs.Live.{is_counted, category_of}
 use Rattle.book_rows.specs.Parts.{is_text}
-use Rattle.book_rows.specs.Months.{is_month, month_of_row, digit_of, two_at, four_at, behind, month_in, budget_month, window_of}
+use Rattle.book_rows.specs.Months.{is_month, month_of_row, window_of}
 use Rattle.book_rows.specs.Spans.{Spans, IsSpan}
 use Rattle.book_rows.proofs.Spans.{windows_span_lem}
+use Rattle.book_rows.proofs.MonthIds.{budget_month_back}
 use Rattle.book_rows.specs.Laws.{HasRowIn}
 use Rattle.envelope_cells.specs.Budget.{Budget}
 use Rattle.envelope_cells.specs.Cells.{rolled, carried_before, leftover_before}
@@ -34,38 +34,6 @@ month_back m y l h = omega arith
 
 pub month_rises : (k n : ℕ) → k < n → month_at k < month_at n
 month_rises k n h = omega arith
-
--- ---- the month in the id of a budget row
-is_digit : (d : ℕ) → d < 10 → is_ascii_digit (48 + d) ≡ true
-is_digit d h = grind (arith, nat_tests)
-
-back : (d : ℕ) → 48 + d - 48 ≡ d
-back d = omega arith
-
-digit_back : (d : ℕ) → d < 10 → digit_of (48 + d) ≡ Some d
-digit_back d h = ap (λ b. cond b (Some (48 + d - 48)) None) (is_digit d h) ∙ ap Some (back d)
-
-both : (k a b : ℕ) → a < 10 → b < 10 → behind k (digit_of (48 + a)) (digit_of (48 + b)) ≡ Some (k * a + b)
-both k a b h l = ap (λ o. behind k o (digit_of (48 + b))) (digit_back a h) ∙ ap (behind k (Some a)) (digit_back b l)
-
-long : (n : ℕ) → ltb (suc (suc (suc (suc (suc (suc (suc n))))))) 7 ≡ false
-long n = grind (arith, nat_tests)
-
-whole_number : (m : ℕ) → m < 1000000 → 100 * (100 * (10 * (m / 100 / 100 / 10 % 10) + m / 100 / 100 % 10) + (10 * (m / 100 / 10 % 10) + m / 100 % 10)) + (10 * (m / 10 % 10) + m % 10) ≡ m
-whole_number m h = omega arith
-
-pub budget_month_back : (c : Text) (m : ℕ) → m < 1000000 → is_month m ≡ true → budget_month (budget_id c m) ≡ Some m
-unfolding budget_month
-budget_month_back c m h valid =
-    let years : four_at (budget_id c m) 0 ≡ Some (100 * (10 * (m / 100 / 100 / 10 % 10) + m / 100 / 100 % 10) + (10 * (m / 100 / 10 % 10) + m / 100 % 10)) =
-    ap (λ o. behind 100 o (two_at (budget_id c m) 2)) (both 10 (m / 100 / 100 / 10 % 10) (m / 100 / 100 % 10) (omega arith) (omega arith))
-    ∙ ap (behind 100 (Some (10 * (m / 100 / 100 / 10 % 10) + m / 100 / 100 % 10))) (both 10 (m / 100 / 10 % 10) (m / 100 % 10) (omega arith) (omega arith)) in
-    let months : two_at (budget_id c m) 4 ≡ Some (10 * (m / 10 % 10) + m % 10) = both 10 (m / 10 % 10) (m % 10) (omega arith) (omega arith) in
-    ap (λ b. cond b None (month_in (behind 100 (four_at (budget_id c m) 0) (two_at (budget_id c m) 4)))) (long (length c))
-    ∙ ap (λ o. month_in (behind 100 o (two_at (budget_id c m) 4))) years
-    ∙ ap (λ o. month_in (behind 100 (Some (100 * (10 * (m / 100 / 100 / 10 % 10) + m / 100 / 100 % 10) + (10 * (m / 100 / 10 % 10) + m / 100 % 10))) o)) months
-    ∙ ap (λ n. cond (is_month n) (Some n) None) (whole_number m h)
-    ∙ ap (λ b. cond b (Some m) None) valid
 
 -- ---- nothing counts in a month that no row has
 and_false : (a b : Bool) → (a && (b && false)) ≡ false
@@ -91,12 +59,12 @@ module _ (r : Rows) (month : ℕ) (none : HasRowIn r month → ⊥) where
   no_sum : (c : Text) → category_sum r c month ≡ pos 0
   no_sum c = total_same text_total text_same (share r c month) (λ x. pos 0) r.txs (no_share c) ∙ total_zero (entries r.txs)
 
-  no_row : (c : Text) → month < 1000000 → is_month month ≡ true → get r.budgets (budget_id c month) ≡ None
-  no_row c h valid = by (get r.budgets (budget_id c month)) refl
+  no_row : (c : Text) → is_month month ≡ true → get r.budgets (budget_id c month) ≡ None
+  no_row c valid = by (get r.budgets (budget_id c month)) refl
     where
       by : (o : Option BudgetRow) → get r.budgets (budget_id c month) ≡ o → o ≡ None
       by None e = refl
-      by (Some b) e = absurd (none (inr (inl (budget_id c month, b, e, budget_month_back c month h valid))))
+      by (Some b) e = absurd (none (inr (inl (budget_id c month, b, e, budget_month_back c month valid))))
 
 -- ---- nothing is left of months in which there is nothing
 abbrev nothing : Past
@@ -139,7 +107,7 @@ valid_month k h =
 pub quiet_before : (r : Rows) (n : ℕ) → n ≤ 2760 → ((k : ℕ) → k < n → HasRowIn r (month_at k) → ⊥) → (c : Text) → IsPast (budget_of r) c n nothing
 quiet_before r n within none c = is_nothing (budget_of r) c n (λ k l.
     let below : k < 2760 = omega arith in
-    let gone : get r.budgets (budget_id c (month_at k)) ≡ None = no_row r (month_at k) (none k l) c (omega arith) (valid_month k below) in
+    let gone : get r.budgets (budget_id c (month_at k)) ≡ None = no_row r (month_at k) (none k l) c (valid_month k below) in
     (no_sum r (month_at k) (none k l) c, ap (value_or_zero (λ (x : BudgetRow). x.amount)) gone, ap (some_and (λ (x : BudgetRow). x.carryover)) gone))
 
 -- nothing is left of any months, where a book has no window

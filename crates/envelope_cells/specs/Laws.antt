@@ -1,13 +1,17 @@
 -- What the laws say.
-use Rattle.std.specs.Prelude.{ℕ, ◌≡◌, ◌+◌, true, false, pos, ◌+ℤ◌, ◌-ℤ◌, ◌≤ℤ◌, map, None}
+use Rattle.std.specs.Prelude.{ℕ, ℤ, ◌≡◌, ◌+◌, ◌^◌, ◌≤◌, true, false, pos, ◌+ℤ◌, ◌-ℤ◌, ◌≤ℤ◌, unsigned_abs, map, Some, None}
+use Rattle.std.specs.List.{AllByRecursion}
 use Rattle.finite_sums.specs.Sums.{total}
 use Rattle.finite_sums.specs.Maps.{Text, text_cmp, is_among}
 use Rattle.envelope_cells.specs.Budget.{Budget, categories, income, expense}
 use Rattle.envelope_cells.specs.Cells.{leftover, taken_from, total_income, from_last_month, available_funds, last_month_overspent, total_budgeted, to_budget, total_leftover, money}
 use Rattle.envelope_cells.specs.CellOf.{cell_of, is_of_category}
 use Rattle.envelope_cells.specs.SheetOf.{sheet_of, value_named}
+use Rattle.envelope_cells.specs.NamesOf.{names_of}
 use Rattle.envelope_cells.specs.declared.name.CellName.{CellName}
 use Rattle.book_rows.specs.declared.rows.Rows.{Rows}
+use Rattle.book_rows.specs.Book.{HasSizes}
+use Rattle.book_rows.specs.Months.{is_month}
 use Rattle.book_rows.specs.Live.{is_live_group, is_live_category, is_income_category, is_expense_category}
 use Rattle.envelope_cells.specs.BudgetOf.{budget_of, groups_of}
 
@@ -70,3 +74,12 @@ pub record LiveOnesAreListed (rows : Rows) : Type 0 where
   pub category : (q : Text) → is_among text_cmp (categories (budget_of rows)) q ≡ is_live_category rows q
   pub income : (q : Text) → is_among text_cmp (income (budget_of rows)) q ≡ is_income_category rows q
   pub expense : (q : Text) → is_among text_cmp (expense (budget_of rows)) q ≡ is_expense_category rows q
+
+-- the sheet of a month has the cells of its names, in this order, each with the value that the cell has
+pub record SheetsAreNamed (rows : Rows) (month : ℕ) : Type 0 where
+  pub names : map (λ c. c.name) (sheet_of (budget_of rows) month) ≡ names_of (groups_of rows) month
+  pub values : AllByRecursion (λ c. cell_of (budget_of rows) c.name ≡ Some c.value) (sheet_of (budget_of rows) month)
+
+-- a cell of a valid month of a book tells less than what 128 bits hold, by far
+abbrev pub CellsAreSmall : Rows → Type 0
+CellsAreSmall rows = HasSizes rows → (name : CellName) → is_month name.month ≡ true → (z : ℤ) → cell_of (budget_of rows) name ≡ Some z → unsigned_abs z ≤ 2 ^ 121

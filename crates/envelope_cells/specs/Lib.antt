@@ -4,6 +4,7 @@ pub mod Budget
 pub mod Cells
 pub mod CellOf
 pub mod SheetOf
+pub mod NamesOf
 pub mod Places
 pub mod BudgetOf
 pub mod Parts

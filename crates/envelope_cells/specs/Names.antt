@@ -2,7 +2,8 @@
 use Rattle.std.specs.Prelude.{ℕ, ℤ}
 use Rattle.std.specs.declared.cmp.Ordering.{Ordering}
 use Rattle.std.specs.Ordering.{nat_cmp, ordering_then}
-use Rattle.std.specs.FinMap.{FinMap}
+use Rattle.std.specs.BTreeMap.{BTreeMap}
+use Rattle.std.specs.FinMap.{FinMap, from_entries}
 use Rattle.std.specs.Cmp.{IsTotalOrder, on_total, nat_cmp_total}
 use Rattle.std.proofs.lemmas.Cmp.{then_total, nat_list_cmp_total}
 use Rattle.finite_sums.specs.Maps.{text_cmp}
@@ -39,3 +40,7 @@ cells_total = then_total (on_total (λ n. n.month) nat_cmp_total) (then_total (o
 -- cells give values
 abbrev pub Cells : Type 0
 Cells = FinMap cell_cmp ℤ
+
+-- the values of cells, from a map in memory
+abbrev pub cells_in : BTreeMap CellName ℤ → Cells
+cells_in values = from_entries values.entries

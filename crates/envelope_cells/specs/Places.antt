@@ -1,8 +1,10 @@
 -- The order of groups and categories on a sheet.
-use Rattle.std.specs.Prelude.{Bool, not, List, [], ◌∷◌, map, filter, Option}
+use Rattle.std.specs.Prelude.{Bool, not, List, [], ◌∷◌, map, filter, Option, Some, None}
 use Rattle.std.specs.declared.cmp.Ordering.{Ordering}
 use Rattle.std.specs.Ordering.{int_cmp, ordering_then}
-use Rattle.std.specs.BTreeMap.{insert_entry}
+use Rattle.std.specs.BTreeMap as tree
+use Rattle.std.specs.BTreeMap.{BTreeMap, insert_entry}
+use Rattle.std.specs.Global.{Vec}
 use Rattle.std.specs.Cmp.{IsTotalOrder, on_total, int_cmp_total}
 use Rattle.std.proofs.lemmas.Cmp.{then_total, nat_list_cmp_total}
 use Rattle.finite_sums.specs.Maps.{Text, text_cmp}
@@ -39,3 +41,11 @@ ids_of_group g cs = map (λ e. e.0.id) (filter (λ e. is_text g e.1) cs)
 -- the groups with their categories
 abbrev pub with_categories : List (Place × Option Text) → List (Place × Bool) → List BudgetGroup
 with_categories cs gs = map (λ e. record { id = e.0.id; is_income = e.1; categories = ids_of_group e.0.id cs }) gs
+
+-- the ids that a map has for a group
+abbrev pub items_of : Option (Vec Text) → List Text
+items_of None = []
+items_of (Some v) = v.items
+
+abbrev pub members_of : BTreeMap Text (Vec Text) → Text → List Text
+members_of members g = items_of (tree.get text_cmp members g)

@@ -1,14 +1,15 @@
 //! The live groups and categories, in the order of a sheet.
-ghost use Rattle.std.specs.Prelude.{◌≡◌, List, [], ◌∷◌, OnOk, IfOk, map};
+ghost use Rattle.std.specs.Prelude.{◌≡◌, List, [], ◌∷◌, ◌++◌, Option, OnOk, IfOk, if◌then◌else◌};
+ghost use Rattle.std.specs.BTreeMap.{is_at};
 ghost use Rattle.std.specs.FinMap as fin;
-ghost use Rattle.finite_sums.specs.Maps.{Text};
+ghost use Rattle.finite_sums.specs.Maps.{Text, text_cmp};
 ghost use Rattle.book_rows.specs.declared.rows.GroupRow.{GroupRow as GroupRowIs};
 ghost use Rattle.book_rows.specs.declared.rows.CategoryRow.{CategoryRow as CategoryRowIs};
-ghost use Rattle.book_rows.specs.Parts.{is_text};
-ghost use Rattle.envelope_cells.specs.Places.{placed, group_places, category_places, ids_of_group, with_categories};
+ghost use Rattle.envelope_cells.specs.declared.groups.Place.{Place as PlaceIs};
+ghost use Rattle.envelope_cells.specs.Places.{placed, group_places, category_places, ids_of_group, members_of};
 ghost use Rattle.envelope_cells.specs.BudgetOf.{groups_of};
 
-use book_rows::{Book, CategoryRow, GroupRow};
+use book_rows::{Book, CategoryRow, GroupRow, copied};
 use field_values::{Items, NoMemory, Txt};
 use std::alloc::Global;
 use std::cmp::Ordering;
@@ -16,7 +17,7 @@ use std::collections::BTreeMap;
 
 /// A live group, with its live categories in the order of the sheet.
 #[derive(Debug, Drop)]
-pub(crate) struct BudgetGroup {
+pub struct BudgetGroup {
     /// Its id.
     pub id: Txt,
     /// Whether its categories take income.
@@ -27,7 +28,7 @@ pub(crate) struct BudgetGroup {
 
 /// Where a group stands among groups, or a category among categories.
 #[derive(Debug, Drop)]
-pub(crate) struct Place {
+pub struct Place {
     /// What the row says of its place.
     pub sort_order: i64,
     /// The id of the row.
@@ -114,16 +115,6 @@ fn groups_in_place(alloc: Global, book: &Book) -> Result<BTreeMap<Place, bool>, 
     Ok(found)
 }
 
-/// A copy of a text that may be absent.
-fn copy_of(text: &Option<Txt>) -> Result<Option<Txt>, NoMemory>
-    ensures { IfOk result (λ t. t ≡ text.now) }
-{
-    match text {
-        Some(text) => Ok(Some(text.copy()?)),
-        None => Ok(None),
-    }
-}
-
 /// Puts a category in its place, if it was not deleted.
 fn place_category(
     found: &mut BTreeMap<Place, Option<Txt>>,
@@ -139,7 +130,7 @@ fn place_category(
         sort_order: row.sort_order,
         id: id.copy()?,
     };
-    found.insert(place, copy_of(&row.cat_group)?)?;
+    found.insert(place, copied(&row.cat_group)?)?;
     Ok(())
 }
 
@@ -154,45 +145,93 @@ fn categories_in_place(alloc: Global, book: &Book) -> Result<BTreeMap<Place, Opt
     Ok(found)
 }
 
-/// Whether the text is there and is this one.
-fn is_text(id: &Txt, text: &Option<Txt>) -> bool
-    ensures { result ≡ is_text id.now text.now }
-{
-    match text {
-        Some(own) => own.cmp(id) == Ordering::Equal,
-        None => false,
-    }
-}
-
-/// The categories of a group.
-fn ids_of_group(
+/// Puts a category behind those of its group.
+fn enter(
     alloc: Global,
-    group: &Txt,
-    categories: &BTreeMap<Place, Option<Txt>>,
-) -> Result<Items<Txt>, NoMemory>
-    ensures { IfOk result (λ ids. ids ≡ ids_of_group group.now categories.now.entries) }
+    members: &mut BTreeMap<Txt, Vec<Txt>>,
+    group: Txt,
+    id: Txt,
+) -> Result<(), NoMemory>
+    ensures { OnOk result ((g : Text) → members_of members.new g ≡ (if is_at (text_cmp group) g then members_of members.old g ++ id ∷ [] else members_of members.old g)) }
 {
-    let mut ids = Vec::new(alloc);
-    for (place, own) in categories {
-        if is_text(group, own) {
-            ids.push(place.id.copy()?)?;
-        }
+    if let Some(ids) = members.get_mut(&group) {
+        ids.push(id)?;
+        return Ok(());
     }
-    Ok(Items::new(ids))
+    let mut ids = Vec::new(alloc);
+    ids.push(id)?;
+    members.insert(group, ids)?;
+    Ok(())
 }
 
-/// The live groups in their order, each with its live categories in theirs.
-pub(crate) fn groups_of(alloc: Global, book: &Book) -> Result<Items<BudgetGroup>, NoMemory>
+/// Puts a category behind those of its group, if it names one.
+fn enter_place(
+    alloc: Global,
+    members: &mut BTreeMap<Txt, Vec<Txt>>,
+    place: &Place,
+    group: &Option<Txt>,
+) -> Result<(), NoMemory>
+    ensures { OnOk result ((rest : List (PlaceIs × Option Text)) (g : Text) → members_of members.new g ++ ids_of_group g rest ≡ members_of members.old g ++ ids_of_group g ((place.now, group.now) ∷ rest)) }
+{
+    match group {
+        Some(group) => enter(alloc, members, group.copy()?, place.id.copy()?),
+        None => Ok(()),
+    }
+}
+
+/// The ids of the categories of each group, from one pass over the categories.
+fn members_in(
+    alloc: Global,
+    categories: &BTreeMap<Place, Option<Txt>>,
+) -> Result<BTreeMap<Txt, Vec<Txt>>, NoMemory>
+    ensures { IfOk result (λ members. (g : Text) → members_of members g ≡ ids_of_group g categories.now.entries) }
+{
+    let mut members = BTreeMap::new(alloc);
+    for (place, group) in categories {
+        enter_place(alloc, &mut members, place, group)?;
+    }
+    Ok(members)
+}
+
+/// Copies of ids.
+fn copies(alloc: Global, ids: &[Txt]) -> Result<Items<Txt>, NoMemory>
+    ensures { IfOk result (λ v. v ≡ ids.now) }
+{
+    let mut copies = Vec::with_capacity(alloc, ids.len())?;
+    for id in ids {
+        copies.push(id.copy()?)?;
+    }
+    Ok(Items::new(copies))
+}
+
+/// The ids of the categories of a group.
+fn ids_of(
+    alloc: Global,
+    members: &BTreeMap<Txt, Vec<Txt>>,
+    group: &Txt,
+) -> Result<Items<Txt>, NoMemory>
+    ensures { IfOk result (λ ids. ids ≡ members_of members.now group.now) }
+{
+    match members.get(group) {
+        Some(ids) => copies(alloc, ids.as_slice()),
+        None => Ok(Items::new(Vec::new(alloc))),
+    }
+}
+
+/// The live groups in their order, each with its live categories in theirs. It goes once over the groups and once over the
+/// categories.
+pub fn groups_of(alloc: Global, book: &Book) -> Result<Items<BudgetGroup>, NoMemory>
     ensures { IfOk result (λ groups. groups ≡ groups_of book.now.rows) }
 {
     let categories = categories_in_place(alloc, book)?;
+    let members = members_in(alloc, &categories)?;
     let places = groups_in_place(alloc, book)?;
     let mut groups = Vec::new(alloc);
     for (place, is_income) in &places {
         let group = BudgetGroup {
             id: place.id.copy()?,
             is_income: *is_income,
-            categories: ids_of_group(alloc, &place.id, &categories)?,
+            categories: ids_of(alloc, &members, &place.id)?,
         };
         groups.push(group)?;
     }

@@ -5,8 +5,8 @@ ghost use Rattle.envelope_cells.specs.Ids.{month_number, month_at};
 
 use book_rows::is_month;
 
-/// The month YYYYMM, counted from January 1970.
-pub(crate) fn month_number(month: u32) -> u32
+/// The month YYYYMM, counted from January 1970, which has number 0.
+pub fn month_number(month: u32) -> u32
     requires { IsTrue (is_month month) }
     ensures number { result ≡ month_number month }
     ensures below { result < 2760 }
@@ -15,7 +15,7 @@ pub(crate) fn month_number(month: u32) -> u32
 }
 
 /// The month YYYYMM of a number.
-pub(crate) fn month_at(number: u32) -> u32
+pub fn month_at(number: u32) -> u32
     requires { number < 2760 }
     ensures { result ≡ month_at number }
 {

@@ -1,8 +1,9 @@
 //! Facts about all budgets, which a proof can call for.
+ghost use Rattle.std.specs.Prelude.{ℕ};
 ghost use Rattle.finite_sums.specs.Maps.{Text};
 ghost use Rattle.book_rows.specs.declared.rows.Rows.{Rows};
 ghost use Rattle.envelope_cells.specs.Budget.{Budget};
-ghost use Rattle.envelope_cells.specs.Laws.{LeftoversAreMade, LiveOnesAreListed, MoneyIsKept, MonthsAreMade, OthersCountNowhere, OverspendingIsTaken, SheetsTellCells};
+ghost use Rattle.envelope_cells.specs.Laws.{CellsAreSmall, LeftoversAreMade, LiveOnesAreListed, MoneyIsKept, MonthsAreMade, OthersCountNowhere, OverspendingIsTaken, SheetsAreNamed, SheetsTellCells};
 
 /// A law: in every month what is still to budget, what is held back and what is left in the categories add up to all that
 /// came in and went out in live categories up to then. So no cent is lost, and none is made.
@@ -35,6 +36,17 @@ pub fn others_count_nowhere()
 /// A law: a name of its month has on a sheet the value of its cell, and stands on none where it has no cell.
 pub fn sheets_tell_cells()
     ensures { SheetsTellCells }
+{}
+
+/// A law: the cells of a sheet are those of the month's names, in their order ([`crate::cell_names`]), and each has the value of its
+/// cell. So a sheet can be made of names and cells.
+pub fn sheets_are_named()
+    ensures { (rows : Rows) (month : ℕ) → SheetsAreNamed rows month }
+{}
+
+/// A law: in a month from January 1970 to December 2199 no cell of a book is greater than 2 to the 121, either way.
+pub fn cells_are_small()
+    ensures { (rows : Rows) → CellsAreSmall rows }
 {}
 
 /// A law: the groups and the categories that a sheet lists are the live ones, each on the side that its group says; one that was

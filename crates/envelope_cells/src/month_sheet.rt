@@ -1,5 +1,5 @@
 //! The sheet of a month.
-ghost use Rattle.std.specs.Prelude.{◌≡◌, ◌+◌, ◌*◌, ◌≤◌, ◌^◌, ◌++◌, ◌∷◌, [], ℕ, ◌<◌, IsTrue, false, OnOk, IfOk, length, map as list_map};
+ghost use Rattle.std.specs.Prelude.{◌≡◌, ◌+◌, ◌*◌, ◌≤◌, ◌^◌, ◌++◌, ◌∷◌, [], ◌<◌, IsTrue, false, OnOk, IfOk, length, map as list_map};
 ghost use Rattle.std.specs.FinMap as map;
 ghost use Rattle.book_rows.specs.Months.{is_month};
 ghost use Rattle.envelope_cells.specs.BudgetOf.{budget_of, groups_of};
@@ -18,7 +18,8 @@ use crate::whole::{Whole, whole_of};
 use book_rows::Book;
 use field_values::{Items, NoMemory, Steps, Txt};
 use std::alloc::Global;
-use std::sync::ledger::Ledger;
+use std::marker::Brand;
+use std::sync::ledger::{Blank, Ledger};
 
 /// Puts a cell behind others.
 fn push(
@@ -191,23 +192,35 @@ fn cells_of(
     Ok(Items::new(cells))
 }
 
-/// The sheet of a month YYYYMM. It takes at most twice as many steps as the book has transactions,
-/// whatever cells there are.
-pub fn sheet<G: Ledger>(
+/// The sheet of a month, over a counter of its own.
+fn sheet_over<G: Ledger>(
     alloc: Global,
     book: &Book,
     month: u32,
-    steps: &mut Steps<G>,
+    blank: Blank,
 ) -> Result<Sheet, NoMemory>
+    requires name { blank.name ≡ G.name }
+    requires parts { blank.parts ≡ G.parts }
+    requires some { 1 ≤ G.parts }
     requires live { book.now.spent ≡ false }
     requires month { IsTrue (is_month month) }
     ensures cells { IfOk result (λ sheet. sheet.cells ≡ sheet_of (budget_of book.now.rows) month) }
     ensures money { IfOk result (λ sheet. HasAllMoney sheet.cells book.now.rows month) }
-    ensures cost { steps.new ≤ steps.old + 2 * length (map.entries book.now.rows.txs) }
 {
+    let mut steps = Steps::<G>::new(blank);
     let number = month_number(month);
-    let parts = parts_in(alloc, book, number, steps)?;
+    let parts = parts_in(alloc, book, number, &mut steps)?;
     let held = buffered_in(alloc, book, number)?;
     let cells = cells_of(alloc, month, parts.as_slice(), held)?;
     Ok(Sheet { cells })
+}
+
+/// The sheet of a month YYYYMM. It goes once over all transactions, whatever cells there are.
+pub fn sheet(alloc: Global, book: &Book, month: u32) -> Result<Sheet, NoMemory>
+    requires live { book.now.spent ≡ false }
+    requires month { IsTrue (is_month month) }
+    ensures cells { IfOk result (λ sheet. sheet.cells ≡ sheet_of (budget_of book.now.rows) month) }
+    ensures money { IfOk result (λ sheet. HasAllMoney sheet.cells book.now.rows month) }
+{
+    sheet_over::<Brand>(alloc, book, month, Blank::new(1))
 }

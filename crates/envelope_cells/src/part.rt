@@ -1,12 +1,11 @@
 //! What a category has in a month.
-ghost use Rattle.std.specs.Prelude.{◌≡◌, ℕ, ◌+◌, ◌<◌, ◌≤◌, ◌^◌, ◌+ℤ◌, pos, false, unsigned_abs, map, IfOk};
+ghost use Rattle.std.specs.Prelude.{◌≡◌, ◌+◌, ◌<◌, ◌≤◌, ◌^◌, ◌+ℤ◌, pos, false, unsigned_abs, map, IfOk};
 ghost use Rattle.finite_sums.specs.Sums.{total, weight, only_if};
 ghost use Rattle.finite_sums.specs.Maps.{Text};
 ghost use Rattle.envelope_cells.specs.Budget.{categories_of};
-ghost use Rattle.field_values.specs.Value.{HoldsNumber};
 ghost use Rattle.envelope_cells.specs.Cells.{rolled, taken};
 ghost use Rattle.envelope_cells.specs.Ids.{month_at};
-ghost use Rattle.envelope_cells.specs.BudgetOf.{budget_of, category_sum, budgeted, carries, buffered};
+ghost use Rattle.envelope_cells.specs.BudgetOf.{budget_of, carries, buffered};
 ghost use Rattle.envelope_cells.specs.Parts.{AreSums, IsPast, IsMonth, weight_before, part_of, group_of, picked, part_weight, is_side, group_total, side_total, groups_weight};
 
 use crate::groups::BudgetGroup;
@@ -68,7 +67,7 @@ pub(crate) enum Pick {
 
 /// What the months before left of a category.
 #[derive(Clone, Copy, Debug, PartialEq, Eq)]
-pub(crate) struct Past {
+pub struct Past {
     /// The leftover of the month before.
     pub left: i128,
     /// Whether the month before carries over.
@@ -79,7 +78,7 @@ pub(crate) struct Past {
 
 /// What the rows say of a category in one month.
 #[derive(Clone, Copy, Debug, PartialEq, Eq)]
-pub(crate) struct Month {
+pub struct Month {
     /// What its transactions add up to.
     pub sum: i128,
     /// What it is given.
@@ -105,7 +104,7 @@ impl Part {
 }
 
 /// What a leftover hands to the next month of its category.
-fn rolled_over(carries: bool, left: i128) -> i128
+pub fn rolled_over(carries: bool, left: i128) -> i128
     ensures value { result ≡ rolled carries left }
     ensures small { unsigned_abs result ≤ unsigned_abs left }
 {
@@ -113,7 +112,7 @@ fn rolled_over(carries: bool, left: i128) -> i128
 }
 
 /// What of a leftover is taken from the next month's money.
-fn taken_over(carries: bool, left: i128) -> i128
+pub fn taken_over(carries: bool, left: i128) -> i128
     ensures { result ≡ taken carries left }
 {
     if carries || left > 0 { 0 } else { left }
@@ -155,7 +154,7 @@ fn added(budget: i64, sum: i128, rolled: i128) -> i128
 }
 
 /// One month more.
-fn next(past: Past, month: Month) -> Past
+pub fn next(past: Past, month: Month) -> Past
     requires sum { unsigned_abs month.sum ≤ 2 ^ 122 }
     requires left { unsigned_abs past.left ≤ 2 ^ 122 }
     requires moved { unsigned_abs past.moved ≤ 2 ^ 122 }
@@ -176,7 +175,7 @@ fn next(past: Past, month: Month) -> Past
 
 /// The number of a month to which the months before it leave nothing of any category. It isn't
 /// after the month that is asked for.
-pub(crate) fn first_month(book: &Book, number: u32) -> u32
+pub fn first_month(book: &Book, number: u32) -> u32
     requires live { book.now.spent ≡ false }
     requires number { number < 2760 }
     ensures within { result ≤ number }
@@ -188,8 +187,9 @@ pub(crate) fn first_month(book: &Book, number: u32) -> u32
     }
 }
 
-/// What the months before month `number` left of a category. Before month `first` there is nothing.
-fn past_of(
+/// What the months before month `number` left of a category. Before month `first` there is nothing. It looks at each month from
+/// `first` on.
+pub fn past_of(
     alloc: Global,
     book: &Book,
     sums: &CellValues,

@@ -2,7 +2,6 @@
 ghost use Rattle.std.specs.Prelude.{◌≡◌, ℕ, ◌+◌, ◌*◌, ◌<◌, ◌≤◌, ◌^◌, ◌+ℤ◌, unsigned_abs, length, false, OnOk, IfOk};
 ghost use Rattle.std.specs.FinMap as map;
 ghost use Rattle.finite_sums.specs.Maps.{Text};
-ghost use Rattle.field_values.specs.Value.{HoldsNumber};
 ghost use Rattle.book_rows.specs.Live.{is_counted, is_on_budget, has_parent};
 ghost use Rattle.envelope_cells.specs.BudgetOf.{share};
 ghost use Rattle.envelope_cells.specs.Parts.{value_at, sum_name, AreSums};
@@ -45,7 +44,7 @@ fn parent_stands<G: Ledger>(book: &Book, row: &TxRow, steps: &mut Steps<G>) -> b
 }
 
 /// Whether a transaction counts in the budget. It looks at no transaction but the one that it is a part of.
-fn counts<G: Ledger>(book: &Book, row: &TxRow, steps: &mut Steps<G>) -> bool
+pub fn counts<G: Ledger>(book: &Book, row: &TxRow, steps: &mut Steps<G>) -> bool
     ensures is { result ≡ is_counted book.now.rows row.now }
     ensures cost { steps.new ≤ steps.old + 1 }
 {
@@ -55,7 +54,7 @@ fn counts<G: Ledger>(book: &Book, row: &TxRow, steps: &mut Steps<G>) -> bool
     parent_stands(book, row, steps)
 }
 
-/// Adds a transaction to the sum to which it belongs, if it counts.
+/// Adds a transaction to the sum of the category to which it resolves, if it counts.
 fn add_row<G: Ledger>(
     sums: &mut CellValues,
     book: &Book,
@@ -66,7 +65,7 @@ fn add_row<G: Ledger>(
     ensures added { OnOk result ((c : Text) (month : ℕ) → value_at sums.new (sum_name c month) ≡ value_at sums.old (sum_name c month) +ℤ share book.now.rows c month row.now) }
     ensures cost { steps.new ≤ steps.old + 1 }
 {
-    if let Some(category) = &row.category {
+    if let Some(category) = book.resolved_category(row) {
         if let Some(day) = row.date {
             if counts(book, row, steps) {
                 let name = CellName::make(day / 100, CellKind::Sum, category)?;
@@ -77,8 +76,9 @@ fn add_row<G: Ledger>(
     Ok(())
 }
 
-/// The sums of all categories in all months, from one pass over the transactions.
-pub(crate) fn category_sums<G: Ledger>(
+/// The sums of all categories in all months, from one pass over the transactions. A sum has the name of its cell, and one that is
+/// not there is 0; a category has one whether it is live or not.
+pub fn category_sums<G: Ledger>(
     alloc: Global,
     book: &Book,
     steps: &mut Steps<G>,

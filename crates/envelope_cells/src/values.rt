@@ -1,7 +1,9 @@
 //! Values of cells by name.
-ghost use Rattle.std.specs.Prelude.{◌≡◌, ◌+ℤ◌, OnOk, FitsSigned};
+ghost use Rattle.std.specs.Prelude.{◌≡◌, ◌+ℤ◌, true, false, None, OnOk, FitsSigned};
 ghost use Rattle.std.specs.Int.{w128};
 ghost use Rattle.std.specs.FinMap as map;
+ghost use Rattle.std.specs.BTreeMap.{IsOrdered};
+ghost use Rattle.envelope_cells.specs.Names.{cell_cmp, cells_in};
 ghost use Rattle.envelope_cells.specs.Parts.{value_at};
 
 use crate::name::CellName;
@@ -31,6 +33,22 @@ impl Model for CellValues {
     ghost view = { λ s. map.from_entries s.values.entries };
 
     ghost invariant = { λ s. IsOrdered cell_cmp s.values };
+}
+
+/// Adds to a value that is there, and tells whether it is.
+fn add_to(values: &mut BTreeMap<CellName, i128>, name: &CellName, amount: i128) -> bool
+    requires { FitsSigned w128 (value_at (cells_in values.old) name.now +ℤ amount) }
+    ensures there { result ≡ true → cells_in values.new ≡ map.insert (cells_in values.old) name.now (value_at (cells_in values.old) name.now +ℤ amount) }
+    ensures absent { result ≡ false → (cells_in values.new ≡ cells_in values.old) × (map.get (cells_in values.old) name.now ≡ None) }
+    ensures ordered { IsOrdered cell_cmp values.old → IsOrdered cell_cmp values.new }
+{
+    match values.get_mut(name) {
+        Some(value) => {
+            *value += amount;
+            true
+        }
+        None => false,
+    }
 }
 
 impl CellValues {
@@ -70,7 +88,9 @@ impl CellValues {
         requires { FitsSigned w128 (value_at self.old name +ℤ amount) }
         ensures { OnOk result (self.new ≡ map.insert self.old name (value_at self.old name +ℤ amount)) }
     {
-        let before = self.at(&name);
-        self.put(name, before + amount)
+        if add_to(&mut self.values, &name, amount) {
+            return Ok(());
+        }
+        self.put(name, amount)
     }
 }

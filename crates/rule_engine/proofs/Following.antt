@@ -14,42 +14,42 @@ use Rattle.book_rows.specs.declared.fault.EditFault.{EditFault}
 use Rattle.rule_engine.specs.declared.rule.Condition.{Condition}
 use Rattle.rule_engine.specs.declared.rule.Rule.{Rule}
 use Rattle.rule_engine.specs.declared.rule.RuleOp.TheVariants.{And, Or}
-use Rattle.rule_engine.specs.Conditions.{holds}
+use Rattle.rule_engine.specs.Conditions.{holds_in}
 use Rattle.rule_engine.specs.Reading.{read_rule}
 use Rattle.rule_engine.specs.Running.{fires_by, fires, acted, applied, run, rules_of}
 use Rattle.rule_engine.specs.Laws.{RulesFollowOneAnother}
 use Rattle.rule_engine.proofs.Live.{are_live}
 
-all_by : (cs : List Condition) (x : TxRow) → (fires_by And cs x ≡ true) ↔ ((cs ≢ []) × All (λ (c : Condition). holds x c ≡ true) cs)
-all_by [] x = (λ h. cc, λ h. absurd (h.0 refl))
-all_by (c ∷ cs) x = (
-  λ h. ((λ e. cc), AllPass-from_list_all (holds x) (c ∷ cs) h),
-  λ h. list_all-from_AllPass (holds x) (c ∷ cs) h.1,
+all_by : (rows : Rows) (cs : List Condition) (x : TxRow) → (fires_by rows And cs x ≡ true) ↔ ((cs ≢ []) × All (λ (c : Condition). holds_in rows x c ≡ true) cs)
+all_by rows [] x = (λ h. cc, λ h. absurd (h.0 refl))
+all_by rows (c ∷ cs) x = (
+  λ h. ((λ e. cc), AllPass-from_list_all (holds_in rows x) (c ∷ cs) h),
+  λ h. list_all-from_AllPass (holds_in rows x) (c ∷ cs) h.1,
 )
 
-one_by : (cs : List Condition) (x : TxRow) → (fires_by Or cs x ≡ true) ↔ Any (λ (c : Condition). holds x c ≡ true) cs
-one_by [] x = (λ h. cc, λ h. absurd (omega (arith, h.2)))
-one_by (c ∷ cs) x = (Any-from_list_any (holds x) (c ∷ cs), list_any-from_Any (holds x) (c ∷ cs))
+one_by : (rows : Rows) (cs : List Condition) (x : TxRow) → (fires_by rows Or cs x ≡ true) ↔ Any (λ (c : Condition). holds_in rows x c ≡ true) cs
+one_by rows [] x = (λ h. cc, λ h. absurd (omega (arith, h.2)))
+one_by rows (c ∷ cs) x = (Any-from_list_any (holds_in rows x) (c ∷ cs), list_any-from_Any (holds_in rows x) (c ∷ cs))
 
-fires_all : (r : Rule) (x : TxRow) → r.op ≡ And → (fires r x ≡ true) ↔ ((r.conditions ≢ []) × All (λ (c : Condition). holds x c ≡ true) r.conditions)
+fires_all : (rows : Rows) (r : Rule) (x : TxRow) → r.op ≡ And → (fires rows r x ≡ true) ↔ ((r.conditions ≢ []) × All (λ (c : Condition). holds_in rows x c ≡ true) r.conditions)
 unfolding fires
-fires_all r x e = subst (λ op. (fires_by op r.conditions x ≡ true) ↔ ((r.conditions ≢ []) × All (λ (c : Condition). holds x c ≡ true) r.conditions)) (sym e) (all_by r.conditions x)
+fires_all rows r x e = subst (λ op. (fires_by rows op r.conditions x ≡ true) ↔ ((r.conditions ≢ []) × All (λ (c : Condition). holds_in rows x c ≡ true) r.conditions)) (sym e) (all_by rows r.conditions x)
 
-fires_one : (r : Rule) (x : TxRow) → r.op ≡ Or → (fires r x ≡ true) ↔ Any (λ (c : Condition). holds x c ≡ true) r.conditions
+fires_one : (rows : Rows) (r : Rule) (x : TxRow) → r.op ≡ Or → (fires rows r x ≡ true) ↔ Any (λ (c : Condition). holds_in rows x c ≡ true) r.conditions
 unfolding fires
-fires_one r x e = subst (λ op. (fires_by op r.conditions x ≡ true) ↔ Any (λ (c : Condition). holds x c ≡ true) r.conditions) (sym e) (one_by r.conditions x)
+fires_one rows r x e = subst (λ op. (fires_by rows op r.conditions x ≡ true) ↔ Any (λ (c : Condition). holds_in rows x c ≡ true) r.conditions) (sym e) (one_by rows r.conditions x)
 
-rests : (rows : Rows) (r : Rule) (x : TxRow) → fires r x ≡ false → applied rows x r ≡ x
+rests : (rows : Rows) (r : Rule) (x : TxRow) → fires rows r x ≡ false → applied rows x r ≡ x
 unfolding applied
 rests rows r x e = cond-false _ _ _ e
 
-acts : (rows : Rows) (r : Rule) (x : TxRow) → fires r x ≡ true → applied rows x r ≡ fold (acted rows) x r.actions
+acts : (rows : Rows) (r : Rule) (x : TxRow) → fires rows r x ≡ true → applied rows x r ≡ fold (acted rows) x r.actions
 unfolding applied
 acts rows r x e = cond-true _ _ _ e
 
 idles : (rows : Rows) (r : Rule) (x : TxRow) → r.conditions ≡ [] → applied rows x r ≡ x
 unfolding fires
-idles rows r x e = rests rows r x (ap (λ cs. fires_by r.op cs x) e)
+idles rows r x e = rests rows r x (ap (λ cs. fires_by rows r.op cs x) e)
 
 not_read : (rows : Rows) (id : Text) (row : RuleRow) (fault : EditFault) → map.get rows.rules id ≡ Some row → read_rule id row ≡ Err fault → (r : Rule) → Contains (rules_of rows) r → r.id ≢ id
 not_read rows id row fault there bad r c same =

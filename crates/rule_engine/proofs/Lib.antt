@@ -2,8 +2,8 @@ pub mod Places
 pub mod Dates
 pub mod Entries
 pub mod Parts
-pub mod Once
 pub mod Ranks
 pub mod Live
 pub mod Following
 pub mod ValidWrites
+pub mod Resolved

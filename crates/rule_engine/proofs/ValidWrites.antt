@@ -17,12 +17,11 @@ use Rattle.book_rows.specs.declared.fault.EditFault.TheVariants.{BadRule, NoSuch
 use Rattle.book_rows.specs.Live.{is_live_rule, is_live_tx, is_alive}
 use Rattle.book_rows.specs.Named.{HasNames}
 use Rattle.book_rows.specs.Writes.{IsWrite, AreWrites}
-use Rattle.book_edits.specs.Faults.{must}
-use Rattle.book_edits.specs.Checks.{new_row}
+use Rattle.book_edits.specs.Faults.{must, each}
+use Rattle.book_edits.specs.Checks.{new_row, distinct}
 use Rattle.book_edits.specs.Writing.{flag, text_or_null}
 use Rattle.book_edits.proofs.Valid.{inside, passed, was_so, flag_is, text_or_null_is, name_there, new_row_is, write_is, all_append}
 use Rattle.split_transfer.specs.Pairs.{only_where, live_row}
-use Rattle.split_transfer.specs.Checks.{each}
 use Rattle.split_transfer.specs.Writing.{tx_write}
 use Rattle.rule_engine.specs.declared.edit.RuleEdit.{RuleEdit}
 use Rattle.rule_engine.specs.declared.edit.RuleEdit.TheVariants.{RuleAdd, RuleDelete, RulesRun}
@@ -33,7 +32,7 @@ use Rattle.rule_engine.specs.declared.rule.Stage.TheVariants.{Pre, Plain, Post}
 use Rattle.rule_engine.specs.Conditions.{same_flag}
 use Rattle.rule_engine.specs.Reading.{read_part, condition_of, action_of}
 use Rattle.rule_engine.specs.Running.{run, rules_of}
-use Rattle.rule_engine.specs.Edits.{is_rule, readable, stage_value, op_text, rule_add, rule_delete, same_text, changed_text, changed_flag, changed, changes_of, changes, distinct, rules_run, rule_writes}
+use Rattle.rule_engine.specs.Edits.{is_rule, readable, stage_value, op_text, rule_add, rule_delete, same_text, changed_text, changed_flag, changed, changes_of, changes, rules_run, rule_writes}
 
 stage_is : (stage : Stage) → IsValue (stage_value stage)
 stage_is Pre = tt

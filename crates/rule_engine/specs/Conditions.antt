@@ -1,12 +1,14 @@
 -- Which conditions hold on a transaction.
-use Rattle.std.specs.Prelude.{◌≡◌, ◌↔◌, ℕ, ◌+◌, ◌*◌, ◌/◌, nat_le, nat_lt, ◌==◌, Bool, true, false, not, ◌&&◌, ◌||◌, [], ◌∷◌, Option, None, Some, ℤ, ◌-ℤ◌, unsigned_abs, int_le, int_lt, chars, encode_utf8_all}
+use Rattle.std.specs.Prelude.{◌≡◌, ◌↔◌, ℕ, map, ◌+◌, ◌*◌, ◌/◌, nat_le, nat_lt, ◌==◌, Bool, true, false, not, ◌&&◌, ◌||◌, [], ◌∷◌, Option, None, Some, ℤ, ◌-ℤ◌, unsigned_abs, int_le, int_lt, chars, encode_utf8_all}
 use Rattle.std.specs.List.{list_any}
 use Rattle.std.specs.Ordering.{int_eq}
 use Rattle.std.specs.Str.{bytes_eq}
 use Rattle.std.specs.Str.Iter.{HasSubslice}
 use Rattle.caseless.specs.Caseless.{default_case_fold, IsDefaultMatch}
 use Rattle.finite_sums.specs.Maps.{Text}
+use Rattle.book_rows.specs.declared.rows.Rows.{Rows}
 use Rattle.book_rows.specs.declared.rows.TxRow.{TxRow}
+use Rattle.book_rows.specs.Live.{mapped_category, mapped_payee, category_of, payee_of}
 use Rattle.rule_engine.specs.declared.rule.CondField.{CondField}
 use Rattle.rule_engine.specs.declared.rule.CondField.TheVariants.{Acct, Description, Category, ImportedDescription, Notes, Amount, Date, Cleared}
 use Rattle.rule_engine.specs.declared.rule.CondOp.{CondOp}
@@ -147,6 +149,37 @@ holds_by Cleared op value x = flag_holds op value x.cleared
 -- a condition holds on a transaction
 unfoldable pub holds : TxRow → Condition → Bool
 holds x c = holds_by c.field c.op c.value x
+
+-- ---- conditions over rows, which map payees and categories to others
+
+-- a transaction with the payee and the category that its own stand for
+abbrev pub resolved_row : Rows → TxRow → TxRow
+resolved_row rows x = record x { category = category_of rows x; description = payee_of rows x }
+
+-- a value with other ids in place of its own
+abbrev pub with_ids : (Text → Text) → CondValue → CondValue
+with_ids other (OneText id) = OneText (other id)
+with_ids other (Texts ids) = Texts (map other ids)
+with_ids other value = value
+
+-- what an id of a field stands for: only payees and categories stand for others
+abbrev pub mapped_by : Rows → CondField → Text → Text
+mapped_by rows Description id = mapped_payee rows id
+mapped_by rows Category id = mapped_category rows id
+mapped_by rows field id = id
+
+-- a condition on payees or categories with what its ids stand for; any other as it is
+abbrev pub resolved_value : Rows → CondField → CondValue → CondValue
+resolved_value rows Description value = with_ids (mapped_payee rows) value
+resolved_value rows Category value = with_ids (mapped_category rows) value
+resolved_value rows field value = value
+
+abbrev pub resolved_condition : Rows → Condition → Condition
+resolved_condition rows c = record c { value = resolved_value rows c.field c.value }
+
+-- a condition holds on a transaction over rows: on what its payee and its category stand for, where the ids of the condition stand for others too
+unfoldable pub holds_in : Rows → TxRow → Condition → Bool
+holds_in rows x c = holds (resolved_row rows x) (resolved_condition rows c)
 
 -- how texts are compared
 pub record TextsAreCompared : Type 0 where

@@ -1,5 +1,5 @@
 -- The writes of an edit of rules, or of transactions by rules, or its first refusal.
-use Rattle.std.specs.Prelude.{Bool, true, false, not, List, [], ◌∷◌, ◌++◌, filter, flat_map, Option, None, Some, is_some, Result, Ok, Err, if◌then◌else◌, codes}
+use Rattle.std.specs.Prelude.{Bool, true, false, not, List, [], ◌∷◌, ◌++◌, flat_map, Option, None, Some, is_some, Result, Ok, Err, if◌then◌else◌, codes}
 use Rattle.std.specs.FinMap as map
 use Rattle.field_values.specs.declared.value.Value.{Value}
 use Rattle.field_values.specs.declared.value.Value.TheVariants.{Null, Text as IsText}
@@ -13,11 +13,10 @@ use Rattle.book_rows.specs.declared.fault.RulePart.TheVariants.{Id, Conditions, 
 use Rattle.book_rows.specs.declared.fault.EditFault.{EditFault}
 use Rattle.book_rows.specs.declared.fault.EditFault.TheVariants.{BadRule, NoSuchTransaction}
 use Rattle.book_rows.specs.Live.{is_live_rule, is_alive}
-use Rattle.book_edits.specs.Faults.{◌>>=◌, Check, must}
-use Rattle.book_edits.specs.Checks.{new_row, same_id}
+use Rattle.book_edits.specs.Faults.{◌>>=◌, Check, must, each}
+use Rattle.book_edits.specs.Checks.{new_row, same_id, distinct}
 use Rattle.book_edits.specs.Writing.{write, flag, text_or_null}
 use Rattle.split_transfer.specs.Pairs.{live_row}
-use Rattle.split_transfer.specs.Checks.{each}
 use Rattle.split_transfer.specs.Writing.{tx_write}
 use Rattle.rule_engine.specs.declared.edit.RuleEdit.{RuleEdit}
 use Rattle.rule_engine.specs.declared.edit.RuleEdit.TheVariants.{RuleAdd, RuleDelete, RulesRun}
@@ -102,11 +101,6 @@ changes_of rows rules id (Some x) = changed id x (run rows rules x)
 -- what rules change of the live transaction of an id
 abbrev pub changes : Rows → List Rule → Text → List Write
 changes rows rules id = changes_of rows rules id (live_row rows id)
-
--- each id once, at its first place
-abbrev pub distinct : List Text → List Text
-distinct [] = []
-distinct (id ∷ ids) = id ∷ filter (λ other. not (same_id id other)) (distinct ids)
 
 -- the rules of the book run on each of these transactions, which all have to be live, over the book as it stands before
 abbrev pub rules_run : Rows → List Text → Result (List Write) EditFault

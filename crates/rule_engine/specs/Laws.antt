@@ -11,7 +11,7 @@ use Rattle.book_rows.specs.declared.fault.EditFault.{EditFault}
 use Rattle.rule_engine.specs.declared.rule.Condition.{Condition}
 use Rattle.rule_engine.specs.declared.rule.Rule.{Rule}
 use Rattle.rule_engine.specs.declared.rule.RuleOp.TheVariants.{And, Or}
-use Rattle.rule_engine.specs.Conditions.{holds}
+use Rattle.rule_engine.specs.Conditions.{holds_in}
 use Rattle.rule_engine.specs.Reading.{read_rule}
 use Rattle.rule_engine.specs.Running.{fires, acted, applied, run, rules_of}
 use Rattle.rule_engine.specs.Scores.{rank_cmp, same_id, ranked}
@@ -39,12 +39,12 @@ pub record RulesAreRanked : Type 0 where
 -- which rules change a transaction, and over what
 pub record RulesFollowOneAnother : Type 0 where
   -- a rule whose conditions have to hold all fires just where there are some, and each holds
-  pub all : (r : Rule) (x : TxRow) → r.op ≡ And → (fires r x ≡ true) ↔ ((r.conditions ≢ []) × All (λ (c : Condition). holds x c ≡ true) r.conditions)
+  pub all : (rows : Rows) (r : Rule) (x : TxRow) → r.op ≡ And → (fires rows r x ≡ true) ↔ ((r.conditions ≢ []) × All (λ (c : Condition). holds_in rows x c ≡ true) r.conditions)
   -- a rule of whose conditions one has to hold fires just where one does
-  pub one : (r : Rule) (x : TxRow) → r.op ≡ Or → (fires r x ≡ true) ↔ Any (λ (c : Condition). holds x c ≡ true) r.conditions
+  pub one : (rows : Rows) (r : Rule) (x : TxRow) → r.op ≡ Or → (fires rows r x ≡ true) ↔ Any (λ (c : Condition). holds_in rows x c ≡ true) r.conditions
   -- a rule that doesn't fire changes nothing, and the actions of one that does follow one another in their order
-  pub rests : (rows : Rows) (r : Rule) (x : TxRow) → fires r x ≡ false → applied rows x r ≡ x
-  pub acts : (rows : Rows) (r : Rule) (x : TxRow) → fires r x ≡ true → applied rows x r ≡ fold (acted rows) x r.actions
+  pub rests : (rows : Rows) (r : Rule) (x : TxRow) → fires rows r x ≡ false → applied rows x r ≡ x
+  pub acts : (rows : Rows) (r : Rule) (x : TxRow) → fires rows r x ≡ true → applied rows x r ≡ fold (acted rows) x r.actions
   -- a rule without conditions changes nothing
   pub idle : (rows : Rows) (r : Rule) (x : TxRow) → r.conditions ≡ [] → applied rows x r ≡ x
   -- nor does a row that can't be read

@@ -15,20 +15,20 @@ use Rattle.rule_engine.specs.declared.rule.Condition.{Condition}
 use Rattle.rule_engine.specs.declared.rule.Rule.{Rule}
 use Rattle.rule_engine.specs.declared.rule.RuleOp.{RuleOp}
 use Rattle.rule_engine.specs.declared.rule.RuleOp.TheVariants.{And, Or}
-use Rattle.rule_engine.specs.Conditions.{holds, or_empty}
+use Rattle.rule_engine.specs.Conditions.{holds_in, or_empty}
 use Rattle.rule_engine.specs.Reading.{read_rule}
 use Rattle.rule_engine.specs.Scores.{ranked}
 
 -- ---- which rules change a transaction
 
 -- all conditions hold, or one of them does. Where there is none, they don't hold
-abbrev pub fires_by : RuleOp → List Condition → TxRow → Bool
-fires_by op [] x = false
-fires_by And (c ∷ cs) x = list_all (holds x) (c ∷ cs)
-fires_by Or (c ∷ cs) x = list_any (holds x) (c ∷ cs)
+abbrev pub fires_by : Rows → RuleOp → List Condition → TxRow → Bool
+fires_by rows op [] x = false
+fires_by rows And (c ∷ cs) x = list_all (holds_in rows x) (c ∷ cs)
+fires_by rows Or (c ∷ cs) x = list_any (holds_in rows x) (c ∷ cs)
 
-unfoldable pub fires : Rule → TxRow → Bool
-fires r x = fires_by r.op r.conditions x
+unfoldable pub fires : Rows → Rule → TxRow → Bool
+fires rows r x = fires_by rows r.op r.conditions x
 
 -- ---- actions
 
@@ -62,7 +62,7 @@ acted rows x (LinkSchedule id) = record x { schedule = Some id }
 
 -- what a rule makes of a transaction: where its conditions hold, its actions follow one another
 unfoldable pub applied : Rows → TxRow → Rule → TxRow
-applied rows x r = if fires r x then fold (acted rows) x r.actions else x
+applied rows x r = if fires rows r x then fold (acted rows) x r.actions else x
 
 -- what rules make of a transaction: each has what the rules before it made
 unfoldable pub run : Rows → List Rule → TxRow → TxRow

@@ -1,25 +1,37 @@
 //! Whether a condition holds on a transaction.
 ghost use Rattle.std.specs.Prelude.{◌≡◌, IfOk};
-ghost use Rattle.rule_engine.specs.Conditions.{is_id, is_one_id, id_holds, is_same_text, has_part, or_empty, text_is, text_is_one, text_has, text_holds, is_near, is_between, number_holds, is_between_op, amount_holds, day_holds_by, day_holds, same_flag, flag_holds, holds};
+ghost use Rattle.std.specs.Option.{option_copied};
+ghost use Rattle.rule_engine.specs.Conditions.{mapped_by, with_ids, is_id, is_one_id, id_holds, is_same_text, has_part, or_empty, text_is, text_is_one, text_has, text_holds, is_near, is_between, number_holds, is_between_op, amount_holds, day_holds_by, day_holds, same_flag, flag_holds, holds_in};
 
 use crate::days::are_within;
 use crate::rule::{CondField, CondOp, CondValue, Condition};
-use book_rows::TxRow;
+use book_rows::{Book, TxRow};
 use caseless::{default_case_fold_str, default_caseless_match_str};
 use field_values::{NoMemory, Txt};
 use std::alloc::Global;
 
-/// Whether the condition holds on the transaction.
-#[tactic(auto, unfolding(crate::specs::Conditions::holds))]
-pub fn holds(alloc: Global, condition: &Condition, row: &TxRow) -> Result<bool, NoMemory>
-    ensures { IfOk result (λ b. b ≡ holds row.now condition.now) }
+/// Whether the condition holds on the transaction, which need not be in the book. A condition on the payee or the category compares
+/// what the transaction's own id stands for with what the condition's ids stand for, by the mappings of the book.
+#[tactic(auto, unfolding(crate::specs::Conditions::holds, crate::specs::Conditions::holds_in))]
+pub fn holds(
+    alloc: Global,
+    book: &Book,
+    condition: &Condition,
+    row: &TxRow,
+) -> Result<bool, NoMemory>
+    ensures { IfOk result (λ b. b ≡ holds_in book.now.rows row.now condition.now) }
 {
+    let field = condition.field;
     let op = condition.op;
     let value = &condition.value;
-    match condition.field {
-        CondField::Acct => Ok(id_holds(op, value, &row.acct)),
-        CondField::Description => Ok(id_holds(op, value, &row.description)),
-        CondField::Category => Ok(id_holds(op, value, &row.category)),
+    match field {
+        CondField::Acct => Ok(id_holds(book, field, op, value, row.acct.as_ref())),
+        CondField::Description => {
+            Ok(id_holds(book, field, op, value, book.resolved_payee(row)))
+        }
+        CondField::Category => {
+            Ok(id_holds(book, field, op, value, book.resolved_category(row)))
+        }
         CondField::ImportedDescription => {
             text_holds(alloc, op, value, or_empty(&row.imported_description))
         }
@@ -40,33 +52,56 @@ pub(crate) fn or_empty(text: &Option<Txt>) -> &str
     }
 }
 
-fn id_holds(op: CondOp, value: &CondValue, id: &Option<Txt>) -> bool
-    ensures { result ≡ id_holds op value.now id.now }
+/// What an id in a condition on this field stands for.
+fn mapped<'a>(book: &'a Book, field: CondField, id: &'a Txt) -> &'a Txt
+    ensures { result.now ≡ mapped_by book.now.rows field id.now }
+{
+    match field {
+        CondField::Description => book.mapped_payee(id),
+        CondField::Category => book.mapped_category(id),
+        _ => id,
+    }
+}
+
+/// Whether a test of ids holds: each id of the value is taken for what it stands for.
+fn id_holds(
+    book: &Book,
+    field: CondField,
+    op: CondOp,
+    value: &CondValue,
+    id: Option<&Txt>,
+) -> bool
+    ensures { result ≡ id_holds op (with_ids (mapped_by book.now.rows field) value.now) (option_copied id) }
 {
     match op {
-        CondOp::Is => is_id(value, id),
-        CondOp::IsNot => !is_id(value, id),
-        CondOp::OneOf => is_one_id(value, id),
-        CondOp::NotOneOf => !is_one_id(value, id),
+        CondOp::Is => is_id(book, field, value, id),
+        CondOp::IsNot => !is_id(book, field, value, id),
+        CondOp::OneOf => is_one_id(book, field, value, id),
+        CondOp::NotOneOf => !is_one_id(book, field, value, id),
         _ => false,
     }
 }
 
-fn is_id(value: &CondValue, id: &Option<Txt>) -> bool
-    ensures { result ≡ is_id value.now id.now }
+fn is_id(book: &Book, field: CondField, value: &CondValue, id: Option<&Txt>) -> bool
+    ensures { result ≡ is_id (with_ids (mapped_by book.now.rows field) value.now) (option_copied id) }
 {
     match (value, id) {
         (CondValue::Null, None) => true,
-        (CondValue::Text(text), Some(id)) => id == text,
+        (CondValue::Text(text), Some(id)) => id == mapped(book, field, text),
         _ => false,
     }
 }
 
-fn is_one_id(value: &CondValue, id: &Option<Txt>) -> bool
-    ensures { result ≡ is_one_id value.now id.now }
+fn is_one_id(book: &Book, field: CondField, value: &CondValue, id: Option<&Txt>) -> bool
+    ensures { result ≡ is_one_id (with_ids (mapped_by book.now.rows field) value.now) (option_copied id) }
 {
     match (value, id) {
-        (CondValue::Texts(texts), Some(id)) => texts.as_slice().iter().any(|text| id == text),
+        (CondValue::Texts(texts), Some(id)) => {
+            texts
+                .as_slice()
+                .iter()
+                .any(|text| id == mapped(book, field, text))
+        }
         _ => false,
     }
 }

@@ -4,10 +4,10 @@ ghost use Rattle.book_rows.specs.declared.fault.RulePart.TheVariants.{Conditions
 ghost use Rattle.book_rows.specs.declared.fault.EditFault.TheVariants.{NoSuchTransaction};
 ghost use Rattle.book_rows.specs.Live.{is_live_rule, is_alive};
 ghost use Rattle.book_rows.specs.Writes.{AreWrites};
-ghost use Rattle.book_edits.specs.Faults.{IsEditFault, must};
-ghost use Rattle.split_transfer.specs.Checks.{each};
+ghost use Rattle.book_edits.specs.Faults.{IsEditFault, must, each};
 ghost use Rattle.rule_engine.specs.Reading.{read_part, condition_of, action_of};
-ghost use Rattle.rule_engine.specs.Edits.{readable, rule_row_writes, rule_add, rule_delete, changes, distinct, rules_run, rule_writes};
+ghost use Rattle.book_edits.specs.Checks.{distinct};
+ghost use Rattle.rule_engine.specs.Edits.{readable, rule_row_writes, rule_add, rule_delete, changes, rules_run, rule_writes};
 
 use crate::edit::RuleEdit;
 use crate::given::new_rule;

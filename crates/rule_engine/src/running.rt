@@ -3,7 +3,7 @@ ghost use Rattle.std.specs.Prelude.{◌≡◌, IfOk};
 ghost use Rattle.std.specs.List.{list_all, list_any, fold};
 ghost use Rattle.book_rows.specs.declared.rows.TxRow.{TxRow};
 ghost use Rattle.rule_engine.specs.declared.rule.Action.{Action};
-ghost use Rattle.rule_engine.specs.Conditions.{holds};
+ghost use Rattle.rule_engine.specs.Conditions.{holds_in};
 ghost use Rattle.rule_engine.specs.Running.{fires, acted, applied, run, read_live, rules_of};
 
 use crate::acting::act;
@@ -16,11 +16,16 @@ use field_values::{NoMemory, Txt};
 use std::alloc::Global;
 
 /// Whether one of the conditions holds.
-fn one_holds(alloc: Global, conditions: &[Condition], row: &TxRow) -> Result<bool, NoMemory>
-    ensures { IfOk result (λ b. b ≡ list_any (holds row.now) conditions.now) }
+fn one_holds(
+    alloc: Global,
+    book: &Book,
+    conditions: &[Condition],
+    row: &TxRow,
+) -> Result<bool, NoMemory>
+    ensures { IfOk result (λ b. b ≡ list_any (holds_in book.now.rows row.now) conditions.now) }
 {
     for condition in conditions {
-        if holds(alloc, condition, row)? {
+        if holds(alloc, book, condition, row)? {
             return Ok(true);
         }
     }
@@ -28,11 +33,16 @@ fn one_holds(alloc: Global, conditions: &[Condition], row: &TxRow) -> Result<boo
 }
 
 /// Whether all conditions hold.
-fn all_hold(alloc: Global, conditions: &[Condition], row: &TxRow) -> Result<bool, NoMemory>
-    ensures { IfOk result (λ b. b ≡ list_all (holds row.now) conditions.now) }
+fn all_hold(
+    alloc: Global,
+    book: &Book,
+    conditions: &[Condition],
+    row: &TxRow,
+) -> Result<bool, NoMemory>
+    ensures { IfOk result (λ b. b ≡ list_all (holds_in book.now.rows row.now) conditions.now) }
 {
     for condition in conditions {
-        if !holds(alloc, condition, row)? {
+        if !holds(alloc, book, condition, row)? {
             return Ok(false);
         }
     }
@@ -42,16 +52,16 @@ fn all_hold(alloc: Global, conditions: &[Condition], row: &TxRow) -> Result<bool
 /// Whether the conditions of a rule hold, all of them or one, as it says. Where there is none, they
 /// don't.
 #[tactic(auto, unfolding(crate::specs::Running::fires))]
-fn fires(alloc: Global, rule: &Rule, row: &TxRow) -> Result<bool, NoMemory>
-    ensures { IfOk result (λ b. b ≡ fires rule.now row.now) }
+fn fires(alloc: Global, book: &Book, rule: &Rule, row: &TxRow) -> Result<bool, NoMemory>
+    ensures { IfOk result (λ b. b ≡ fires book.now.rows rule.now row.now) }
 {
     let conditions = rule.conditions.as_slice();
     if conditions.is_empty() {
         return Ok(false);
     }
     match rule.op {
-        RuleOp::And => all_hold(alloc, conditions, row),
-        RuleOp::Or => one_holds(alloc, conditions, row),
+        RuleOp::And => all_hold(alloc, book, conditions, row),
+        RuleOp::Or => one_holds(alloc, book, conditions, row),
     }
 }
 
@@ -71,7 +81,7 @@ fn act_all(alloc: Global, book: &Book, actions: &[Action], row: TxRow) -> Result
 fn apply(alloc: Global, book: &Book, rule: &Rule, row: TxRow) -> Result<TxRow, NoMemory>
     ensures { IfOk result (λ x. x ≡ applied book.now.rows row rule.now) }
 {
-    if fires(alloc, rule, &row)? {
+    if fires(alloc, book, rule, &row)? {
         act_all(alloc, book, rule.actions.as_slice(), row)
     } else {
         Ok(row)

@@ -1,5 +1,8 @@
 //! Edits of schedules.
-use field_values::Txt;
+ghost use Rattle.std.specs.Prelude.{◌≡◌, IfOk};
+
+use book_rows::copied;
+use field_values::{NoMemory, Txt};
 
 /// An edit of a schedule. Amounts are in cents.
 #[derive(Debug, Drop)]
@@ -25,4 +28,32 @@ pub enum ScheduleEdit {
     Delete {
         id: Txt,
     },
+}
+
+impl ScheduleEdit {
+    /// An equal edit.
+    pub fn copy(&self) -> Result<ScheduleEdit, NoMemory>
+        ensures { IfOk result (λ edit. edit ≡ self.now) }
+    {
+        match self {
+            ScheduleEdit::Add {
+                id,
+                name,
+                account,
+                payee,
+                amount,
+                recur,
+            } => Ok(ScheduleEdit::Add {
+                id: copied(id)?,
+                name: name.copy()?,
+                account: account.copy()?,
+                payee: copied(payee)?,
+                amount: *amount,
+                recur: recur.copy()?,
+            }),
+            ScheduleEdit::Post { id } => Ok(ScheduleEdit::Post { id: id.copy()? }),
+            ScheduleEdit::Skip { id } => Ok(ScheduleEdit::Skip { id: id.copy()? }),
+            ScheduleEdit::Delete { id } => Ok(ScheduleEdit::Delete { id: id.copy()? }),
+        }
+    }
 }

@@ -1,6 +1,6 @@
 //! Days by month, and the dates that write them: months are numbered from January 1970.
 ghost use Rattle.std.specs.Prelude.{◌≡◌, ◌<◌, ◌≤◌, pos, ◌≤ℤ◌, true, Some, IfSome};
-ghost use Rattle.jiff_core.specs.Date.{epoch_day, weekday_of};
+ghost use Rattle.jiff_core.specs.Date.{epoch_day};
 ghost use Rattle.book_rows.specs.Kinds.{is_day};
 ghost use Rattle.schedules.specs.Months.{month_day, month_start, month_length, weekday, date_of, day_in};
 

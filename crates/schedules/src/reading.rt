@@ -1,11 +1,10 @@
 //! Reading a recurrence: key by key in a fixed order, to the first that is bad.
-ghost use Rattle.std.specs.Prelude.{◌≡◌, ◌<◌, codes, option_map, IfOk, IfErr, IfSome, Ok, Err, Some};
+ghost use Rattle.std.specs.Prelude.{◌≡◌, ◌<◌, option_map, IfOk, IfErr, IfSome, Ok, Err, Some};
 ghost use Rattle.serde_json.specs.View.{view, items_view};
-ghost use Rattle.serde_json.specs.Errors.{IsMemory};
 ghost use Rattle.book_rows.specs.declared.fault.EditFault.TheVariants.{BadRecur};
 ghost use Rattle.book_edits.specs.Faults.{IsEditFault};
 ghost use Rattle.schedules.specs.Days.{said};
-ghost use Rattle.schedules.specs.Reading.{at_key, whole, needed_whole, day_at, interval_at, frequency_at, frequency_word, skip_at, solve_at, solve_word, pattern_of, place_at, place_of, is_day, patterns_of, listed, may_have, mode_at, mode_word, weekends_of, weekends_by, ending_of, said_of, said_by, recurrence_of, or_recur, patterns_for};
+ghost use Rattle.schedules.specs.Reading.{at_key, whole, needed_whole, day_at, interval_at, frequency_at, frequency_word, skip_at, solve_at, solve_word, pattern_of, place_at, place_of, is_day, patterns_of, listed, mode_at, mode_word, weekends_of, ending_of, said_of, recurrence_of, or_recur, patterns_for};
 
 use crate::dates::day_of_text;
 use crate::recurrence::{Ending, Frequency, Pattern, Recurrence, Weekends};

@@ -3,7 +3,6 @@ ghost use Rattle.std.specs.Prelude.{◌≡◌, ◌<◌, option_map, option_and_t
 ghost use Rattle.std.specs.Option.{option_copied};
 ghost use Rattle.serde_json.specs.Read.{read};
 ghost use Rattle.serde_json.specs.View.{view, items_view};
-ghost use Rattle.serde_json.specs.Errors.{IsMemory};
 ghost use Rattle.field_values.specs.Value.{HoldsNumber};
 ghost use Rattle.book_rows.specs.declared.fault.EditFault.TheVariants.{BadRecur};
 ghost use Rattle.book_rows.specs.declared.fault.RecurPart.TheVariants.{Rule};

@@ -127,6 +127,8 @@ set_twice of.Rule v x = refl
 set_twice of.NextDate v x = refl
 set_twice of.Completed v x = refl
 set_twice of.PostsTransaction v x = refl
+set_twice of.TransferId v x = refl
+set_twice of.TargetId v x = refl
 
 pub twice : (c : TxColumn) (v : Value) (x : TxRow) → with_column c v (with_column c v x) ≡ with_column c v x
 twice c v x = set_twice c.0 v x

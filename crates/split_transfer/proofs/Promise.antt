@@ -23,13 +23,13 @@ use Rattle.std.specs.Ordering.{int_eq}
 use Rattle.std.proofs.lemmas.Bool.Decides.{Decides-int_eq}
 use Rattle.book_rows.specs.declared.fault.EditFault.{EditFault}
 use Rattle.book_rows.specs.declared.fault.EditFault.TheVariants.{SplitSum}
-use Rattle.book_edits.specs.Faults.{if_there}
+use Rattle.book_edits.specs.Faults.{if_there, each}
 use Rattle.book_edits.specs.Checks.{a_day, an_amount, live_account, live_payee, live_category, two_ids}
 use Rattle.book_edits.specs.Writing.{flag, text_or_null, notes_value}
 use Rattle.book_edits.proofs.Valid.{inside, passed, was_so}
 use Rattle.split_transfer.specs.declared.edit.TxChange.TheVariants as change
 use Rattle.split_transfer.specs.declared.edit.PairEdit.TheVariants.{TxSet, TxDelete, Split, Transfer}
-use Rattle.split_transfer.specs.Checks.{each, live_tx, live_schedule, no_child, no_pair, takes_category, no_rest, stays_even}
+use Rattle.split_transfer.specs.Checks.{live_tx, live_schedule, no_child, no_pair, takes_category, no_rest, stays_even}
 use Rattle.split_transfer.specs.Changes.{set_date, set_amount, set_account, set_payee, set_category, set_notes, set_cleared, set_schedule, tx_delete}
 use Rattle.split_transfer.specs.Splits.{parts_writes, split_writes, split}
 use Rattle.split_transfer.specs.Transfers.{payee_for, transfer_writes, transfer}

@@ -22,7 +22,7 @@ use Rattle.field_values.specs.Value.{IsValue, HoldsNumber}
 use Rattle.book_rows.specs.declared.write.RowName.TheVariants.{Given, Made}
 use Rattle.book_rows.specs.Named.{HasNames}
 use Rattle.book_rows.specs.Writes.{IsWrite, AreWrites}
-use Rattle.book_edits.specs.Faults.{if_there}
+use Rattle.book_edits.specs.Faults.{if_there, each}
 use Rattle.book_edits.specs.Checks.{a_day, an_amount, live_account, live_payee, live_category, two_ids}
 use Rattle.book_edits.specs.Writing.{flag, text_or_null, notes_value}
 use Rattle.book_edits.proofs.Passing.{name_of_is, amount_is}
@@ -31,7 +31,7 @@ use Rattle.split_transfer.specs.declared.edit.PairEdit.{PairEdit}
 use Rattle.split_transfer.specs.declared.edit.TxChange.{TxChange}
 use Rattle.split_transfer.specs.declared.edit.TxChange.TheVariants as change
 use Rattle.split_transfer.specs.declared.edit.PairEdit.TheVariants.{TxSet, TxDelete, Split, Transfer}
-use Rattle.split_transfer.specs.Checks.{each, live_tx, live_schedule, no_child, no_pair, takes_category, no_rest, stays_even}
+use Rattle.split_transfer.specs.Checks.{live_tx, live_schedule, no_child, no_pair, takes_category, no_rest, stays_even}
 use Rattle.split_transfer.specs.Writing.{tx_write, on_each, day_or_null}
 use Rattle.split_transfer.specs.Changes.{set_date, set_amount, set_account, tx_set, tx_delete}
 use Rattle.split_transfer.specs.Splits.{parts_writes, split, HasDay}

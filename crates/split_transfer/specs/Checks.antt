@@ -1,5 +1,5 @@
 -- What is asked of an edit of a transaction. A check that fails tells a fault.
-use Rattle.std.specs.Prelude.{ℤ, pos, ◌-ℤ◌, Bool, true, false, not, List, [], ◌∷◌, Option, None, Some, ok_or, Result, Ok, if◌then◌else◌}
+use Rattle.std.specs.Prelude.{ℤ, pos, ◌-ℤ◌, Bool, not, Option, None, Some, ok_or, Result, Ok, if◌then◌else◌}
 use Rattle.std.specs.Option.{is_none}
 use Rattle.std.specs.Ordering.{int_eq}
 use Rattle.std.specs.FinMap as map
@@ -10,15 +10,8 @@ use Rattle.book_rows.specs.declared.fault.EditFault.{EditFault}
 use Rattle.book_rows.specs.declared.fault.EditFault.TheVariants.{NoSuchTransaction, NoSuchSchedule, IsChild, IsTransferPart, SplitSum}
 use Rattle.book_rows.specs.Live.{is_live_schedule}
 use Rattle.book_edits.specs.Faults.{◌>>=◌, Check, must}
-use Rattle.book_edits.specs.Checks.{live_category}
+use Rattle.book_edits.specs.Checks.{live_category, same_flag}
 use Rattle.split_transfer.specs.Pairs.{live_row, partner_of, parts_sum}
-
--- a check of each, one after the other
-abbrev pub each : {A : Type 0} → (A → Check) → List A → Check
-each check [] = Ok tt
-each check (a ∷ rest) = do
-  _ ← check a
-  each check rest
 
 -- a transaction that is live
 abbrev pub live_tx : Rows → Text → Result TxRow EditFault
@@ -45,10 +38,6 @@ no_pair rows id x = must (is_none (partner_of rows id x)) (IsTransferPart id)
 -- the account is there and stands outside the budget
 abbrev pub is_off : Rows → Option Text → Bool
 is_off rows account = some_and (λ id. some_and (λ a. a.offbudget) (map.get rows.accounts id)) account
-
-abbrev pub same_flag : Bool → Bool → Bool
-same_flag true b = b
-same_flag false b = not b
 
 -- the other transaction is there, and the accounts of both stand outside the budget, or neither does
 abbrev pub is_beside : Rows → TxRow → Text → Bool

@@ -9,12 +9,12 @@ use Rattle.book_rows.specs.declared.rows.TxRow.{TxRow}
 use Rattle.book_rows.specs.declared.write.RowName.TheVariants.{Given, Made}
 use Rattle.book_rows.specs.declared.write.Write.{Write}
 use Rattle.book_rows.specs.declared.fault.EditFault.{EditFault}
-use Rattle.book_edits.specs.Faults.{◌>>=◌, if_there}
+use Rattle.book_edits.specs.Faults.{◌>>=◌, if_there, each}
 use Rattle.book_edits.specs.Checks.{an_amount, live_category}
 use Rattle.book_edits.specs.Writing.{flag, text_or_null}
 use Rattle.split_transfer.specs.declared.edit.SplitPart.{SplitPart}
 use Rattle.split_transfer.specs.Pairs.{parts_of}
-use Rattle.split_transfer.specs.Checks.{each, live_tx, no_child, no_pair, no_rest}
+use Rattle.split_transfer.specs.Checks.{live_tx, no_child, no_pair, no_rest}
 use Rattle.split_transfer.specs.Writing.{tx_write, on_each, day_or_null}
 
 -- the row of a part, made by the write at this place: it has the account, the day and the payee of what is split

@@ -5,10 +5,10 @@ ghost use Rattle.field_values.specs.declared.value.Value.TheVariants.{Text as Is
 ghost use Rattle.book_rows.specs.declared.write.RowName.TheVariants.{Made};
 ghost use Rattle.book_edits.specs.Writing.{flag};
 ghost use Rattle.split_transfer.specs.Writing.{tx_write};
-ghost use Rattle.book_edits.specs.Faults.{IsEditFault, if_there};
+ghost use Rattle.book_edits.specs.Faults.{IsEditFault, if_there, each};
 ghost use Rattle.book_edits.specs.Checks.{an_amount, live_category};
 ghost use Rattle.book_rows.specs.declared.rows.TxRow.{TxRow as TxRowIs};
-ghost use Rattle.split_transfer.specs.Checks.{each, live_tx, no_rest};
+ghost use Rattle.split_transfer.specs.Checks.{live_tx, no_rest};
 ghost use Rattle.split_transfer.specs.Splits.{part_writes, parts_writes, split_writes, split, HasDay};
 
 use crate::checks::{live_tx, no_child, no_pair, no_rest};

@@ -15,9 +15,9 @@ returns-clause-named g c = λ name named.
     let rows = c.args.rows.now in
     let e = c.in_ok-insert.ensures in
     let same = c.get_mut.follows.holds-at-none in
-    let id : c.in_ok-copy-2.field-0 ≡ c.args.id.now = c.in_ok-copy-2.ensures in
-    let put = map_of-insert rows c.insert.new.self c.in_ok-copy-2.field-0 c.set-2.new.self (λ q. e.updates.0 q ∙ ap (λ m. cond (is_at (text_cmp c.in_ok-copy-2.field-0) q) (Some c.set-2.new.self) (tree.get text_cmp m q)) same) in
-    subst AreNamed (sym put) (named-insert (map_of rows) c.in_ok-copy-2.field-0 c.set-2.new.self (subst IsName (sym id) name) named)
+    let id : c.in_ok-copy.field-0 ≡ c.args.id.now = c.in_ok-copy.ensures in
+    let put = map_of-insert rows c.insert.new.self c.in_ok-copy.field-0 c.in_ok-new_row.field-0 (λ q. e.updates.0 q ∙ ap (λ m. cond (is_at (text_cmp c.in_ok-copy.field-0) q) (Some c.in_ok-new_row.field-0) (tree.get text_cmp m q)) same) in
+    subst AreNamed (sym put) (named-insert (map_of rows) c.in_ok-copy.field-0 c.in_ok-new_row.field-0 (subst IsName (sym id) name) named)
 
 pub returns-in-Some-clause-named : goal.returns-in-Some-clause-named
 returns-in-Some-clause-named g c = λ name named.
@@ -38,9 +38,9 @@ returns-clause-row g c =
     let same = c.get_mut.follows.holds-at-none in
     let absent : tree.get text_cmp rows id ≡ None = search rules in
     let old : unwrap_or (map.get (map_of rows) id) (blank_row t id) ≡ blank_row t id = ap (λ o. unwrap_or o (blank_row t id)) (get-map_of rows id ∙ absent) in
-    map_of-insert rows c.insert.new.self c.in_ok-copy-2.field-0 c.set-2.new.self (λ q. e.updates.0 q ∙ ap (λ m. cond (is_at (text_cmp c.in_ok-copy-2.field-0) q) (Some c.set-2.new.self) (tree.get text_cmp m q)) same)
-    ∙ ap (λ k. map.insert (map_of rows) k c.set-2.new.self) c.in_ok-copy-2.ensures
-    ∙ ap (map.insert (map_of rows) id) (c.in_ok-set.ensures ∙ ap (t.set c.args.column c.args.value.now) (c.blank-row.ensures ∙ ap (blank_row t) c.in_ok-copy.ensures ∙ sym old))
+    map_of-insert rows c.insert.new.self c.in_ok-copy.field-0 c.in_ok-new_row.field-0 (λ q. e.updates.0 q ∙ ap (λ m. cond (is_at (text_cmp c.in_ok-copy.field-0) q) (Some c.in_ok-new_row.field-0) (tree.get text_cmp m q)) same)
+    ∙ ap (λ k. map.insert (map_of rows) k c.in_ok-new_row.field-0) c.in_ok-copy.ensures
+    ∙ ap (map.insert (map_of rows) id) (c.in_ok-new_row.ensures ∙ ap (t.set c.args.column c.args.value.now) (sym old))
 
 on_ok : {A E : Type 0} {P Q : Type 0} (r : Result A E) → (P → Q) → OnOk r P → OnOk r Q
 on_ok (Ok x) f p = f p

@@ -1,7 +1,7 @@
 use Rattle.std.proofs.Common.{◌≡◌, ◌++◌, cond, sym, ap, ◌∙◌}
 use Rattle.std.proofs.lemmas.Bool.{cond-true, cond-false}
 use Rattle.rule_engine.specs.Edits.{changes}
-use Rattle.rule_engine.proofs.Once.{is_new, taken_at, at_first}
+use Rattle.book_edits.proofs.Once.{is_new, taken_at, at_first}
 use Rattle.rule_engine.proofs.making.all_changes.Goals as goal
 use Rattle.rule_engine.proofs.making.all_changes.Goals.{then-branch+in_ok-push_changes, else-branch}
 

@@ -1,7 +1,8 @@
 use Rattle.std.proofs.Common.{◌≡◌, ◌++◌, drop, filter}
 use Rattle.std.specs.Prelude.{flat_map}
-use Rattle.rule_engine.specs.Edits.{changes, distinct}
-use Rattle.rule_engine.proofs.Once.{is_new}
+use Rattle.book_edits.specs.Checks.{distinct}
+use Rattle.rule_engine.specs.Edits.{changes}
+use Rattle.book_edits.proofs.Once.{is_new}
 use Rattle.rule_engine.proofs.making.all_changes.Given as goal
 
 abbrev pub invariant-loop-id : goal.invariant-loop-id

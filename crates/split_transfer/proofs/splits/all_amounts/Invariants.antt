@@ -1,7 +1,7 @@
 use Rattle.std.proofs.Common.{◌≡◌, drop}
 use Rattle.book_edits.specs.Checks.{an_amount}
 use Rattle.split_transfer.specs.declared.edit.SplitPart.{SplitPart}
-use Rattle.split_transfer.specs.Checks.{each}
+use Rattle.book_edits.specs.Faults.{each}
 use Rattle.split_transfer.proofs.splits.all_amounts.Given as goal
 
 abbrev pub invariant-loop-part : goal.invariant-loop-part

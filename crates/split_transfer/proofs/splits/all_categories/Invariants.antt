@@ -1,8 +1,7 @@
 use Rattle.std.proofs.Common.{◌≡◌, drop}
-use Rattle.book_edits.specs.Faults.{if_there}
+use Rattle.book_edits.specs.Faults.{if_there, each}
 use Rattle.book_edits.specs.Checks.{live_category}
 use Rattle.split_transfer.specs.declared.edit.SplitPart.{SplitPart}
-use Rattle.split_transfer.specs.Checks.{each}
 use Rattle.split_transfer.proofs.splits.all_categories.Given as goal
 
 abbrev pub invariant-loop-part : goal.invariant-loop-part

@@ -5,7 +5,7 @@ use Rattle.std.proofs.lemmas.Int.{to_z-of_z}
 use Rattle.envelope_cells.specs.BudgetOf.{budget_of, groups_of}
 use Rattle.envelope_cells.specs.SheetOf.{month_cells, groups_cells}
 use Rattle.envelope_cells.proofs.Parts.{made, has_all_money}
-use Rattle.envelope_cells.proofs.month_sheet.sheet.Goals as goal
+use Rattle.envelope_cells.proofs.month_sheet.sheet_over.Goals as goal
 
 pub returns-clause-cells : goal.returns-clause-cells
 returns-clause-cells g c =

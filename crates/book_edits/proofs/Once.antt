@@ -10,8 +10,7 @@ use Rattle.std.specs.BTreeSet as set
 use Rattle.std.specs.BTreeSet.{BTreeSet}
 use Rattle.finite_sums.specs.Maps.{Text, text_cmp}
 use Rattle.finite_sums.proofs.Texts.{text_same}
-use Rattle.book_edits.specs.Checks.{same_id}
-use Rattle.rule_engine.specs.Edits.{distinct}
+use Rattle.book_edits.specs.Checks.{same_id, distinct}
 
 -- an id that was not taken yet
 abbrev pub is_new : BTreeSet Text → Text → Bool
