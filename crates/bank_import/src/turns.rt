@@ -1,5 +1,5 @@
 //! The transaction that one record takes.
-ghost use Rattle.std.specs.Prelude.{◌≡◌, List, ℕ, IfOk};
+ghost use Rattle.std.specs.Prelude.{◌≡◌, IfOk};
 ghost use Rattle.std.specs.Option.{option_copied};
 ghost use Rattle.std.specs.BTreeSet as set;
 ghost use Rattle.finite_sums.specs.Maps.{Text, text_cmp};

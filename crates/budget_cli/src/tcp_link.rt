@@ -1,6 +1,6 @@
 //! The link of the program. It is the edge of what is proved: what the network gives and takes is not
 //! told, but each failure raises a count.
-ghost use Rattle.std.specs.Prelude.{◌≡◌, ◌≤◌, ◌<◌, ◌∷◌, [], length, None, IfOk, OnOk, OnErr, IsErr, false};
+ghost use Rattle.std.specs.Prelude.{◌≡◌, ◌≤◌, ◌<◌, ◌∷◌, [], length, None, IfOk, OnOk, OnErr, IsErr};
 ghost use Rattle.budget_ports.specs.Exchanges.{Adds, Gets, begun};
 ghost use Rattle.budget_ports.specs.Faults.{risen, count_after};
 ghost use Rattle.budget_ports.specs.Keeper.{has_failed};

@@ -1,13 +1,13 @@
 //! A door in memory, for tests.
-ghost use Rattle.std.specs.Prelude.{◌≡◌, ◌↔◌, ◌<◌, ◌≤◌, ◌+◌, ◌++◌, ◌∷◌, ◌||◌, ◌==◌, [], not, length, take, drop, map, min, vec_len, vec_capacity, slice_index_or, IsTrue, IsErr, IsSome, IfSome, IfOk, OnOk, OnErr, Some, true, false};
+ghost use Rattle.std.specs.Prelude.{◌≡◌, ◌↔◌, ◌<◌, ◌≤◌, ◌+◌, ◌||◌, ◌==◌, [], not, length, take, drop, map, min, vec_len, vec_capacity, slice_index_or, IsTrue, IsErr, IsSome, IfSome, IfOk, OnOk, OnErr, Some, true, false};
 ghost use Rattle.std.specs.declared.option.Option.{Option};
 ghost use Rattle.std.specs.Io.{ReadsAtMost, WritesAtMost};
 ghost use Rattle.std.specs.Io.KnownBytes.{ReadConsumes};
 ghost use Rattle.std.specs.Result.{is_err};
-ghost use Rattle.budget_ports.specs.Faults.{count_after, risen};
-ghost use Rattle.budget_ports.specs.Calls.{no_calls, is_listed, answered};
-ghost use Rattle.budget_ports.specs.Connections.{Stays, LetsIn, Opens, Begins, Writes, next_bytes};
-ghost use Rattle.budget_ports.specs.MemoryDoor.{RoomState, visitor, shut_door, to_come, outs, piece, has_space, can_write, opened, GivesPiece, PutsLast, WritesAll, failed_door, closed_door, unclosed_door};
+ghost use Rattle.budget_ports.specs.Faults.{count_after};
+ghost use Rattle.budget_ports.specs.Calls.{is_listed};
+ghost use Rattle.budget_ports.specs.Connections.{Stays, LetsIn, Opens, Begins, Writes};
+ghost use Rattle.budget_ports.specs.MemoryDoor.{visitor, shut_door, to_come, outs, piece, has_space, can_write, opened, GivesPiece, PutsLast, WritesAll, failed_door, closed_door, unclosed_door};
 
 use crate::calls::Calls;
 use crate::door::Door;

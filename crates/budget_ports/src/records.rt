@@ -1,5 +1,5 @@
 //! The records and the texts of a keeper in memory.
-ghost use Rattle.std.specs.Prelude.{◌≡◌, not, IfOk, OnOk, OnErr};
+ghost use Rattle.std.specs.Prelude.{◌≡◌, IfOk, OnOk, OnErr};
 ghost use Rattle.std.specs.FinMap as map;
 ghost use Rattle.budget_ports.specs.Contents.{records_of_after, with_record, with_records};
 ghost use Rattle.budget_ports.specs.Undoing.{taken_out};

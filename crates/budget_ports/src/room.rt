@@ -1,5 +1,5 @@
 //! Bytes in a room that was reserved for them.
-ghost use Rattle.std.specs.Prelude.{◌≡◌, ◌≤◌, ◌-◌, ◌++◌, [], length, nat_le, IfOk};
+ghost use Rattle.std.specs.Prelude.{◌≡◌, ◌≤◌, ◌-◌, ◌++◌, [], length, IfOk};
 
 use field_values::NoMemory;
 use std::alloc::Global;

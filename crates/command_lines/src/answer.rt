@@ -1,6 +1,5 @@
 //! The answers of the lines that only read.
-ghost use Rattle.std.specs.Prelude.{◌≡◌, ◌≢◌, ◌<◌, ◌≤◌, ◌==◌, ◌++◌, ◌∷◌, [], List, ℕ, length, MatchOption, OnOk, IfOk, IfSome, map, false};
-ghost use Rattle.std.specs.List.{slice_split};
+ghost use Rattle.std.specs.Prelude.{◌≡◌, ◌≢◌, ◌<◌, ◌≤◌, OnOk, IfOk, map, false};
 ghost use Rattle.std.specs.Option.{option_copied};
 ghost use Rattle.field_values.specs.Names.{field_of};
 ghost use Rattle.field_values.specs.Value.{value_text, IsValue};

@@ -5,9 +5,8 @@ ghost use Rattle.book_rows.specs.Live.{is_live_account};
 ghost use Rattle.book_rows.specs.Months.{is_month};
 ghost use Rattle.envelope_cells.specs.BudgetOf.{budget_of};
 ghost use Rattle.envelope_cells.specs.CellOf.{cell_of};
-ghost use Rattle.envelope_cells.specs.SheetOf.{sheet_of};
 ghost use Rattle.command_lines.specs.declared.reply.Reply.TheVariants.{Done};
-ghost use Rattle.command_lines.specs.BookAnswers.{balance_answer, register_answer, told_cell, cell_or_faulty, cell_answer, cell_text, sheet_answer, broken_answer};
+ghost use Rattle.command_lines.specs.BookAnswers.{balance_answer, register_answer, told_cell, cell_answer, cell_text, sheet_answer, broken_answer};
 
 use crate::cell_names::{cell_named, is_of_group};
 use crate::refusal::{bad_month, no_account, no_category, no_group};

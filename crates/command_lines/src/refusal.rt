@@ -1,5 +1,5 @@
 //! The replies to edits that were refused. Lines that ask of the books have some of them too.
-ghost use Rattle.std.specs.Prelude.{◌≡◌, ◌++◌, ◌∷◌, [], IfOk, Some};
+ghost use Rattle.std.specs.Prelude.{◌≡◌, [], IfOk, Some};
 ghost use Rattle.std.specs.Fmt.{decimal, signed_decimal};
 ghost use Rattle.command_lines.specs.declared.reply.Reply.TheVariants.{Refused};
 ghost use Rattle.command_lines.specs.Refusals.{rule_part, recur_part, refused_edit, no_such_account, no_such_group, no_such_category, no_such_schedule, bad_date as bad_date_reply, bad_month as bad_month_reply};

@@ -1,5 +1,5 @@
 //! The answer of the line that asks how a schedule stands.
-ghost use Rattle.std.specs.Prelude.{◌≡◌, false, true, IfOk};
+ghost use Rattle.std.specs.Prelude.{◌≡◌, false, IfOk};
 ghost use Rattle.book_rows.specs.Live.{is_live_schedule};
 ghost use Rattle.command_lines.specs.BookAnswers.{status_text, told_status, status_answer};
 

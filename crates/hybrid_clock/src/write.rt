@@ -1,5 +1,5 @@
 //! Writing the texts of timestamps and of moments.
-ghost use Rattle.std.specs.Prelude.{◌≡◌, ◌*◌, ◌<◌, Ok, length};
+ghost use Rattle.std.specs.Prelude.{◌≡◌, ◌*◌, ◌<◌, Ok};
 ghost use Rattle.hybrid_clock.specs.Calendar.{day_of};
 ghost use Rattle.hybrid_clock.specs.Stamp as spec;
 ghost use Rattle.hybrid_clock.specs.Stamp.{stamp_text, head_text, IsStamp, window};

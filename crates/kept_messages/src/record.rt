@@ -1,5 +1,5 @@
 //! The records that a keeper keeps of messages.
-ghost use Rattle.std.specs.Prelude.{◌≡◌, ◌++◌, ◌∷◌, IfOk, OnOk, OnErr, Some, true, is_ok, string_bytes};
+ghost use Rattle.std.specs.Prelude.{◌≡◌, ◌++◌, ◌∷◌, IfOk, OnErr, Some, true, is_ok};
 ghost use Rattle.std.specs.Result.{result_ok};
 ghost use Rattle.std.specs.Option.{ForSome};
 ghost use Rattle.hybrid_clock.specs.Stamp.{IsStamp, stamp_text};

@@ -1,5 +1,5 @@
 //! Two devices that sync with one server.
-ghost use Rattle.std.specs.Prelude.{◌≡◌, [], None, Some, IfOk, IsSome, false};
+ghost use Rattle.std.specs.Prelude.{◌≡◌, [], Some, IfOk, IsSome, false};
 ghost use Rattle.device_sync.specs.Sync.{IfUsable};
 ghost use Rattle.peer_link.specs.Meeting.{AgreesWith, Grows, Meet, Talks, TalkInTurn, peer};
 

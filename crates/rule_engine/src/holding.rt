@@ -26,12 +26,8 @@ pub fn holds(
     let value = &condition.value;
     match field {
         CondField::Acct => Ok(id_holds(book, field, op, value, row.acct.as_ref())),
-        CondField::Description => {
-            Ok(id_holds(book, field, op, value, book.resolved_payee(row)))
-        }
-        CondField::Category => {
-            Ok(id_holds(book, field, op, value, book.resolved_category(row)))
-        }
+        CondField::Description => { Ok(id_holds(book, field, op, value, book.resolved_payee(row))) }
+        CondField::Category => { Ok(id_holds(book, field, op, value, book.resolved_category(row))) }
         CondField::ImportedDescription => {
             text_holds(alloc, op, value, or_empty(&row.imported_description))
         }
@@ -64,13 +60,7 @@ fn mapped<'a>(book: &'a Book, field: CondField, id: &'a Txt) -> &'a Txt
 }
 
 /// Whether a test of ids holds: each id of the value is taken for what it stands for.
-fn id_holds(
-    book: &Book,
-    field: CondField,
-    op: CondOp,
-    value: &CondValue,
-    id: Option<&Txt>,
-) -> bool
+fn id_holds(book: &Book, field: CondField, op: CondOp, value: &CondValue, id: Option<&Txt>) -> bool
     ensures { result ≡ id_holds op (with_ids (mapped_by book.now.rows field) value.now) (option_copied id) }
 {
     match op {

@@ -1,12 +1,10 @@
 //! Rules are read from their rows.
-ghost use Rattle.std.specs.Prelude.{◌≡◌, min, IfOk, IfErr, Ok, Some, option_map, option_and_then};
+ghost use Rattle.std.specs.Prelude.{◌≡◌, min, IfOk, IfErr, Ok, Some, option_map};
 ghost use Rattle.serde_json.specs.View.{view, items_view};
-ghost use Rattle.serde_json.specs.Find.{as_array};
-ghost use Rattle.serde_json.specs.Read.{read};
 ghost use Rattle.book_rows.specs.declared.fault.RulePart.TheVariants.{Conditions, Actions};
 ghost use Rattle.book_rows.specs.declared.fault.EditFault.TheVariants.{BadRule};
 ghost use Rattle.book_edits.specs.Faults.{IsEditFault};
-ghost use Rattle.rule_engine.specs.Reading.{condition_of, with_field, field_word, op_word, text_at, action_of, set_of, action_by, action_op, entries_of, entries_in, all_read, or_bad, largest_place, read_part, stage_of, op_of, read_rule};
+ghost use Rattle.rule_engine.specs.Reading.{condition_of, field_word, op_word, text_at, action_of, entries_of, entries_in, all_read, or_bad, largest_place, read_part, stage_of, op_of, read_rule};
 
 use crate::compared::value_of;
 use crate::rule::{Action, Condition, Rule, RuleOp, Stage};

@@ -1,5 +1,5 @@
 //! The score of a rule.
-ghost use Rattle.std.specs.Prelude.{◌≡◌, ◌≤◌, ◌<◌, ◌^◌, length};
+ghost use Rattle.std.specs.Prelude.{◌≡◌, ◌≤◌, ◌<◌, ◌^◌};
 ghost use Rattle.std.specs.List.{list_all, sum_by};
 ghost use Rattle.rule_engine.specs.declared.rule.Condition.{Condition};
 ghost use Rattle.rule_engine.specs.Scores.{score, is_exact, op_score};

@@ -1,5 +1,5 @@
 //! What is read of the tables: a text, the records of a group, the names.
-ghost use Rattle.std.specs.Prelude.{◌≡◌, ◌≤◌, [], map, false, IsTrue, IfOk, OnOk, option_map, string_bytes};
+ghost use Rattle.std.specs.Prelude.{◌≡◌, ◌≤◌, [], map, IsTrue, IfOk, OnOk};
 ghost use Rattle.std.specs.FinMap as maps;
 ghost use Rattle.std.specs.Ordering.{is_lt};
 ghost use Rattle.sqlite.specs.State.{HasCleanDisk};

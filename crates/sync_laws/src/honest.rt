@@ -1,6 +1,5 @@
 //! A sync with an honest server.
-ghost use Rattle.std.specs.Prelude.{◌≡◌, ◌<◌, ◌/◌, [], false};
-ghost use Rattle.hybrid_clock.specs.Stamp.{window};
+ghost use Rattle.std.specs.Prelude.{◌≡◌, ◌<◌, [], false};
 ghost use Rattle.sync_laws.specs.Complete.{Completes};
 
 use budget_ports::{Keeper, Link};

@@ -1,10 +1,8 @@
 //! A request, as it comes by a connection.
-ghost use Rattle.std.specs.Prelude.{◌≡◌, ◌≢◌, ◌++◌, ◌+◌, ◌^◌, ◌<◌, ◌≤◌, ℕ, List, [], length, OnOk, IfErr, IfOk};
-ghost use Rattle.std.specs.Io.KnownBytes.{Consumes, IsAtEnd};
-ghost use Rattle.field_merge.specs.Messages.{AreMessages};
+ghost use Rattle.std.specs.Prelude.{◌≡◌, ◌≢◌, ◌++◌, ◌+◌, ◌<◌, ℕ, List, length};
+ghost use Rattle.std.specs.Io.KnownBytes.{Consumes};
 ghost use Rattle.budget_ports.specs.Connections.{Stays};
 ghost use Rattle.budget_ports.specs.Faults.{count_after};
-ghost use Rattle.sync_wire.specs.Wire.{IsRequest, IsRequestFault};
 ghost use Rattle.sync_server.specs.Outside.{IsAll};
 ghost use Rattle.sync_server.specs.Asking.{IsBodyEnd, IsAsked, body_failed, asking_failed, IsReadAs, refusal_for};
 ghost use Rattle.sync_server.specs.declared.asking.BodyEnd.TheVariants.{NoMemory as OutOfMemory};

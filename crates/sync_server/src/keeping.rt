@@ -1,16 +1,16 @@
 //! What a request does to what is kept.
-ghost use Rattle.std.specs.Prelude.{◌≡◌, ◌≢◌, ◌++◌, List, [], map, ℕ, IfOk, IfErr, OnOk, OnErr, Some, None, Ok, Result, Option, codes, false};
+ghost use Rattle.std.specs.Prelude.{◌≡◌, ◌≢◌, List, [], ℕ, IfOk, IfErr, OnOk, OnErr, Some, None, Ok, Result, Option, false};
 ghost use Rattle.std.specs.FinMap as finite;
 ghost use Rattle.field_merge.specs.Messages.{AreMessages};
 ghost use Rattle.field_merge.specs.declared.message.Message.{Message};
 ghost use Rattle.field_merge.specs.Log.{join};
-ghost use Rattle.budget_ports.specs.Contents.{Contents, Text, records_after, appended};
+ghost use Rattle.budget_ports.specs.Contents.{Text, records_after, appended};
 ghost use Rattle.budget_ports.specs.Faults.{count_after};
 ghost use Rattle.budget_ports.specs.Keeper.{IsKnown, IsAlone, Commits, HaveKeys};
 ghost use Rattle.kept_messages.specs.Records.{kept_set};
-ghost use Rattle.sync_server.specs.Serving.{Accepts, Found, found_in, file_name, judge_found, reply_of, IsMeant, batch_of};
+ghost use Rattle.sync_server.specs.Serving.{Accepts, Found, file_name, reply_of, IsMeant, batch_of};
 ghost use Rattle.sync_server.specs.Keeping.{OnlyReads, keeper_failed, JudgesGroup, ReadsGroup, OpensGroup, IsFree, Puts, IsPrepared, HasKept};
-ghost use Rattle.sync_server.specs.State.{read_of, Agrees};
+ghost use Rattle.sync_server.specs.State.{Agrees};
 
 use crate::refusal::Refusal;
 use crate::state::{Kept, Reading, ServerState};

@@ -1,7 +1,6 @@
 //! What the server keeps by itself: its token, and what it knows of each group that it has read.
-ghost use Rattle.std.specs.Prelude.{◌≡◌, ◌++◌, map, IfOk, IfErr, OnOk, OnErr, None, Some, Option, List, ℕ};
-ghost use Rattle.std.specs.BTreeMap.{get};
-ghost use Rattle.budget_ports.specs.Contents.{Contents, Text, text_cmp};
+ghost use Rattle.std.specs.Prelude.{◌≡◌, ◌++◌, map, IfOk, OnOk, OnErr, None, Some, Option, List};
+ghost use Rattle.budget_ports.specs.Contents.{Contents, Text};
 ghost use Rattle.field_merge.specs.Log.{join};
 ghost use Rattle.field_merge.specs.Messages.{AreMessages};
 ghost use Rattle.kept_messages.specs.Pairs.{pairs_of};

@@ -1,5 +1,5 @@
 //! The fields of a message, one after the other.
-ghost use Rattle.std.specs.Prelude.{◌≡◌, ◌≢◌, ◌≤◌, ◌<◌, ◌^◌, ◌+◌, length, IfOk, IfErr};
+ghost use Rattle.std.specs.Prelude.{◌≢◌, ◌≤◌, ◌<◌, ◌^◌, ◌+◌, length, IfOk, IfErr};
 ghost use Rattle.sync_wire.specs.Reading.{Gives};
 ghost use Rattle.sync_wire.specs.Fields.{tagged_of, payload_of, digits, number_at, fixed_at, bytes_at, payload_at, field_at, IsPlaced};
 ghost use Rattle.sync_wire.specs.declared.fault.WireFault.TheVariants.{NoMemory};
