@@ -11,6 +11,10 @@ use Rattle.sqlite_keeper.specs.Contents.{contents_of}
 use Rattle.sqlite_keeper.specs.Adopting.{TellsVersion}
 use Rattle.sqlite_keeper.specs.declared.keeper.AdoptFault.{AdoptFault}
 use Rattle.sqlite_keeper.specs.declared.keeper.AdoptFault.TheVariants as adopt
+use Rattle.sqlite.specs.declared.error.ErrorCode.TheVariants.{OutOfMemory, CannotOpen, DatabaseBusy, NotADatabase, DatabaseCorrupt, DiskFull}
+use Rattle.sqlite.specs.declared.error.Error.{Error}
+use Rattle.sqlite.specs.declared.error.Error.TheVariants.{SqliteFailure}
+use Rattle.sqlite_keeper.specs.declared.taking.OpeningCause.TheVariants.{NotOpened, InUse, OtherTables, Damaged, NoRoom, Failed}
 use Rattle.sqlite_keeper.specs.declared.taking.StoreFault.{StoreFault}
 use Rattle.sqlite_keeper.specs.declared.taking.StoreFault.TheVariants.{Unopened, Version, NoMemory}
 
@@ -41,7 +45,7 @@ pub record IsOther {S : Type 0} (g : Ghosts S) (old : Held S) (found : List ℕ)
 
 -- want of memory alone needs no reason
 abbrev pub HasCause : {S : Type 0} → Ghosts S → Held S → S → StoreFault → Type 0
-HasCause g old left Unopened = IsLost g old left
+HasCause g old left (Unopened cause) = IsLost g old left
 HasCause g old left (Version found) = IsOther g old found
 HasCause g old left NoMemory = ⊤
 
@@ -58,3 +62,13 @@ pub record IsLetGo {S : Type 0} (g : Ghosts S) (old : Held S) (left : S) (fault 
 abbrev pub told_as : AdoptFault → StoreFault
 told_as (adopt.Version found) = Version found
 told_as adopt.NoMemory = NoMemory
+
+-- what a failure of SQLite says of a store that is to be opened, or read again
+abbrev pub opening_fault : Error → StoreFault
+opening_fault (SqliteFailure OutOfMemory) = NoMemory
+opening_fault (SqliteFailure CannotOpen) = Unopened NotOpened
+opening_fault (SqliteFailure DatabaseBusy) = Unopened InUse
+opening_fault (SqliteFailure NotADatabase) = Unopened OtherTables
+opening_fault (SqliteFailure DatabaseCorrupt) = Unopened Damaged
+opening_fault (SqliteFailure DiskFull) = Unopened NoRoom
+opening_fault _ = Unopened Failed

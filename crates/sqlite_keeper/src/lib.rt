@@ -14,4 +14,4 @@ mod writing;
 pub use keeper::{AdoptFault, SqliteKeeper, Unadopted};
 pub use order::{Unread, in_order};
 pub use shut::ShutKeeper;
-pub use taking::{StoreFault, Untaken, open, take};
+pub use taking::{OpeningCause, StoreFault, Untaken, open, opening_fault, take};

@@ -1,5 +1,5 @@
 //! What the program does with a store that it has opened.
-ghost use Rattle.std.specs.Prelude.{◌≡◌, ◌≢◌, ◌≤◌, ◌⊎◌, true, false, if◌then◌else◌, Some, IsTrue, IfOk, IfErr};
+ghost use Rattle.std.specs.Prelude.{◌≡◌, ◌≤◌, ◌⊎◌, true, false, if◌then◌else◌, Some, IsTrue, IfOk, IfErr};
 ghost use Rattle.std.specs.FinMap.{get};
 ghost use Rattle.budget_ports.specs.Keeper.{IsAlone};
 ghost use Rattle.sqlite.specs.State.{HasCleanDisk};
@@ -10,20 +10,41 @@ ghost use Rattle.sqlite_keeper.specs.Contents.{contents_of, contents_now};
 ghost use Rattle.sqlite_keeper.specs.Keeping.{TellsAll, MayBeLeft};
 ghost use Rattle.sqlite_keeper.specs.Adopting.{new_contents, version_name, version_one};
 ghost use Rattle.sqlite_trees.specs.View.{doubt, IsClean};
-ghost use Rattle.sqlite_keeper.specs.Taking.{IsOursOrBlank, HasFailedSince, IsLetGo, told_as};
+ghost use Rattle.sqlite_keeper.specs.Taking.{IsOursOrBlank, HasFailedSince, IsLetGo, opening_fault, told_as};
 
-use crate::adopting::is_memory;
 use crate::keeper::{AdoptFault, SqliteKeeper, Unadopted};
 use crate::order::{Unread, in_order};
 use field_values::Txt;
-use sqlite::{Alter, Connection, Error, ErrorCode, File, FileStore};
+use sqlite::{Alter, Connection, Error, ErrorCode, File, FileStore, Files, Unknown};
 use std::alloc::Global;
+use std::fs;
+use std::io::ErrorKind;
+
+/// Why a store could not be opened, or not be read again, as far as SQLite tells it.
+#[derive(Clone, Copy, Debug, PartialEq, Eq)]
+pub enum OpeningCause {
+    /// Nothing can be opened or made at its path, or no log beside it.
+    NotOpened,
+    /// Another run, or another program, is on it.
+    InUse,
+    /// It is an SQLite file with tables of a kind that is not read.
+    OtherTables,
+    /// It is no SQLite file, or one that is damaged.
+    Damaged,
+    /// There is no room for what is to be written.
+    NoRoom,
+    /// Reading or writing failed.
+    Failed,
+}
 
 /// Why there is no keeper over a store.
 #[derive(Debug, Drop)]
 pub enum StoreFault {
     /// The store could not be opened, or not be read again.
-    Unopened,
+    Unopened {
+        /// Why not.
+        cause: OpeningCause,
+    },
     /// It is of another version, or of one that it does not tell: then `found` is empty.
     Version {
         /// The text `version` of the store.
@@ -33,15 +54,20 @@ pub enum StoreFault {
     NoMemory,
 }
 
-/// Why a store can't be opened, or not be read again.
-fn opening_fault(error: &Error) -> StoreFault
-    ensures memory { error.now ≡ Error.SqliteFailure ErrorCode.OutOfMemory → result ≡ StoreFault.NoMemory }
-    ensures other { error.now ≢ Error.SqliteFailure ErrorCode.OutOfMemory → result ≡ StoreFault.Unopened }
+/// What a failure of SQLite says of a store that is to be opened, or read again.
+pub fn opening_fault(error: &Error) -> StoreFault
+    ensures { result ≡ opening_fault error.now }
 {
-    if is_memory(error) {
-        return StoreFault::NoMemory;
-    }
-    StoreFault::Unopened
+    let cause = match error {
+        Error::SqliteFailure(ErrorCode::OutOfMemory) => return StoreFault::NoMemory,
+        Error::SqliteFailure(ErrorCode::CannotOpen) => OpeningCause::NotOpened,
+        Error::SqliteFailure(ErrorCode::DatabaseBusy) => OpeningCause::InUse,
+        Error::SqliteFailure(ErrorCode::NotADatabase) => OpeningCause::OtherTables,
+        Error::SqliteFailure(ErrorCode::DatabaseCorrupt) => OpeningCause::Damaged,
+        Error::SqliteFailure(ErrorCode::DiskFull) => OpeningCause::NoRoom,
+        _ => OpeningCause::Failed,
+    };
+    StoreFault::Unopened { cause }
 }
 
 /// A store that no keeper took.
@@ -109,21 +135,51 @@ pub fn take<S: Alter + Drop>(
     }
 }
 
+/// Where the log of a file is to stand that is there and has none.
+fn missing_log(rt: &HostRuntime, path: &str) -> Option<String> {
+    let real = fs::canonicalize(rt, path).ok()?;
+    let log = format!(in rt.alloc(); "{}-wal", real.as_str()).ok()?;
+    match fs::symlink_metadata(rt, log.as_str()) {
+        Err(error) if error.kind() == ErrorKind::NotFound => Some(log),
+        _ => None,
+    }
+}
+
+/// Lets go of the files of a store that was not taken. A log that was made beside it, and in which nothing stands, is taken away
+/// while they are locked.
+fn let_go(rt: &HostRuntime, files: Files<File>, made: Option<String>) {
+    if let Some(log) = made {
+        if let Ok(found) = fs::symlink_metadata(rt, log.as_str()) {
+            if found.is_file() && found.len() == 0 {
+                let _ = fs::remove_file(rt, log.as_str());
+            }
+        }
+    }
+    drop(files);
+}
+
 /// A keeper over the store in a file, which is made where it is not there.
 ///
-/// A file that cannot be opened, or that is no store, is told as `Unopened`.
+/// A file that cannot be opened, or that is no store, is told as `Unopened`. Where a file that is there is not taken, nothing stands
+/// beside it that did not before.
 pub fn open(rt: &HostRuntime, path: &str) -> Result<SqliteKeeper<FileStore<File>>, StoreFault>
     ensures count { IfOk result (λ k. k.faults ≡ (if k.is_shut then 1 else 0)) }
 {
-    match Connection::open(rt, path) {
+    let made = missing_log(rt, path);
+    match Connection::open_from(rt, path, false, Unknown) {
         Ok(connection) => match take(rt.alloc(), connection) {
             Ok(keeper) => Ok(keeper),
             Err(untaken) => {
                 let Untaken { fault, store } = untaken;
-                let _files = store.close();
+                let_go(rt, store.close(), made);
                 Err(fault)
             }
         },
-        Err(error) => Err(opening_fault(&error)),
+        Err((error, left)) => {
+            if let Some(left) = left {
+                let_go(rt, left.into_files(), made);
+            }
+            Err(opening_fault(&error))
+        }
     }
 }
