@@ -1,6 +1,9 @@
-//! Kinds of columns, and copies of writes and of refusals.
+//! Kinds of columns, and copies of writes, of refusals, of what stood in a field, and of sheets.
 use book_rows::{EditFault, Kind, RowName, Write, WriteValue, kind_of};
-use field_values::{Txt, Value};
+use edit_history::Before;
+use envelope_cells::name::Sheet;
+use envelope_cells::{Cell, CellKind, CellName};
+use field_values::{Field, Items, Txt, Value};
 use std::alloc::Global;
 use std::test::Fail;
 
@@ -75,5 +78,57 @@ fn copy_of_taken(alloc: Global, id: &str) -> Result<EditFault, Fail> {
 fn faults_are_copied(rt: HostRuntime) -> Result<(), Fail> {
     let taken = copy_of_taken(rt.alloc(), "food")?;
     assert!(rt; matches!(&taken, EditFault::NameTaken { id } if id.as_str() == "food"));
+    Ok(())
+}
+
+/// A copy of what stood in a field of a row that was there.
+fn copy_of_before(alloc: Global, value: &str) -> Result<Before, Fail> {
+    let before = Before {
+        field: Field::make(alloc, "payees", "shop", "name")?,
+        value: Some(Value::read(alloc, value)?),
+        was_there: true,
+    };
+    Ok(before.copy()?)
+}
+
+#[test]
+fn entries_are_copied(rt: HostRuntime) -> Result<(), Fail> {
+    let before = copy_of_before(rt.alloc(), "S:Shop")?;
+    assert_eq!(rt;
+        before.field,
+        Field::make(rt.alloc(), "payees", "shop", "name")?
+    );
+    assert!(rt; matches!(&before.value, Some(Value::Text(text)) if text.as_str() == "Shop"));
+    assert!(rt; before.was_there);
+    Ok(())
+}
+
+/// The cell that tells what food is given in January.
+fn given(alloc: Global, value: i128) -> Result<Cell, Fail> {
+    let name = CellName::make(202_401, CellKind::Budget, &Txt::from_text(alloc, "food")?)?;
+    Ok(Cell { name, value })
+}
+
+/// A copy of the sheet that has a copy of that cell.
+fn copy_of_sheet(alloc: Global, value: i128) -> Result<Sheet, Fail> {
+    let cell = given(alloc, value)?;
+    let mut cells = Vec::new(alloc);
+    cells.push(cell.copy()?)?;
+    let sheet = Sheet {
+        cells: Items::new(cells),
+    };
+    Ok(sheet.copy(alloc)?)
+}
+
+#[test]
+fn sheets_are_copied(rt: HostRuntime) -> Result<(), Fail> {
+    let sheet = copy_of_sheet(rt.alloc(), 30_000)?;
+    assert_eq!(rt; sheet.cells.len(), 1);
+    let name = CellName::make(
+        202_401,
+        CellKind::Budget,
+        &Txt::from_text(rt.alloc(), "food")?,
+    )?;
+    assert_eq!(rt; sheet.cell(&name), Some(30_000));
     Ok(())
 }

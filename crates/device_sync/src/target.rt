@@ -1,5 +1,7 @@
 //! Whom a device talks to.
-use field_values::Txt;
+ghost use Rattle.std.specs.Prelude.{◌≡◌, IfOk};
+
+use field_values::{NoMemory, Txt};
 
 /// What a device says of itself to a server.
 #[derive(Debug, Drop)]
@@ -10,4 +12,17 @@ pub struct Target {
     pub file: Txt,
     /// The group of the file on the server.
     pub group: Txt,
+}
+
+impl Target {
+    /// An equal target.
+    pub fn copy(&self) -> Result<Target, NoMemory>
+        ensures { IfOk result (λ target. target ≡ self.now) }
+    {
+        Ok(Target {
+            token: self.token.copy()?,
+            file: self.file.copy()?,
+            group: self.group.copy()?,
+        })
+    }
 }

@@ -13,7 +13,7 @@ ghost use Rattle.edit_history.specs.History.{IsEntry};
 use crate::there::is_there;
 use book_rows::Book;
 use field_merge::{Log, Message};
-use field_values::{Field, Items, NoMemory, Value};
+use field_values::{Copied, Field, Items, NoMemory, Value};
 use std::alloc::Global;
 use std::collections::BTreeSet;
 
@@ -35,6 +35,25 @@ fn copy_of(value: Option<&Value>) -> Result<Option<Value>, NoMemory>
     match value {
         Some(value) => Ok(Some(value.copy()?)),
         None => Ok(None),
+    }
+}
+
+impl Before {
+    /// An equal one.
+    pub fn copy(&self) -> Result<Before, NoMemory>
+        ensures { IfOk result (λ b. b ≡ self.now) }
+    {
+        Ok(Before {
+            field: self.field.copy()?,
+            value: copy_of(self.value.as_ref())?,
+            was_there: self.was_there,
+        })
+    }
+}
+
+impl Copied for Before {
+    fn copied(&self) -> Result<Before, NoMemory> {
+        self.copy()
     }
 }
 

@@ -4,6 +4,7 @@ ghost use Rattle.envelope_cells.specs.Names.{kind_number};
 ghost use Rattle.envelope_cells.specs.SheetOf.{value_named};
 
 use field_values::{Copied, Items, NoMemory, Txt};
+use std::alloc::Global;
 use std::cmp::Ordering;
 
 /// What a cell tells of its month.
@@ -170,6 +171,24 @@ pub struct Cell {
     pub value: i128,
 }
 
+impl Cell {
+    /// An equal cell.
+    pub fn copy(&self) -> Result<Cell, NoMemory>
+        ensures { IfOk result (λ cell. cell ≡ self.now) }
+    {
+        Ok(Cell {
+            name: self.name.copy()?,
+            value: self.value,
+        })
+    }
+}
+
+impl Copied for Cell {
+    fn copied(&self) -> Result<Cell, NoMemory> {
+        self.copy()
+    }
+}
+
 /// All cells of a month, in order: those of the whole month, then each live group with its cells, followed by its live
 /// categories with theirs.
 #[derive(Debug, Drop)]
@@ -189,5 +208,14 @@ impl Sheet {
             }
         }
         None
+    }
+
+    /// An equal sheet.
+    pub fn copy(&self, alloc: Global) -> Result<Sheet, NoMemory>
+        ensures { IfOk result (λ sheet. sheet ≡ self.now) }
+    {
+        Ok(Sheet {
+            cells: self.cells.copy(alloc)?,
+        })
     }
 }

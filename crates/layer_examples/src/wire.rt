@@ -2,10 +2,11 @@
 //! Buffers.
 use field_values::{Field, Value};
 use hybrid_clock::Stamp;
+use std::alloc::Global;
 use std::test::Fail;
 use sync_wire::{
-    WireFault, read_message, read_request, read_response, write_message, write_request,
-    write_response,
+    SyncRequest, SyncResponse, WireFault, read_message, read_request, read_response, write_message,
+    write_request, write_response,
 };
 
 #[test]
@@ -189,5 +190,38 @@ fn writes_a_reply(rt: HostRuntime) -> Result<(), Fail> {
     for (bytes, fault) in cases {
         assert_eq!(rt; read_response(rt.alloc(), bytes).err(), Some(fault));
     }
+    Ok(())
+}
+
+/// A copy of the request that the bytes mean.
+fn copy_of_request(alloc: Global, bytes: &[u8]) -> Result<SyncRequest, Fail> {
+    let request = read_request(alloc, bytes)?;
+    Ok(request.copy(alloc)?)
+}
+
+/// A copy of the reply that the bytes mean.
+fn copy_of_reply(alloc: Global, bytes: &[u8]) -> Result<SyncResponse, Fail> {
+    let reply = read_response(alloc, bytes)?;
+    Ok(reply.copy(alloc)?)
+}
+
+#[test]
+fn requests_and_replies_are_copied(rt: HostRuntime) -> Result<(), Fail> {
+    let request = copy_of_request(
+        rt.alloc(),
+        b"\x0aH\x0a.2024-01-05T10:00:00.000Z-0000-00000000000000aa\x1a\x16\x0a\x05notes\x12\x01n\x1a\x04note\"\x04S:hi\x12\x01f\x1a\x01g2\x01s",
+    )?;
+    assert_eq!(rt; request.messages.len(), 1);
+    assert!(rt; !request.encrypted);
+    assert_eq!(rt; request.file.as_str(), "f");
+    assert_eq!(rt; request.group.as_str(), "g");
+    assert_eq!(rt; request.since.as_str(), "s");
+    let reply = copy_of_reply(
+        rt.alloc(),
+        b"\x0a6\x0a.2024-01-05T10:00:00.000Z-0000-00000000000000aa\x10\x01\x1a\x02\xff\xff\x12\x02{}",
+    )?;
+    assert_eq!(rt; reply.messages.len(), 0);
+    assert!(rt; reply.encrypted);
+    assert_eq!(rt; reply.merkle.as_str(), "{}");
     Ok(())
 }

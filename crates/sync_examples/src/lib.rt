@@ -6,6 +6,8 @@
 #[cfg(test)]
 mod changed;
 #[cfg(test)]
+mod copies;
+#[cfg(test)]
 mod serving;
 #[cfg(test)]
 mod sides;

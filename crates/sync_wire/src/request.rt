@@ -36,6 +36,21 @@ pub struct SyncRequest {
     pub since: Txt,
 }
 
+impl SyncRequest {
+    /// An equal request.
+    pub fn copy(&self, alloc: Global) -> Result<SyncRequest, NoMemory>
+        ensures { IfOk result (λ request. request ≡ self.now) }
+    {
+        Ok(SyncRequest {
+            messages: self.messages.copy(alloc)?,
+            encrypted: self.encrypted,
+            file: self.file.copy()?,
+            group: self.group.copy()?,
+            since: self.since.copy()?,
+        })
+    }
+}
+
 /// The request with what the field says.
 fn take_field(
     alloc: Global,

@@ -32,6 +32,19 @@ pub struct SyncResponse {
     pub merkle: Txt,
 }
 
+impl SyncResponse {
+    /// An equal reply.
+    pub fn copy(&self, alloc: Global) -> Result<SyncResponse, NoMemory>
+        ensures { IfOk result (λ response. response ≡ self.now) }
+    {
+        Ok(SyncResponse {
+            messages: self.messages.copy(alloc)?,
+            encrypted: self.encrypted,
+            merkle: self.merkle.copy()?,
+        })
+    }
+}
+
 /// The reply with what the field says.
 fn take_field(
     alloc: Global,
