@@ -15,3 +15,9 @@ pub mod InOrder
 pub mod Wrong
 pub mod Standing
 pub mod Undone
+pub mod Each
+pub mod Handed
+pub mod Gained
+pub mod HandedOn
+pub mod Merged
+pub mod OneStep

@@ -6,8 +6,8 @@ use Rattle.field_values.specs.Names.{FieldNames, field_of}
 use Rattle.finite_sums.specs.Maps.{Text, Texts}
 use Rattle.book_rows.specs.declared.kind.Kind.{Kind}
 use Rattle.book_rows.specs.declared.rows.Rows.{Rows}
-use Rattle.book_rows.specs.Rows.{Values, AreRowsOf, kind_of}
-use Rattle.edit_history.specs.Undo.{has_row, entry_over, undo_values}
+use Rattle.book_rows.specs.Rows.{Values, AreRowsOf, kind_of, has_row}
+use Rattle.edit_history.specs.Undo.{entry_over, undo_values}
 use Rattle.edit_history.specs.Laws.{with_values}
 
 -- a column that a book knows of the dataset of a field has a value in the row of the field
