@@ -21,3 +21,7 @@ pub mod Gained
 pub mod HandedOn
 pub mod Merged
 pub mod OneStep
+pub mod Columns
+pub mod Again
+pub mod AsBefore
+pub mod TakenBack

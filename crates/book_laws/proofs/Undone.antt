@@ -1,8 +1,7 @@
 -- Which rows are there, and what an undo leaves of those that an edit made.
-use Rattle.std.proofs.Common.{◌≡◌, Bool, true, false, List, [], ◌∷◌, Option, Some, None, refl, sym, ap, ◌∙◌, map as list_map}
-use Rattle.std.specs.Prelude.{◌&&◌, ◌||◌, is_some, unwrap_or, if◌then◌else◌, codes}
+use Rattle.std.proofs.Common.{◌≡◌, Bool, true, false, List, Option, Some, None, refl, sym, ap, ◌∙◌, map as list_map}
+use Rattle.std.specs.Prelude.{◌&&◌, is_some, unwrap_or, if◌then◌else◌, codes}
 use lib.IntN.{pos}
-use Rattle.std.specs.List.{list_any}
 use Rattle.std.specs.FinMap.{get}
 use Rattle.field_values.specs.declared.value.Value.{Value}
 use Rattle.field_values.specs.declared.value.Value.TheVariants.{Null, Number}
@@ -21,20 +20,14 @@ use Rattle.book_rows.specs.Rows.{Values, values_at, AreTableOf, AreRowsOf, datas
 use Rattle.book_rows.proofs.Naming.{dataset_named, column_found, some_column}
 use Rattle.edit_history.specs.Undo.{entry_over, tombstone_of, undo_values}
 use Rattle.edit_history.specs.Laws.{with_values, MakesRow}
-use Rattle.edit_history.proofs.Basics.{bool_cases, both, both_parts, true_false}
+use Rattle.edit_history.proofs.Basics.{both, both_parts, true_false}
 use Rattle.edit_history.proofs.Rows.{row_of}
 use Rattle.edit_history.proofs.UndoLaw.{entries_undo}
 use Rattle.book_laws.specs.Undone.{HasKnownValue, AreGone, MadeRowsAreGone, RowsAreUndone}
+use Rattle.book_laws.proofs.Again.{one_of, the_value}
+use Rattle.book_laws.proofs.AsBefore.{all_again, all_as_before}
 
 -- ---- rows that are there
-
-one_of : {X : Type 0} (p : X → Bool) (xs : List X) → list_any p xs ≡ true → (x : X) × (p x ≡ true)
-one_of p [] h = true_false false h refl
-one_of p (x ∷ xs) h = bool_cases (p x) (λ t. (x, t)) (λ f. one_of p xs (ap (λ b. b || list_any p xs) (sym f) ∙ h))
-
-the_value : {X : Type 0} (o : Option X) → is_some o ≡ true → (x : X) × (o ≡ Some x)
-the_value None h = true_false false h refl
-the_value (Some x) h = (x, refl)
 
 there_so : (values : Values) (f : FieldNames) → has_row values f ≡ true → HasKnownValue values f
 there_so values f h = by (dataset_of f.dataset) refl
@@ -119,4 +112,4 @@ module _ (values : Values) (ws : List (FieldNames × Value)) where
       }
 
 pub rows_undone : RowsAreUndone
-rows_undone = record { there = λ values f. (there_so values f, so_there values f); gone = all_gone }
+rows_undone = record { there = λ values f. (there_so values f, so_there values f); gone = all_gone; again = all_again; as_before = all_as_before }

@@ -16,3 +16,4 @@ pub mod Undone
 pub mod Mapping
 pub mod HandingOn
 pub mod Merging
+pub mod TakingBack

@@ -22,6 +22,7 @@ ghost use Rattle.envelope_cells.specs.Budget.{Budget};
 ghost use Rattle.book_laws.specs.Ordered.{SheetsAreInOrder};
 ghost use Rattle.book_laws.specs.Showing.{EditsShowOnSheets};
 ghost use Rattle.book_laws.specs.Standing.{TransfersAreOfAccounts};
+ghost use Rattle.book_laws.specs.TakingBack.{MappingsAreTakenBack};
 ghost use Rattle.book_laws.specs.Undone.{RowsAreUndone};
 ghost use Rattle.book_laws.specs.Wrong.{BrokenIsTold};
 ghost use Rattle.book_laws.specs.Sheets.{CellsAddUp, MonthsAreNumbered, SumsAreOfTransactions};
@@ -151,7 +152,9 @@ pub fn wrong_ones_are_told()
 {}
 
 /// A law: an entry tells a row as there exactly where a column of it that a book knows has a value, and each row that a book lacked before
-/// an edit, had after it, and can be deleted, is deleted after the undo of the edit.
+/// an edit, had after it, and can be deleted, is deleted after the undo of the edit. Each row that was there before it is as it was, and rows
+/// that can't be deleted say what they said; so each transaction is of the category and the payee that it was of, and categories are given
+/// what they were. Where the edit makes no row that can be deleted, each sheet is what it was.
 pub fn rows_are_undone()
     ensures { RowsAreUndone }
 {}
@@ -173,4 +176,10 @@ pub fn categories_are_handed_on()
 /// its payee, nor does any row of a transaction change. They aren't live any more.
 pub fn payees_are_merged()
     ensures { PayeesAreMerged }
+{}
+
+/// A law: the undo of a category's deletion that handed it on, and that of a merge of payees, leave no trace: each transaction is of the
+/// category and of the payee that it was of, and each sheet is what it was.
+pub fn mappings_are_taken_back()
+    ensures { MappingsAreTakenBack }
 {}
