@@ -21,14 +21,14 @@ use Rattle.book_rows.specs.declared.rows.TxRow.{TxRow}
 use Rattle.book_rows.specs.declared.write.RowName.TheVariants.{Given}
 use Rattle.book_rows.specs.declared.write.WriteValue.TheVariants.{Plain}
 use Rattle.book_rows.specs.declared.write.Write.{Write}
-use Rattle.book_rows.specs.declared.fault.EditFault.TheVariants.{SameAccount}
+use Rattle.book_rows.specs.declared.fault.EditFault.TheVariants.{NoSuchCategory, SameAccount, CategoryType}
 use Rattle.book_rows.specs.Ids.{budget_id}
-use Rattle.book_rows.specs.Live.{is_live_category_row, is_counted, mapped, mapped_category, category_of}
+use Rattle.book_rows.specs.Live.{is_live_category, is_income_category, has_income_group, is_live_category_row, is_counted, mapped, mapped_category, category_of}
 use Rattle.book_rows.specs.Months.{month_of_row}
 use Rattle.book_rows.specs.Parts.{is_text}
 use Rattle.book_rows.specs.Rules.{category_table, category_mapping_table}
 use Rattle.book_rows.specs.Tables.{blank_row}
-use Rattle.book_edits.specs.Checks.{same_id, live_category, two_ids}
+use Rattle.book_edits.specs.Checks.{same_id, same_flag, live_category, two_ids}
 use Rattle.book_edits.specs.Writing.{flag}
 use Rattle.book_edits.specs.Categories.{category_deletion}
 use Rattle.book_edits.specs.Mappings.{mapped_to, category_mapped, categories_mapped, given_months, month_gain, gains, gain_writes, may_hand_on, may_gain}
@@ -37,12 +37,13 @@ use Rattle.edit_history.proofs.Listing.{map_plus}
 use Rattle.envelope_cells.specs.BudgetOf.{share}
 use Rattle.split_transfer.specs.After.{Ids, with_writes}
 use Rattle.split_transfer.proofs.After.{with_writes-append}
-use Rattle.split_transfer.proofs.Basics.{same_refl, not_same, is_other, bool_cases, true_false, not_true, names_is, names_it}
+use Rattle.split_transfer.proofs.Basics.{same_refl, same_is, not_same, is_other, bool_cases, true_false, not_true, names_is, names_it}
 use Rattle.book_laws.specs.HandingOn.{TransactionsAreHandedOn, SumsAreHandedOn, BudgetsAreHandedOn, IsHandedOn, CategoriesAreHandedOn}
 use Rattle.book_laws.proofs.Done.{cell}
 use Rattle.book_laws.proofs.Each.{each_changed}
 use Rattle.book_laws.proofs.Gained.{gained, gains_written, all_there, gains_apart, gained_other, gained_carries, row_gained, amount_gained}
 use Rattle.book_laws.proofs.Handed.{those_of, itself_in, mapped_in, in_which, column_aimed, column_as_before, resolved}
+use Rattle.book_laws.proofs.Whole.{month_stays}
 
 abbrev target : CategoryMappingRow → Option Text
 target m = m.transfer_id
@@ -200,18 +201,35 @@ module _ (rows : Rows) (id to : Text) (two : id ≢ to) where
 
   -- ---- categories
 
-  abbrev lives : Option CategoryRow → Bool
-  lives o = some_and (is_live_category_row rows) o
+  -- which categories pass a test that the deleted one doesn't
+  passes_then : (p : CategoryRow → Bool) → p gone_row ≡ false → (q : Text) → some_and p (get after.categories q) ≡ (not (same_id id q) && some_and p (get rows.categories q))
+  passes_then p dies q = ap (some_and p) (get-insert text_total rows.categories id gone_row q) ∙ bool_cases (same_id q id)
+      (λ t. ap (λ b. some_and p (cond b (Some gone_row) (get rows.categories q))) t ∙ dies ∙ sym (ap (λ b. not b && some_and p (get rows.categories q)) (ap (same_id id) (same_is q id t) ∙ same_refl id)))
+      (λ f. ap (λ b. some_and p (cond b (Some gone_row) (get rows.categories q))) f ∙ sym (ap (λ b. not b && some_and p (get rows.categories q)) (not_same id q (λ e. is_other q id f (sym e)))))
 
-  handed_on : IsHandedOn rows after id to
-  handed_on = record {
-    transactions = transactions_so;
-    sums = sums_so;
-    budgets = budgets_so;
-    gone = ap lives (get-insert text_total rows.categories id gone_row id) ∙ ap (λ b. lives (cond b (Some gone_row) (get rows.categories id))) (same_refl id);
-    live = λ c h. ap lives (get-insert text_total rows.categories id gone_row c) ∙ ap (λ b. lives (cond b (Some gone_row) (get rows.categories c))) (not_same c id h);
-    elsewhere = refl;
-  }
+  live_then : (q : Text) → is_live_category after q ≡ (not (same_id id q) && is_live_category rows q)
+  live_then = passes_then (is_live_category_row rows) refl
+
+  module _ (live_id : is_live_category rows id ≡ true) (live_to : is_live_category rows to ≡ true) (kind : is_income_category rows id ≡ is_income_category rows to) where
+    handed_on : IsHandedOn rows after id to
+    handed_on = record {
+      transactions = transactions_so;
+      sums = sums_so;
+      months = λ own. month_stays rows after id to two live_id live_to kind live_then
+          (passes_then (λ c. is_live_category_row rows c && has_income_group rows c) refl)
+          (passes_then (λ c. is_live_category_row rows c && not (has_income_group rows c)) refl)
+          (sums_so own) budgets_so;
+      budgets = budgets_so;
+      gone = live_then id ∙ ap (λ b. not b && is_live_category rows id) (same_refl id);
+      live = λ c h. live_then c ∙ ap (λ b. not b && is_live_category rows c) (not_same id c (λ e. h (sym e)));
+      elsewhere = refl;
+    }
+
+same_kinds : (a b : Bool) → same_flag a b ≡ true → a ≡ b
+same_kinds true true h = refl
+same_kinds true false h = true_false false h refl
+same_kinds false true h = true_false false h refl
+same_kinds false false h = refl
 
 pub all_handed_on : CategoriesAreHandedOn
 all_handed_on ids rows id to ws h =
@@ -221,4 +239,8 @@ all_handed_on ids rows id to ws h =
     let b = passed (live_category rows to) _ _ a.2 in
     let c = passed (two_ids id to) _ _ b.2 in
     let two : id ≢ to = is_other id to (not_true (same_id id to) (was_so (not (same_id id to)) (SameAccount id) c.0 c.1)) in
-    subst (λ (x : Rows). IsHandedOn rows x id to) (sym (ap (with_writes ids rows) (sym (inside _ _ g.2)) ∙ written rows id to two ids)) (handed_on rows id to two)
+    subst (λ (x : Rows). IsHandedOn rows x id to) (sym (ap (with_writes ids rows) (sym (inside _ _ g.2)) ∙ written rows id to two ids))
+    (handed_on rows id to two
+    (was_so (is_live_category rows id) (NoSuchCategory id) a.0 a.1)
+    (was_so (is_live_category rows to) (NoSuchCategory to) b.0 b.1)
+    (same_kinds (is_income_category rows id) (is_income_category rows to) (was_so (same_flag (is_income_category rows id) (is_income_category rows to)) (CategoryType to) tt c.2)))

@@ -25,3 +25,4 @@ pub mod Columns
 pub mod Again
 pub mod AsBefore
 pub mod TakenBack
+pub mod Whole

@@ -11,7 +11,9 @@ use Rattle.book_rows.specs.Months.{is_month}
 use Rattle.book_rows.specs.Rules.{category_table}
 use Rattle.book_edits.specs.Mappings.{category_delete_to}
 use Rattle.split_transfer.specs.After.{Ids, with_writes}
-use Rattle.envelope_cells.specs.BudgetOf.{category_sum, budgeted, carries, buffered}
+use Rattle.envelope_cells.specs.BudgetOf.{category_sum, budgeted, carries, buffered, budget_of}
+use Rattle.envelope_cells.specs.Cells.{total_income, total_budgeted, total_spent, total_leftover, to_budget}
+use Rattle.envelope_cells.specs.Ids.{month_at}
 use Rattle.book_laws.specs.Leaving.{changed, budget_row}
 
 -- of which category transactions are
@@ -46,10 +48,20 @@ pub record BudgetsAreHandedOn (before after : Rows) (id to : Text) : Type 0 wher
   pub carried : (c : Text) (month : ℕ) → carries after c month ≡ carries before c month
   pub held : (month : ℕ) → buffered after month ≡ buffered before month
 
+-- what all live categories have together in the month of number m
+pub record WholeMonthStays (before after : Rows) (m : ℕ) : Type 0 where
+  -- as much came in, went out and was given as before
+  pub income : total_income (budget_of after) m ≡ total_income (budget_of before) m
+  pub spent : total_spent (budget_of after) m ≡ total_spent (budget_of before) m
+  pub given : is_month (month_at m) ≡ true → total_budgeted (budget_of after) m ≡ total_budgeted (budget_of before) m
+  -- and what is still to budget and what is left in all of them are together what they were
+  pub money : to_budget (budget_of after) m +ℤ total_leftover (budget_of after) m ≡ to_budget (budget_of before) m +ℤ total_leftover (budget_of before) m
+
 pub record IsHandedOn (before after : Rows) (id to : Text) : Type 0 where
   pub transactions : TransactionsAreHandedOn before after id to
   -- in each month, where the category stood for itself, as one does that was never handed on
   pub sums : mapped_category before id ≡ id → (month : ℕ) → SumsAreHandedOn before after id to month
+  pub months : mapped_category before id ≡ id → (m : ℕ) → WholeMonthStays before after m
   pub budgets : BudgetsAreHandedOn before after id to
   -- the category isn't live any more, and each other one is where it was
   pub gone : is_live_category after id ≡ false
