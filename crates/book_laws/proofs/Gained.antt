@@ -2,8 +2,11 @@
 use Rattle.std.proofs.Common.{◌≡◌, ℕ, ◌+◌, ◌≤◌, ◌<◌, zero, suc, Bool, true, false, cond, List, [], ◌∷◌, filter, Option, None, Some, refl, ap, ap₂, sym, ◌∙◌, arith}
 use Rattle.std.specs.Prelude.{◌≢◌, ◌+ℤ◌, ◌==◌, ◌&&◌, ◌||◌, not, is_some, unwrap_or, map as list_map, flat_map, if◌then◌else◌, codes}
 use lib.IntN.{ℤ, pos}
-use Rattle.std.specs.List.{AllByRecursion, range_with_len}
-use Rattle.std.specs.Ordering.{int_eq}
+use Rattle.std.specs.List.{AllByRecursion, range_with_len, list_any}
+use Rattle.std.specs.List.Sorted.{IsStrictlySortedBy}
+use Rattle.std.specs.Cmp.{nat_cmp_is}
+use Rattle.std.specs.declared.cmp.Ordering.TheVariants.{Less}
+use Rattle.std.specs.Ordering.{int_eq, nat_cmp}
 use Rattle.std.specs.FinMap.{get, insert, get-insert}
 use Rattle.std.proofs.lemmas.Int.{ints}
 use Rattle.std.proofs.lemmas.Bool.{eqb-true, eq-eqb}
@@ -25,7 +28,8 @@ use Rattle.book_edits.specs.Mappings.{calendar, is_given, given_months, month_ga
 use Rattle.book_edits.proofs.Months.{year_of}
 use Rattle.split_transfer.specs.After.{Ids, with_writes}
 use Rattle.split_transfer.proofs.After.{with_writes-append}
-use Rattle.split_transfer.proofs.Basics.{same_refl, same_is, not_same, bool_cases, true_false, both_true, some_is}
+use Rattle.split_transfer.proofs.Basics.{same_refl, same_is, not_same, bool_cases, true_false, both_true, some_is, either}
+use Rattle.book_laws.specs.HandingOn.{GainsAreTold}
 use Rattle.book_laws.specs.Leaving.{new_budget, budget_row}
 use Rattle.book_laws.proofs.NoMore.{budget_cell}
 
@@ -52,6 +56,23 @@ none_below a n [] h up = refl
 none_below a n (m ∷ ms) h up =
     let from : a ≤ m = up.0 in
     ap (λ b. b || has ms n) (not_it n m (λ e. omega (arith, h, from, e))) ∙ none_below (m + 1) n ms (omega (arith, h, from)) up.1
+
+-- all stand in order
+all_less : (m a : ℕ) (ms : List ℕ) → m < a → Above a ms → AllByRecursion (λ y. nat_cmp m y ≡ Less) ms
+all_less m a [] h up = tt
+all_less m a (n ∷ ms) h up =
+    let from : a ≤ n = up.0 in
+    (sym (nat_cmp_is m n Less (omega (arith, h, from))), all_less m (n + 1) ms (omega (arith, h, from)) up.1)
+
+sorted : (a : ℕ) (ms : List ℕ) → Above a ms → IsStrictlySortedBy nat_cmp ms
+unfolding IsStrictlySortedBy
+sorted a [] up = tt
+sorted a (m ∷ ms) up = (all_less m (m + 1) ms (omega arith) up.1, sorted (m + 1) ms up.1)
+
+-- what holds of all holds of this one
+of_those : (p : ℕ → Bool) (n : ℕ) (ms : List ℕ) → AllByRecursion (λ m. p m ≡ true) ms → has ms n ≡ true → p n ≡ true
+of_those p n [] all h = true_false false h refl
+of_those p n (m ∷ ms) all h = either (n == m) (has ms n) h (λ t. ap p (eqb-true n m t) ∙ all.0) (λ t. of_those p n ms all.1 t)
 
 module _ (p : ℕ → Bool) where
   rising : (a n : ℕ) → Above a (filter p (range_with_len a n))
@@ -108,15 +129,29 @@ module _ (rows : Rows) (id : Text) where
       from : (s k : ℕ) → s ≡ 197001 → k ≡ 22912 → Above 0 (given_months rows id)
       from s k e f = rw (counted s k e f) (lower s 0 (filter (is_given rows id) (range_with_len s k)) (omega arith) (rising (is_given rows id) s k))
 
+  are_given : AllByRecursion (λ m. is_given rows id m ≡ true) (given_months rows id)
+  are_given = from 197001 22912 refl refl
+    where
+      from : (s k : ℕ) → s ≡ 197001 → k ≡ 22912 → AllByRecursion (λ m. is_given rows id m ≡ true) (given_months rows id)
+      from s k e f = rw (counted s k e f) (passing (is_given rows id) s k)
+
+  -- in a month that counts something is given
+  some_given : (m : ℕ) → is_given rows id m ≡ true → (is_month m ≡ true) × (budgeted rows id m ≢ pos 0)
+  some_given m h =
+      let parts = both_true (is_month m) (not (int_eq (budgeted rows id m) (pos 0))) h in
+      (parts.0, λ e. true_false (not (int_eq (budgeted rows id m) (pos 0))) parts.1 (ap not ((Decides-int_eq (budgeted rows id m) (pos 0)).1 e)))
+
+  given_some : (m : ℕ) → is_month m ≡ true → budgeted rows id m ≢ pos 0 → is_given rows id m ≡ true
+  given_some m h some =
+      ap (λ b. b && not (int_eq (budgeted rows id m) (pos 0))) h
+      ∙ ap not (bool_cases (int_eq (budgeted rows id m) (pos 0)) (λ t. absurd (some ((Decides-int_eq (budgeted rows id m) (pos 0)).0 t))) (λ f. f))
+
   firsts : (ms : List ℕ) → AllByRecursion (λ m. is_given rows id m ≡ true) ms → AllByRecursion (λ m. is_month m ≡ true) ms
   firsts [] h = tt
-  firsts (m ∷ ms) h = ((both_true (is_month m) (not (int_eq (budgeted rows id m) (pos 0))) h.0).0, firsts ms h.1)
+  firsts (m ∷ ms) h = ((some_given m h.0).0, firsts ms h.1)
 
   are_months : AllByRecursion (λ m. is_month m ≡ true) (given_months rows id)
-  are_months = from 197001 22912 refl refl
-    where
-      from : (s k : ℕ) → s ≡ 197001 → k ≡ 22912 → AllByRecursion (λ m. is_month m ≡ true) (given_months rows id)
-      from s k e f = rw (counted s k e f) (firsts (filter (is_given rows id) (range_with_len s k)) (passing (is_given rows id) s k))
+  are_months = firsts (given_months rows id) are_given
 
   has_given : (m : ℕ) → is_month m ≡ true → has (given_months rows id) m ≡ is_given rows id m
   has_given m h = from 197001 22912 refl refl
@@ -180,12 +215,12 @@ module _ (rows : Rows) (to : Text) where
   all_there (g ∷ gs) = (refl, all_there gs)
 
   -- whatever the months are, no other row changes, and nothing else of these
-  pub gained_other : (gs : List Gain) (m : Texts BudgetRow) (q : Text) → ((month : ℕ) → q ≢ budget_id to month) → get (gained gs m) q ≡ get m q
+  gained_other : (gs : List Gain) (m : Texts BudgetRow) (q : Text) → AllByRecursion (λ (g : Gain). q ≢ budget_id to g.month) gs → get (gained gs m) q ≡ get m q
   gained_other [] m q h = refl
   gained_other (g ∷ gs) m q h =
-      gained_other gs (insert m (budget_id to g.month) (with_gain g)) q h
+      gained_other gs (insert m (budget_id to g.month) (with_gain g)) q h.1
       ∙ get-insert text_total m (budget_id to g.month) (with_gain g) q
-      ∙ ap (λ b. cond b (Some (with_gain g)) (get m q)) (not_same q (budget_id to g.month) (h g.month))
+      ∙ ap (λ b. cond b (Some (with_gain g)) (get m q)) (not_same q (budget_id to g.month) h.0)
 
   abbrev carry : Option BudgetRow → Bool
   carry o = some_and (λ b. b.carryover) o
@@ -252,6 +287,64 @@ module _ (rows : Rows) (to : Text) where
         by false e h =
             ap (λ k. cond h (Some (both_row month)) (cond k (Some (both_row n)) o)) (months_apart to n month all.0 is (λ t. true_false (month == n) (eq-eqb month n t) e))
 
+    -- a row that is of none of these months
+    abbrev OfNone : Text → Type 0
+    OfNone q = (month : ℕ) → is_month month ≡ true → budgeted rows id month ≢ pos 0 → q ≢ budget_id to month
+
+    of_none : (q : Text) → OfNone q → (ms : List ℕ) → AllByRecursion (λ m. is_given rows id m ≡ true) ms → AllByRecursion (λ (g : Gain). q ≢ budget_id to g.month) (list_map gain ms)
+    of_none q h [] all = tt
+    of_none q h (m ∷ ms) all = (h m (some_given rows id m all.0).0 (some_given rows id m all.0).1, of_none q h ms all.1)
+
+    pub other_row : (q : Text) → OfNone q → get (gained (gains rows id to) rows.budgets) q ≡ get rows.budgets q
+    other_row q h = gained_other (gains rows id to) rows.budgets q (elim (is_income_category rows id) as (λ b. AllByRecursion (λ (g : Gain). q ≢ budget_id to g.month) (if b then [] else list_map gain (given_months rows id))) [
+      | true ↦ tt
+      | false ↦ of_none q h (given_months rows id) (are_given rows id)
+    ])
+
+    -- ---- which months these are
+
+    back : (ms : List ℕ) → list_map (λ (g : Gain). g.month) (list_map gain ms) ≡ ms
+    back [] = refl
+    back (m ∷ ms) = ap (λ (ns : List ℕ). m ∷ ns) (back ms)
+
+    rise : IsStrictlySortedBy nat_cmp (list_map (λ (g : Gain). g.month) (gains rows id to))
+    rise = elim (is_income_category rows id) as (λ b. IsStrictlySortedBy nat_cmp (list_map (λ (g : Gain). g.month) (if b then [] else list_map gain (given_months rows id)))) [
+      | true ↦ sorted 0 [] tt
+      | false ↦ rw (back (given_months rows id)) (sorted 0 (given_months rows id) (months_rise rows id))
+    ]
+
+    any_month : (month : ℕ) (ms : List ℕ) → list_any (λ (g : Gain). month == g.month) (list_map gain ms) ≡ has ms month
+    any_month month [] = refl
+    any_month month (m ∷ ms) = ap (λ b. (month == m) || b) (any_month month ms)
+
+    gained_in : (month : ℕ) → list_any (λ (g : Gain). month == g.month) (gains rows id to) ≡ true → (is_income_category rows id ≡ false) × (is_month month ≡ true) × (budgeted rows id month ≢ pos 0)
+    gained_in month = by (is_income_category rows id)
+      where
+        by : (b : Bool) → list_any (λ (g : Gain). month == g.month) (if b then [] else list_map gain (given_months rows id)) ≡ true → (b ≡ false) × (is_month month ≡ true) × (budgeted rows id month ≢ pos 0)
+        by true h = true_false false h refl
+        by false h =
+            let given = some_given rows id month (of_those (is_given rows id) month (given_months rows id) (are_given rows id) (sym (any_month month (given_months rows id)) ∙ h)) in
+            (refl, given.0, given.1)
+
+    in_gained : (month : ℕ) → (is_income_category rows id ≡ false) × (is_month month ≡ true) × (budgeted rows id month ≢ pos 0) → list_any (λ (g : Gain). month == g.month) (gains rows id to) ≡ true
+    in_gained month h =
+        ap (λ b. list_any (λ (g : Gain). month == g.month) (if b then [] else list_map gain (given_months rows id))) h.0
+        ∙ any_month month (given_months rows id) ∙ has_given rows id month h.1 ∙ given_some rows id month h.1 h.2
+
+    amounts_are : (ms : List ℕ) → AllByRecursion (λ (g : Gain). g.amount ≡ budgeted rows to g.month +ℤ budgeted rows id g.month) (list_map gain ms)
+    amounts_are [] = tt
+    amounts_are (m ∷ ms) = (refl, amounts_are ms)
+
+    told : GainsAreTold rows id to
+    told = record {
+      rise = rise;
+      months = λ month. (gained_in month, in_gained month);
+      amounts = elim (is_income_category rows id) as (λ b. AllByRecursion (λ (g : Gain). g.amount ≡ budgeted rows to g.month +ℤ budgeted rows id g.month) (if b then [] else list_map gain (given_months rows id))) [
+        | true ↦ tt
+        | false ↦ amounts_are (given_months rows id)
+      ];
+    }
+
     -- what an expense category hands on
     module _ (spends : is_income_category rows id ≡ false) (month : ℕ) (is : is_month month ≡ true) where
       gains_are : gains rows id to ≡ list_map gain (given_months rows id)
@@ -277,3 +370,6 @@ module _ (rows : Rows) (to : Text) where
         where
           plus_none : (a b : ℤ) → b ≡ pos 0 → a ≡ a +ℤ b
           plus_none a b h = omega (arith, ints, h)
+
+pub gains_told : (rows : Rows) (id to : Text) → GainsAreTold rows id to
+gains_told rows id to = told rows to id

@@ -41,7 +41,7 @@ use Rattle.split_transfer.proofs.Basics.{same_refl, same_is, not_same, is_other,
 use Rattle.book_laws.specs.HandingOn.{TransactionsAreHandedOn, SumsAreHandedOn, BudgetsAreHandedOn, IsHandedOn, CategoriesAreHandedOn}
 use Rattle.book_laws.proofs.Done.{cell}
 use Rattle.book_laws.proofs.Each.{each_changed}
-use Rattle.book_laws.proofs.Gained.{gained, gains_written, all_there, gains_apart, gained_other, gained_carries, row_gained, amount_gained}
+use Rattle.book_laws.proofs.Gained.{gained, gains_written, all_there, gains_apart, other_row, gained_carries, row_gained, amount_gained}
 use Rattle.book_laws.proofs.Handed.{those_of, itself_in, mapped_in, in_which, column_aimed, column_as_before, resolved}
 use Rattle.book_laws.proofs.Whole.{month_stays}
 
@@ -193,8 +193,8 @@ module _ (rows : Rows) (id to : Text) (two : id ≢ to) where
     both = amount_gained rows to id;
     row = row_gained rows to id;
     nothing = λ income. ap (λ b. gained rows to (if b then [] else list_map (month_gain rows id to) (given_months rows id)) rows.budgets) income;
-    others = gained_other rows to (gains rows id to) rows.budgets;
-    given = λ c month h. ap (value_or_zero (λ (b : BudgetRow). b.amount)) (gained_other rows to (gains rows id to) rows.budgets (budget_id c month) (λ n. drop_month c to month n h));
+    others = other_row rows to id;
+    given = λ c month h. ap (value_or_zero (λ (b : BudgetRow). b.amount)) (other_row rows to id (budget_id c month) (λ n is some. drop_month c to month n h));
     carried = λ c month. gained_carries rows to (gains rows id to) rows.budgets (λ q. refl) (budget_id c month);
     held = λ month. refl;
   }

@@ -1,5 +1,8 @@
 -- What is left where a category is deleted, and all that it has goes to another one.
-use Rattle.std.specs.Prelude.{◌≡◌, ◌≢◌, ℕ, pos, ◌+ℤ◌, true, false, List, Some, Ok}
+use Rattle.std.specs.Prelude.{◌≡◌, ◌≢◌, ◌↔◌, ◌==◌, ℕ, pos, ◌+ℤ◌, true, false, List, map as list_map, Some, Ok}
+use Rattle.std.specs.List.{AllByRecursion, list_any}
+use Rattle.std.specs.List.Sorted.{IsStrictlySortedBy}
+use Rattle.std.specs.Ordering.{nat_cmp}
 use Rattle.std.specs.FinMap as map
 use Rattle.finite_sums.specs.Maps.{Text}
 use Rattle.book_rows.specs.declared.rows.Rows.{Rows}
@@ -9,7 +12,8 @@ use Rattle.book_rows.specs.Ids.{budget_id}
 use Rattle.book_rows.specs.Live.{is_live_category, is_income_category, mapped_category, category_of}
 use Rattle.book_rows.specs.Months.{is_month}
 use Rattle.book_rows.specs.Rules.{category_table}
-use Rattle.book_edits.specs.Mappings.{category_delete_to}
+use Rattle.book_edits.specs.declared.gains.Gain.{Gain}
+use Rattle.book_edits.specs.Mappings.{gains, category_delete_to}
 use Rattle.split_transfer.specs.After.{Ids, with_writes}
 use Rattle.envelope_cells.specs.BudgetOf.{category_sum, budgeted, carries, buffered, budget_of}
 use Rattle.envelope_cells.specs.Cells.{total_income, total_budgeted, total_spent, total_leftover, to_budget}
@@ -32,6 +36,15 @@ pub record SumsAreHandedOn (before after : Rows) (id to : Text) (month : ℕ) : 
   -- those of each other category to what they did
   pub others : (c : Text) → c ≢ id → c ≢ to → category_sum after c month ≡ category_sum before c month
 
+-- what a category leaves to another one, where it is deleted
+pub record GainsAreTold (rows : Rows) (id to : Text) : Type 0 where
+  -- each month stands once, in order
+  pub rise : IsStrictlySortedBy nat_cmp (list_map (λ (g : Gain). g.month) (gains rows id to))
+  -- these are the months of the calendar in which it is given more or less than nothing, if it takes no income
+  pub months : (month : ℕ) → (list_any (λ (g : Gain). month == g.month) (gains rows id to) ≡ true) ↔ ((is_income_category rows id ≡ false) × (is_month month ≡ true) × (budgeted rows id month ≢ pos 0))
+  -- and in each the other one is given then what both were
+  pub amounts : AllByRecursion (λ (g : Gain). g.amount ≡ budgeted rows to g.month +ℤ budgeted rows id g.month) (gains rows id to)
+
 -- what categories are given
 pub record BudgetsAreHandedOn (before after : Rows) (id to : Text) : Type 0 where
   -- an expense category leaves what it is given in each month to the other one, which is then given what both were together
@@ -41,8 +54,9 @@ pub record BudgetsAreHandedOn (before after : Rows) (id to : Text) : Type 0 wher
       → map.get after.budgets (budget_id to month) ≡ Some (record (budget_row before to month) { amount = budgeted before to month +ℤ budgeted before id month })
   -- one that takes income leaves nothing
   pub nothing : is_income_category before id ≡ true → after.budgets ≡ before.budgets
-  -- no other row changes, so each other category, the deleted one too, is given what it was
-  pub others : (q : Text) → ((month : ℕ) → q ≢ budget_id to month) → map.get after.budgets q ≡ map.get before.budgets q
+  -- no row changes but that of a month in which the deleted one is given something, so each other category, the deleted one too, is given
+  -- what it was
+  pub others : (q : Text) → ((month : ℕ) → is_month month ≡ true → budgeted before id month ≢ pos 0 → q ≢ budget_id to month) → map.get after.budgets q ≡ map.get before.budgets q
   pub given : (c : Text) (month : ℕ) → c ≢ to → budgeted after c month ≡ budgeted before c month
   -- what carries over does so as before, and what is held back stays
   pub carried : (c : Text) (month : ℕ) → carries after c month ≡ carries before c month

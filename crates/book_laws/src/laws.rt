@@ -7,7 +7,7 @@ ghost use Rattle.book_rows.specs.declared.rows.TxRow.{TxRow};
 ghost use Rattle.book_rows.specs.declared.write.Write.{Write};
 ghost use Rattle.split_transfer.specs.After.{Ids};
 ghost use Rattle.book_laws.specs.Books.{BalancesAreTold, KeptRowsAreTold, MonthsAreNamed, TransactionsAreListed, ValuesAreRead};
-ghost use Rattle.book_laws.specs.HandingOn.{CategoriesAreHandedOn};
+ghost use Rattle.book_laws.specs.HandingOn.{CategoriesAreHandedOn, GainsAreTold};
 ghost use Rattle.book_laws.specs.Mapping.{OneStepIsTaken};
 ghost use Rattle.book_laws.specs.Merging.{PayeesAreMerged};
 ghost use Rattle.book_laws.specs.Moving.{TransfersMove};
@@ -44,7 +44,8 @@ pub fn kept_rows_are_told()
     ensures { KeptRowsAreTold }
 {}
 
-/// A law: the parts of a transaction and the transactions of an account are those that say so, dead or alive, in the order of their ids.
+/// A law: the parts of a transaction, the transactions of an account, and those that have a category in their column, are those that say so,
+/// dead or alive, in the order of their ids.
 pub fn transactions_are_listed()
     ensures { (rows : Rows) → TransactionsAreListed rows }
 {}
@@ -171,6 +172,12 @@ pub fn one_step_is_taken()
 /// and what is still to budget together with what is left in them. The category isn't live any more, and nothing else changes.
 pub fn categories_are_handed_on()
     ensures { CategoriesAreHandedOn }
+{}
+
+/// A law: what a category leaves to another one where it is deleted are, month by month in their order, the months of the calendar in which
+/// an expense category is given more or less than nothing, and in each what both are given.
+pub fn gains_are_told()
+    ensures { (rows : Rows) (id to : Text) → GainsAreTold rows id to }
 {}
 
 /// A law: where payees become another one, each transaction that was of one of them is of the other one, and no other transaction changes
