@@ -23,7 +23,7 @@ use Rattle.book_rows.specs.declared.write.WriteValue.TheVariants.{Plain}
 use Rattle.book_rows.specs.declared.write.Write.{Write}
 use Rattle.book_rows.specs.declared.fault.EditFault.TheVariants.{NoSuchCategory, SameAccount, CategoryType}
 use Rattle.book_rows.specs.Ids.{budget_id}
-use Rattle.book_rows.specs.Live.{is_live_category, is_income_category, has_income_group, is_live_category_row, is_counted, mapped, mapped_category, category_of}
+use Rattle.book_rows.specs.Live.{is_live_category, is_income_category, is_expense_category, has_income_group, is_live_category_row, is_counted, mapped, mapped_category, category_of}
 use Rattle.book_rows.specs.Months.{month_of_row}
 use Rattle.book_rows.specs.Parts.{is_text}
 use Rattle.book_rows.specs.Rules.{category_table, category_mapping_table}
@@ -43,7 +43,7 @@ use Rattle.book_laws.proofs.Done.{cell}
 use Rattle.book_laws.proofs.Each.{each_changed}
 use Rattle.book_laws.proofs.Gained.{gained, gains_written, all_there, gains_apart, other_row, gained_carries, row_gained, amount_gained}
 use Rattle.book_laws.proofs.Handed.{those_of, itself_in, mapped_in, in_which, column_aimed, column_as_before, resolved}
-use Rattle.book_laws.proofs.Whole.{month_stays}
+use Rattle.book_laws.proofs.Whole.{month_stays, cells_stay}
 
 abbrev target : CategoryMappingRow → Option Text
 target m = m.transfer_id
@@ -210,15 +210,19 @@ module _ (rows : Rows) (id to : Text) (two : id ≢ to) where
   live_then : (q : Text) → is_live_category after q ≡ (not (same_id id q) && is_live_category rows q)
   live_then = passes_then (is_live_category_row rows) refl
 
+  income_then : (q : Text) → is_income_category after q ≡ (not (same_id id q) && is_income_category rows q)
+  income_then = passes_then (λ c. is_live_category_row rows c && has_income_group rows c) refl
+
+  expense_then : (q : Text) → is_expense_category after q ≡ (not (same_id id q) && is_expense_category rows q)
+  expense_then = passes_then (λ c. is_live_category_row rows c && not (has_income_group rows c)) refl
+
   module _ (live_id : is_live_category rows id ≡ true) (live_to : is_live_category rows to ≡ true) (kind : is_income_category rows id ≡ is_income_category rows to) where
     handed_on : IsHandedOn rows after id to
     handed_on = record {
       transactions = transactions_so;
       sums = sums_so;
-      months = λ own. month_stays rows after id to two live_id live_to kind live_then
-          (passes_then (λ c. is_live_category_row rows c && has_income_group rows c) refl)
-          (passes_then (λ c. is_live_category_row rows c && not (has_income_group rows c)) refl)
-          (sums_so own) budgets_so;
+      months = λ own. month_stays rows after id to two live_id live_to kind live_then income_then expense_then (sums_so own) budgets_so;
+      cells = λ own. cells_stay rows after id to two live_id live_to kind live_then income_then expense_then (sums_so own) budgets_so;
       budgets = budgets_so;
       gone = live_then id ∙ ap (λ b. not b && is_live_category rows id) (same_refl id);
       live = λ c h. live_then c ∙ ap (λ b. not b && is_live_category rows c) (not_same id c (λ e. h (sym e)));

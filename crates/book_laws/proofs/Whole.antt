@@ -1,5 +1,5 @@
 -- Sums over lists of texts that have each text once, and over the live categories of books.
-use Rattle.std.proofs.Common.{◌≡◌, ℕ, ◌≤◌, zero, suc, Bool, true, false, cond, List, [], ◌∷◌, filter, Option, None, Some, refl, ap, sym, ◌∙◌, arith}
+use Rattle.std.proofs.Common.{◌≡◌, ℕ, ◌≤◌, zero, suc, Bool, true, false, cond, List, [], ◌∷◌, filter, Option, None, Some, refl, ap, ap₂, sym, ◌∙◌, arith}
 use Rattle.std.specs.Prelude.{◌≢◌, ◌+ℤ◌, ◌&&◌, ◌||◌, not}
 use lib.IntN.{ℤ, neg_ℤ}
 use Rattle.std.specs.FinMap.{get}
@@ -11,17 +11,21 @@ use Rattle.book_rows.specs.declared.rows.CategoryRow.{CategoryRow}
 use Rattle.book_rows.specs.Live.{is_live_category_row, has_income_group, is_live_category, is_income_category, is_expense_category}
 use Rattle.book_edits.specs.Checks.{same_id}
 use Rattle.envelope_cells.specs.declared.groups.BudgetGroup.{BudgetGroup}
-use Rattle.envelope_cells.specs.Budget.{categories_of, categories, income, expense}
+use Rattle.envelope_cells.specs.Budget.{Budget, categories_of, categories, income, expense}
 use Rattle.envelope_cells.specs.BudgetOf.{budget_of}
-use Rattle.envelope_cells.specs.Cells.{total_leftover, to_budget, money_before, money}
-use Rattle.envelope_cells.specs.Ids.{month_at}
-use Rattle.envelope_cells.specs.Laws.{LiveOnesAreListed}
+use Rattle.envelope_cells.specs.declared.name.CellKind.{CellKind}
+use Rattle.envelope_cells.specs.declared.name.CellKind.TheVariants.{TotalIncome, FromLastMonth, AvailableFunds, LastMonthOverspent, TotalBudgeted, Buffered, ToBudget, TotalSpent, TotalLeftover, GroupSum, GroupBudget, GroupLeftover, Sum, Budget as OfBudget, Carryover, Leftover}
+use Rattle.envelope_cells.specs.CellOf.{value_of, flag_value, is_of_category}
+use Rattle.envelope_cells.specs.Cells.{total_leftover, to_budget, money_before, money, rolled, carried_before, leftover_before}
+use Rattle.envelope_cells.specs.Ids.{month_number, month_at}
+use Rattle.envelope_cells.specs.Laws.{LiveOnesAreListed, SayTheSame}
 use Rattle.envelope_cells.proofs.Among.{total_on}
 use Rattle.envelope_cells.proofs.Distinct.{one_if, hits-append, categories_once}
 use Rattle.envelope_cells.proofs.Listed.{live_ones_are_listed_lem}
 use Rattle.envelope_cells.proofs.Money.{money_is_kept_lem}
+use Rattle.envelope_cells.proofs.Others.{others_count_nowhere_lem}
 use Rattle.split_transfer.proofs.Basics.{same_refl, same_is, not_same, is_other, bool_cases, true_false, both_true, or_left}
-use Rattle.book_laws.specs.HandingOn.{SumsAreHandedOn, BudgetsAreHandedOn, WholeMonthStays}
+use Rattle.book_laws.specs.HandingOn.{SumsAreHandedOn, BudgetsAreHandedOn, WholeMonthStays, CellsAreHandedOn}
 use Rattle.book_laws.proofs.Each.{among-filter}
 
 -- ---- lists that have each text once
@@ -178,6 +182,39 @@ module _ (rows : Rows) where
       by None h = true_false false h refl
       by (Some c) h = both (is_live_category_row rows c) (has_income_group rows c) h
 
+-- ---- cells of categories
+
+-- what is left in a category goes by what two budgets say of it
+module _ (a b : Budget) (c : Text) (s : SayTheSame a b c) where
+  carried_same : (n : ℕ) → carried_before a c n ≡ carried_before b c n
+  carried_same zero = refl
+  carried_same (suc m) = s.carries m
+
+  left_same : (n : ℕ) → leftover_before a c n ≡ leftover_before b c n
+  left_same zero = refl
+  left_same (suc m) =
+      ap₂ (λ (x y : ℤ). x +ℤ y) (ap₂ (λ (x y : ℤ). x +ℤ y) (s.budgeted m) (s.category_sum m))
+      (ap₂ rolled (carried_same m) (left_same m))
+
+  -- and so does each of its cells, where it is listed in both or in neither
+  cell_same : (m : ℕ) (k : CellKind) → is_of_category k ≡ true → is_among text_cmp (categories a) c ≡ is_among text_cmp (categories b) c → is_among text_cmp (expense a) c ≡ is_among text_cmp (expense b) c → value_of a m k c ≡ value_of b m k c
+  cell_same m TotalIncome t l e = cc
+  cell_same m FromLastMonth t l e = cc
+  cell_same m AvailableFunds t l e = cc
+  cell_same m LastMonthOverspent t l e = cc
+  cell_same m TotalBudgeted t l e = cc
+  cell_same m Buffered t l e = cc
+  cell_same m ToBudget t l e = cc
+  cell_same m TotalSpent t l e = cc
+  cell_same m TotalLeftover t l e = cc
+  cell_same m GroupSum t l e = cc
+  cell_same m GroupBudget t l e = cc
+  cell_same m GroupLeftover t l e = cc
+  cell_same m Sum t l e = ap₂ (λ (h : Bool) (z : ℤ). cond h (Some z) None) l (s.category_sum m)
+  cell_same m OfBudget t l e = ap₂ (λ (h : Bool) (z : ℤ). cond h (Some z) None) e (s.budgeted m)
+  cell_same m Carryover t l e = ap₂ (λ (h : Bool) (z : ℤ). cond h (Some z) None) e (ap flag_value (s.carries m))
+  cell_same m Leftover t l e = ap₂ (λ (h : Bool) (z : ℤ). cond h (Some z) None) e (left_same (suc m))
+
 -- ---- a category that is handed on
 
 module _ (r s : Rows) (id to : Text) (two : id ≢ to) (live_id : is_live_category r id ≡ true) (live_to : is_live_category r to ≡ true) (kind : is_income_category r id ≡ is_income_category r to)
@@ -217,6 +254,27 @@ module _ (r s : Rows) (id to : Text) (two : id ≢ to) (live_id : is_live_catego
 
     all_stay : g to ≡ f to +ℤ f id → total g (categories (budget_of s)) ≡ total f (categories (budget_of r))
     all_stay handed = both_listed f g id to two others (categories (budget_of r)) (categories (budget_of s)) (all_once r) (all_once s) all_rest (before.category id ∙ live_id) (before.category to ∙ live_to) handed
+
+  -- no cell of another category changes
+  said_same : (c : Text) → c ≢ id → c ≢ to → SayTheSame (budget_of s) (budget_of r) c
+  said_same c not_id not_to = record {
+    category_sum = λ m. (sums (month_at m)).others c not_id not_to;
+    budgeted = λ m. budgets.given c (month_at m) not_to;
+    carries = λ m. budgets.carried c (month_at m);
+  }
+
+  stays_listed : (c : Text) (listed : Bool) → c ≢ id → (not (same_id id c) && listed) ≡ listed
+  stays_listed c listed not_id = ap (λ b. not b && listed) (not_same id c (λ e. not_id (sym e)))
+
+  pub cells_stay : CellsAreHandedOn r s id to
+  cells_stay = record {
+    none = λ name t e. others_count_nowhere_lem.none (budget_of s) name t
+        (ap (is_among text_cmp (categories (budget_of s))) e ∙ all_rest id ∙ ap (λ b. not b && is_among text_cmp (categories (budget_of r)) id) (same_refl id));
+    others = λ name t not_id not_to.
+        cell_same (budget_of s) (budget_of r) name.id (said_same name.id not_id not_to) (month_number name.month) name.kind t
+        (all_rest name.id ∙ stays_listed name.id (is_among text_cmp (categories (budget_of r)) name.id) not_id)
+        (expense_rest name.id ∙ stays_listed name.id (is_among text_cmp (expense (budget_of r)) name.id) not_id);
+  }
 
   abbrev sum_of : Rows → ℕ → Text → ℤ
   sum_of rows m c = (budget_of rows).category_sum c m

@@ -1,5 +1,5 @@
 -- What is left where a category is deleted, and all that it has goes to another one.
-use Rattle.std.specs.Prelude.{◌≡◌, ◌≢◌, ◌↔◌, ◌==◌, ℕ, pos, ◌+ℤ◌, true, false, List, map as list_map, Some, Ok}
+use Rattle.std.specs.Prelude.{◌≡◌, ◌≢◌, ◌↔◌, ◌==◌, ℕ, pos, ◌+ℤ◌, true, false, List, map as list_map, None, Some, Ok}
 use Rattle.std.specs.List.{AllByRecursion, list_any}
 use Rattle.std.specs.List.Sorted.{IsStrictlySortedBy}
 use Rattle.std.specs.Ordering.{nat_cmp}
@@ -16,6 +16,8 @@ use Rattle.book_edits.specs.declared.gains.Gain.{Gain}
 use Rattle.book_edits.specs.Mappings.{gains, category_delete_to}
 use Rattle.split_transfer.specs.After.{Ids, with_writes}
 use Rattle.envelope_cells.specs.BudgetOf.{category_sum, budgeted, carries, buffered, budget_of}
+use Rattle.envelope_cells.specs.declared.name.CellName.{CellName}
+use Rattle.envelope_cells.specs.CellOf.{cell_of, is_of_category}
 use Rattle.envelope_cells.specs.Cells.{total_income, total_budgeted, total_spent, total_leftover, to_budget}
 use Rattle.envelope_cells.specs.Ids.{month_at}
 use Rattle.book_laws.specs.Leaving.{changed, budget_row}
@@ -71,13 +73,21 @@ pub record WholeMonthStays (before after : Rows) (m : ℕ) : Type 0 where
   -- and what is still to budget and what is left in all of them are together what they were
   pub money : to_budget (budget_of after) m +ℤ total_leftover (budget_of after) m ≡ to_budget (budget_of before) m +ℤ total_leftover (budget_of before) m
 
+-- the cells of categories, in every month
+pub record CellsAreHandedOn (before after : Rows) (id to : Text) : Type 0 where
+  -- the deleted one has none any more
+  pub none : (name : CellName) → is_of_category name.kind ≡ true → name.id ≡ id → cell_of (budget_of after) name ≡ None
+  -- each one but the other has those that it had, so what is left in it stays too
+  pub others : (name : CellName) → is_of_category name.kind ≡ true → name.id ≢ id → name.id ≢ to → cell_of (budget_of after) name ≡ cell_of (budget_of before) name
+
 pub record IsHandedOn (before after : Rows) (id to : Text) : Type 0 where
   pub transactions : TransactionsAreHandedOn before after id to
   -- in each month, where the category stood for itself, as one does that was never handed on
   pub sums : mapped_category before id ≡ id → (month : ℕ) → SumsAreHandedOn before after id to month
   pub months : mapped_category before id ≡ id → (m : ℕ) → WholeMonthStays before after m
+  pub cells : mapped_category before id ≡ id → CellsAreHandedOn before after id to
   pub budgets : BudgetsAreHandedOn before after id to
-  -- the category isn't live any more, and each other one is where it was
+  -- the category isn't live any more, and each other one is where it was live
   pub gone : is_live_category after id ≡ false
   pub live : (c : Text) → c ≢ id → is_live_category after c ≡ is_live_category before c
   -- no row changes but those of mappings, of what the other category is given, and of the deleted one, which has a mark more
