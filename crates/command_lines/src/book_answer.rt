@@ -51,11 +51,7 @@ pub(crate) fn balance_reply(alloc: Global, book: &Book, account: &Txt) -> Result
 }
 
 /// The reply to `register`: the live transactions of a live account.
-pub(crate) fn register_reply(
-    alloc: Global,
-    book: &Book,
-    account: &Txt,
-) -> Result<Reply, NoMemory>
+pub(crate) fn register_reply(alloc: Global, book: &Book, account: &Txt) -> Result<Reply, NoMemory>
     requires live { book.now.spent ≡ false }
     ensures { IfOk result (λ r. r ≡ register_answer book.now.rows account.now) }
 {

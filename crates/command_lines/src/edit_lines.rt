@@ -140,10 +140,7 @@ fn category_delete(alloc: Global, words: &mut Words<'_>) -> Result<Command, Comm
     }
     let to = words.text(alloc)?;
     words.end()?;
-    Ok(Command::Edit(Edit::Book(BookEdit::CategoryDeleteTo {
-        id,
-        to,
-    })))
+    Ok(Command::Edit(Edit::Book(BookEdit::CategoryDeleteTo { id, to })))
 }
 
 /// The words behind `payee-delete`: a payee.
