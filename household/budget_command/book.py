@@ -27,6 +27,8 @@ COLUMNS: Dict[str, Dict[str, str]] = {
     "notes": {"note": TEXT},
     "rules": {"stage": TEXT, "conditions_op": TEXT, "conditions": TEXT, "actions": TEXT, "tombstone": FLAG},
     "schedules": {"rule": TEXT, "name": TEXT, "next_date": DAY, "completed": FLAG, "posts_transaction": FLAG, "tombstone": FLAG},
+    "category_mapping": {"transferId": TEXT},
+    "payee_mapping": {"targetId": TEXT},
 }
 
 
@@ -114,7 +116,7 @@ class Payee:
 
 @dataclasses.dataclass(frozen=True)
 class Transaction:
-    """A transaction."""
+    """A transaction, with the payee and the category that their ids stand for."""
     id: str
     account: Optional[str]
     day: str
@@ -212,14 +214,26 @@ class Book:
         rows = self._there("transactions")
         return {row: self._transaction(row, values, rows) for row, values in rows.items()}
 
-    @staticmethod
-    def _transaction(row: str, values: Values, rows: Dict[str, Values]) -> Transaction:
+    def _stands_for(self, dataset: str, column: str, row: Optional[str]) -> Optional[str]:
+        target = self.row(dataset, row or "").text(column)
+        return row if target is None else target
+
+    def category_of(self, row: Optional[str]) -> Optional[str]:
+        """The category that an id stands for: the one that it was handed on to, if any. It is one step, never two."""
+        return self._stands_for("category_mapping", "transferId", row)
+
+    def payee_of(self, row: Optional[str]) -> Optional[str]:
+        """The payee that an id stands for: the one that it was merged into, if any. It is one step, never two."""
+        return self._stands_for("payee_mapping", "targetId", row)
+
+    def _transaction(self, row: str, values: Values, rows: Dict[str, Values]) -> Transaction:
         is_part, parent = values.flag("isChild"), values.text("parent_id")
         has_parent = parent in rows and not rows[parent].flag("tombstone")
         live = not values.flag("tombstone") and (has_parent or not is_part)
         return Transaction(
-            id=row, account=values.text("acct"), day=values.day("date"), amount=values.number("amount"), payee=values.text("description"),
-            category=values.text("category"), notes=values.text("notes") or "", imported=values.text("imported_description") or "",
+            id=row, account=values.text("acct"), day=values.day("date"), amount=values.number("amount"),
+            payee=self.payee_of(values.text("description")), category=self.category_of(values.text("category")),
+            notes=values.text("notes") or "", imported=values.text("imported_description") or "",
             partner=values.text("transferred_id"), schedule=values.text("schedule"), parent=parent, is_split=values.flag("isParent"),
             is_part=is_part, cleared=values.flag("cleared"), reconciled=values.flag("reconciled"), live=live)
 

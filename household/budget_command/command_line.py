@@ -175,15 +175,18 @@ def add_categories(commands) -> None:
     for name, does, text in (("add", edits.category_add, "adds a category"), ("move", edits.category_move, "moves a category to another group")):
         command(inner, name, does, text, "NAME").add_argument("--group", metavar="GROUP", required=True, help="the group that it is to be in")
     command(inner, "rename", edits.category_rename, "renames a category", "NAME", "NEW-NAME")
-    command(inner, "delete", edits.category_delete, "deletes a category", "NAME")
+    delete = command(inner, "delete", edits.category_delete, "deletes a category, and hands it on to another one where that is named", "NAME")
+    delete.add_argument("--to", metavar="CATEGORY", help="the category that gets what was in it and what it was given")
 
 
 def add_payees(commands) -> None:
     """The commands about payees."""
-    inner = parts(commands, "payee", "adds, renames and deletes payees")
+    inner = parts(commands, "payee", "adds, renames, deletes and merges payees")
     command(inner, "add", edits.payee_add, "adds a payee", "NAME")
     command(inner, "rename", edits.payee_rename, "renames a payee", "NAME", "NEW-NAME")
     command(inner, "delete", edits.payee_delete, "deletes a payee", "NAME")
+    merge = command(inner, "merge", edits.payee_merge, "makes one payee of several: the first stays, and the others become it", "NAME")
+    merge.add_argument("others", metavar="OTHER", nargs="+")
 
 
 def add_rules(commands) -> None:

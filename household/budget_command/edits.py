@@ -3,9 +3,10 @@ import argparse
 
 from . import names
 from .errors import Refusal
+from .rules import giving
 from .session import Session
 from .tables import Output
-from .words import amount_text, cents_of, day_of, digits_of, flag_of, month_of
+from .words import amount_text, cents_of, day_of, digits_of, flag_of, listed, month_of
 
 Options = argparse.Namespace
 NEW = "-"
@@ -88,9 +89,23 @@ def category_move(session: Session, options: Options, output: Output) -> None:
 
 
 def category_delete(session: Session, options: Options, output: Output) -> None:
-    """Deletes a category."""
-    session.tell("category-delete", names.category_id(session.book, options.name))
-    output.say(f"The category {options.name!r} is deleted. `budget open` shows what was in it.")
+    """Deletes a category, or hands it on to another one."""
+    category = names.category_id(session.book, options.name)
+    if options.to is None:
+        session.tell("category-delete", category)
+        output.say(f"The category {options.name!r} is deleted. `budget open` shows what was in it.")
+        return
+    session.tell("category-delete", category, names.category_id(session.book, options.to))
+    output.say(f"The category {options.name!r} is deleted, and {options.to!r} has what was in it and what it was given.")
+    say_idle(session, category, output)
+
+
+def say_idle(session: Session, row: str, output: Output) -> None:
+    """Says which rules give what was handed on or merged: they give it no more."""
+    rules = giving(session.book, row)
+    if rules:
+        numbers = listed([str(number) for number in rules])
+        output.say(f"{f'Rule {numbers} sets' if len(rules) == 1 else f'Rules {numbers} set'} it, which does nothing from now on: make it anew.")
 
 
 def payee_add(session: Session, options: Options, output: Output) -> None:
@@ -110,6 +125,18 @@ def payee_delete(session: Session, options: Options, output: Output) -> None:
     """Deletes a payee."""
     session.tell("payee-delete", names.payee_id(session.book, options.name))
     output.say(f"The payee {options.name!r} is deleted. Transactions that have it keep it.")
+
+
+def payee_merge(session: Session, options: Options, output: Output) -> None:
+    """Makes one payee of several."""
+    book = session.book
+    payee, others = names.payee_id(book, options.name), [names.payee_id(book, other) for other in options.others]
+    session.tell("payee-merge", payee, *others)
+    output.say(f"{listed([repr(other) for other in options.others])} {'is' if len(set(others)) == 1 else 'are'} {options.name!r} now. A statement that "
+               f"names a merged payee makes it anew, unless a rule sets the payee, as `budget rules add --when imported is {options.others[0]!r} --set "
+               f"payee {options.name!r}`.")
+    for other in dict.fromkeys(others):
+        say_idle(session, other, output)
 
 
 def refuse_taken(name: str, taken: list, kind: str, lists: str) -> None:

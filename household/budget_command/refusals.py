@@ -4,7 +4,7 @@ from typing import Callable, Dict, List
 
 from .book import Book
 from .errors import LineRefused
-from .names import account_name, category_name, handles
+from .names import account_name, category_name, handles, payee_name
 from .words import amount_text, day_text
 
 Details = List[str]
@@ -96,4 +96,7 @@ SENTENCES: Dict[str, Callable[[Details, Book], str]] = {
     "E28": lambda details, book: "This machine's clock is past the year 2051. Set it.",
     "E29": sync_failed,
     "E30": lambda details, book: f"The program doesn't know such a line (word {details[0]}). See that program and command are of one version.",
+    "E31": lambda details, book: f"One of the two takes income, and the other one doesn't, so {category_name(book, details[0])!r} can't get it. Name two of "
+                                 "one kind.",
+    "E32": lambda details, book: f"{payee_name(book, details[0])!r} stands for an account in transfers, so it can't be merged. Leave it out.",
 }

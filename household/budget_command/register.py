@@ -1,13 +1,13 @@
 """The register of an account: its transactions with names, and a running sum that ends at the balance."""
 import dataclasses
-from typing import Dict, List
+from typing import Dict, List, Optional
 
 from .book import Book, Transaction
 from .errors import ProgramFault
-from .names import account_name, category_name, handles, payee_name
+from .names import NONE, account_name, category_name, handles, payee_name
 from .session import Session
 from .tables import Column, Output, fitted
-from .words import amount_text
+from .words import amount_text, unescape
 
 WIDE = 76
 SPLIT, PART = "(split)", "  "
@@ -28,7 +28,7 @@ class Line:
 def show(session: Session, account: str, month: str, output: Output) -> None:
     """Writes the register of an account, all of it or that of a month."""
     book = session.book
-    listed = [book.transactions[line.split("\t")[0]] for line in session.ask("register", account)]
+    listed = [told(book, line) for line in session.ask("register", account)]
     balance = int(session.ask("balance", account)[0])
     lines, sums = lines_of(book, in_order(listed)), {}
     running = 0
@@ -59,6 +59,17 @@ def say_head(book: Book, account: str, month: str, start: int, output: Output) -
     output.say(f"{account_name(book, account)}{', ' + month if month else ''}")
     if month:
         output.line(f"{amount_text(start)} before")
+
+
+def told(book: Book, line: str) -> Transaction:
+    """The transaction of a line of the program, with the category and the payee that stand there."""
+    row, _, _, category, payee = line.split("\t")
+    return dataclasses.replace(book.transactions[row], category=given(category), payee=given(payee))
+
+
+def given(word: str) -> Optional[str]:
+    """The id that a word of a register says, or none."""
+    return None if word == NONE else unescape(word)
 
 
 def in_order(listed: List[Transaction]) -> List[Transaction]:

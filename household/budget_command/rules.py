@@ -26,6 +26,7 @@ OPERATIONS: Dict[str, str] = {
 }
 SETTABLE = ("category", "payee", "notes", "cleared")
 CHOOSE = {ACCOUNT: names.account_id, PAYEE: names.payee_id, CATEGORY: names.category_id, SCHEDULE: names.schedule_id}
+STANDS_FOR = {PAYEE: Book.payee_of, CATEGORY: Book.category_of}
 SHOW = {ACCOUNT: names.account_name, PAYEE: names.payee_name, CATEGORY: names.category_name}
 HOW = (f"FIELD is one of {listed(list(FIELDS), 'or')}; OP is one of {listed(list(OPERATIONS), 'or')}. `imported` is the payee as the bank writes "
        "it. Several values of one-of and none-of stand apart by commas; the two of between by two points, as -50.00..0.00; `-` stands for none.")
@@ -35,6 +36,19 @@ def rules_of(book: Book) -> List[Rule]:
     """The rules of the book, but for those by which schedules go."""
     owned = {schedule.rule for schedule in book.schedules.values() if schedule.live}
     return [rule for rule in book.rules if rule.id not in owned]
+
+
+def giving(book: Book, row: str) -> List[int]:
+    """The numbers of the rules that set this category or payee."""
+    return [number for number, rule in enumerate(rules_of(book), 1) if row in set_by(rule)]
+
+
+def set_by(rule: Rule) -> List[Any]:
+    """The categories and payees that a rule sets."""
+    try:
+        return [entry["value"] for entry in json.loads(rule.actions) if entry.get("op", "set") == "set" and entry["field"] in ("category", "description")]
+    except (ValueError, TypeError, KeyError, AttributeError, RecursionError):
+        return []
 
 
 def value_of(book: Book, kind: str, word: str) -> Any:
@@ -168,7 +182,14 @@ def condition_words(book: Book, entry: Dict[str, Any]) -> str:
     column = ALIASES.get(entry["field"], entry["field"])
     field, kind = next(((word, kind) for word, (its, kind) in FIELDS.items() if its == column), (column, TEXT))
     operation = next((word for word, its in OPERATIONS.items() if its == entry["op"]), entry["op"])
-    return f"{field} {operation} {value_words(book, kind, entry['value'])}"
+    return f"{field} {operation} {value_words(book, kind, asked_for(book, kind, entry['value']))}"
+
+
+def asked_for(book: Book, kind: str, value: Any) -> Any:
+    """What the ids of a condition stand for."""
+    if isinstance(value, list):
+        return [asked_for(book, kind, each) for each in value]
+    return STANDS_FOR[kind](book, value) if kind in STANDS_FOR else value
 
 
 def value_words(book: Book, kind: str, value: Any) -> str:

@@ -10,17 +10,18 @@ from .errors import Refusal
 from .journal import Entry, Replaced
 from .names import account_name, category_name, handles, payee_name
 from .session import Session
-from .words import counted, line_of
+from .words import counted, line_of, listed
 
 Row = Tuple[str, str]
 KINDS = {"accounts": "account", "category_groups": "group", "categories": "category", "payees": "payee", "transactions": "transaction",
-         "zero_budgets": "budget", "zero_budget_months": "month", "notes": "note", "rules": "rule", "schedules": "schedule"}
+         "zero_budgets": "budget", "zero_budget_months": "month", "notes": "note", "rules": "rule", "schedules": "schedule",
+         "category_mapping": "category", "payee_mapping": "payee"}
 # which columns name rows of a dataset
 NAMED_BY: Dict[str, List[Tuple[str, str]]] = {
     "accounts": [("transactions", "acct")],
     "category_groups": [("categories", "cat_group")],
-    "categories": [("transactions", "category")],
-    "payees": [("transactions", "description")],
+    "categories": [("transactions", "category"), ("category_mapping", "transferId")],
+    "payees": [("transactions", "description"), ("payee_mapping", "targetId")],
     "schedules": [("transactions", "schedule")],
 }
 # what the row of a budget says of itself stays as it is
@@ -55,20 +56,20 @@ class TakingBack:
         others = [] if values.flag("tombstone") else [message for message in values.values() if not self._is_ours(message)]
         if others:
             self.stays.setdefault((dataset, row), f"it was changed later by {node_of(others[0])}")
-        for other, _ in NAMED_BY.get(dataset, []):
-            users = self.users.get((dataset, row), 0)
-            if users:
-                self.stays.setdefault((dataset, row), f"{counted(users, KINDS[other], 'categories' if other == 'categories' else '')} of later name it")
+        users = self.users.get((dataset, row), {})
+        if users:
+            self.stays.setdefault((dataset, row), f"{listed([kinds_of(number, other) for other, number in users.items()])} of later name it")
 
-    def _users(self) -> Dict[Row, int]:
-        """How many live rows name each row of the command, beside those that the command made or let name it."""
-        users: Dict[Row, int] = {}
+    def _users(self) -> Dict[Row, Dict[str, int]]:
+        """How many live rows of each dataset name each row of the command, beside those that the command made or let name it."""
+        users: Dict[Row, Dict[str, int]] = {}
         for dataset, columns in NAMED_BY.items():
             for other, column in columns:
                 for name, values in self.book.rows[other].items():
                     named = (dataset, values.text(column) or "")
                     if named in self.made and (other, name) not in self.made and (other, name, column) not in self.written and not values.flag("tombstone"):
-                        users[named] = users.get(named, 0) + 1
+                        of_row = users.setdefault(named, {})
+                        of_row[other] = of_row.get(other, 0) + 1
         return users
 
     def _keep_what_is_named(self) -> None:
@@ -101,6 +102,11 @@ class TakingBack:
         return [f"The {said(self.book, dataset, row)} stays, since {reason}." for (dataset, row), reason in self.stays.items()]
 
 
+def kinds_of(number: int, dataset: str) -> str:
+    """So many rows of a dataset, in words."""
+    return counted(number, KINDS[dataset], "categories" if KINDS[dataset] == "category" else "")
+
+
 def value_before(replaced: Replaced) -> str:
     """The text of the value that a field had, or of the one that stands for none."""
     if replaced.value is not None:
@@ -115,7 +121,7 @@ def node_of(message: Message) -> str:
 
 def said(book: Book, dataset: str, row: str) -> str:
     """What a row is called in a sentence."""
-    names = {"accounts": account_name, "categories": category_name, "payees": payee_name}
+    names = {"accounts": account_name, "categories": category_name, "payees": payee_name, "category_mapping": category_name, "payee_mapping": payee_name}
     if dataset == "transactions":
         return f"transaction {handles(book).get(row, row)}"
     if dataset in names:

@@ -9,8 +9,9 @@ use Rattle.finite_sums.specs.Maps.{Text, text_cmp}
 use Rattle.book_edits.specs.Checks.{same_id}
 use Rattle.bank_import.specs.Matching.{are_same, is_near, distance, turn, id_of, meets, with_taken, run_pass, somes, is_among, next_pass, no_match, matched_among}
 use Rattle.bank_import.specs.Laws.{IsIn, AllAbove, Rising, NoWorse, rank, IsBest}
-use Rattle.bank_import.specs.Second.{or_else, IsOwn, IsAfter, HaveIds, LawOfSecond}
+use Rattle.bank_import.specs.Second.{or_else, but_payee, IsOwn, IsAfter, HaveIds, LawOfSecond}
 use Rattle.bank_import.proofs.Passes.{Test}
+use Rattle.bank_import.proofs.Mapped.{map_at, at_map}
 use Rattle.bank_import.proofs.Nearest.{id_same, id_itself, and_true, turn_none}
 use Rattle.bank_import.proofs.Runs.{Matches, some_is, law_of_matches}
 use Rattle.bank_import.proofs.Best.{turn_best, law_of_best}
@@ -111,17 +112,53 @@ id_then p r c k e h = by p c.financial_id refl h
     by ByPayee (Some f) g m = absurd (clash r.financial_id f g e (near_one_id r c (and_true (is_near r c) (are_same r.payee c.payee) m).0))
     by ByAmount (Some f) g m = absurd (clash r.financial_id f g e (near_one_id r c m))
 
-module _ (cs : List Candidate) (rise : Rising cs) (rs : List Facts) (os : List Text) where
+-- records that come again, with other payees perhaps
+module _ (cs : List Candidate) (rise : Rising cs) (rs ss : List Facts) (same : map but_payee ss ≡ map but_payee rs) (os : List Text) where
   abbrev pub ms : Matches
   ms = matched_among cs rs
 
-  pub own_id : (i : ℕ) (d : Candidate) (o : IsOwn cs rs ms os i d) (k : Text) → o.entry.financial_id ≡ Some k → d.financial_id ≡ Some k
+  -- what was compared of a record the first time
+  record WasFirst (i : ℕ) (s : Facts) : Type 0 where
+    facts : Facts
+    at : slice_get rs i ≡ Some facts
+    alike : but_payee facts ≡ but_payee s
+
+  was_first : (i : ℕ) (s : Facts) → slice_get ss i ≡ Some s → WasFirst i s
+  was_first i s a =
+      let w = map_at but_payee rs i (but_payee s) (ap (λ l. slice_get l i) (sym same) ∙ at_map but_payee ss i s a) in
+      record { facts = w.0; at = w.1; alike = w.2 }
+
+  same_ids : (r s : Facts) → but_payee r ≡ but_payee s → r.financial_id ≡ s.financial_id
+  same_ids r s e = ap (λ (y : Facts). y.financial_id) e
+
+  pub own_id : (i : ℕ) (d : Candidate) (o : IsOwn cs ss ms os i d) (k : Text) → o.entry.financial_id ≡ Some k → d.financial_id ≡ Some k
   own_id i d o k e =
+      let w = was_first i o.entry o.at in
+      let r = w.facts in
+      let id : r.financial_id ≡ o.entry.financial_id = same_ids r o.entry w.alike in
       ⊎_elim (λ m. ap (λ (y : Candidate). y.financial_id) m.1 ∙ e)
-      (λ m. let b = law_of_best cs rise rs i o.entry m.0.id o.at m.2 in
-      let same : b.candidate ≡ m.0 = one_of cs rise b.candidate m.0 b.is_in m.1 b.id in
-      ap (λ (y : Candidate). y.financial_id) m.3 ∙ id_then b.by o.entry m.0 k e (ap (meets b.by o.entry) (sym same) ∙ b.agrees))
+      (λ m. let b = law_of_best cs rise rs i r m.0.id w.at m.2 in
+      let one : b.candidate ≡ m.0 = one_of cs rise b.candidate m.0 b.is_in m.1 b.id in
+      ap (λ (y : Candidate). y.financial_id) m.3 ∙ ap (or_else m.0.financial_id) (sym id) ∙ id_then b.by r m.0 k (id ∙ e) (ap (meets b.by r) (sym one) ∙ b.agrees))
       o.how
+
+  -- a record that matched nothing agrees with nothing that is left, also with its other payee
+  pub left_again : (i : ℕ) (s : Facts) → slice_get ss i ≡ Some s → slice_get ms i ≡ Some None → (p : Pass) (c : Candidate) → IsIn cs c → is_among (somes ms) c.id ≡ false → meets p s c ≡ false
+  left_again i s a none p c in' left = by p
+    where
+      w : WasFirst i s
+      w = was_first i s a
+
+      agrees : (p : Pass) → meets p w.facts c ≡ false
+      agrees p = (law_of_matches cs rs).left i w.facts w.at none p c in' left
+
+      near : is_near s c ≡ false
+      near = ap (λ (y : Facts). is_near y c) (sym w.alike) ∙ agrees ByAmount
+
+      by : (p : Pass) → meets p s c ≡ false
+      by ById = ap (λ o. are_same o c.financial_id) (sym (same_ids w.facts s w.alike)) ∙ agrees ById
+      by ByPayee = ap (λ b. b && are_same s.payee c.payee) near
+      by ByAmount = near
 
   -- a match of a record with which one that is left agrees by id is of the first pass, and no worse
   pub first : (i : ℕ) (r : Facts) (x : Text) (b : IsBest cs r ms x) (d : Candidate) → IsIn cs d → is_among (somes ms) d.id ≡ false → meets ById r d ≡ true → NoWorse r b.candidate d
@@ -140,19 +177,24 @@ module _ (cs : List Candidate) (rise : Rising cs) (rs : List Facts) (os : List T
   found (Some y) x h g = ap (λ z. Some z) (g y refl)
 
   -- what is left and has the id is no better than the own row
-  pub left_own : (i : ℕ) (r : Facts) → slice_get rs i ≡ Some r → (d0 : Candidate) (o : IsOwn cs rs ms os i d0) → o.entry ≡ r → (d : Candidate) → IsIn cs d → is_among (somes ms) d.id ≡ false
-      → meets ById r d ≡ true → NoWorse r d d0 → d.id ≡ d0.id
-  left_own i r a d0 o same d in' left agrees worse =
-      ⊎_elim (λ m. absurd (let bad : true ≡ false = sym agrees ∙ (law_of_matches cs rs).left i r a m.0 ById d in' left in cc))
-      (λ m. let b = law_of_best cs rise rs i r m.0.id a m.2 in
+  pub left_own : (i : ℕ) (s : Facts) → slice_get ss i ≡ Some s → (d0 : Candidate) (o : IsOwn cs ss ms os i d0) → (d : Candidate) → IsIn cs d → is_among (somes ms) d.id ≡ false
+      → meets ById s d ≡ true → NoWorse s d d0 → d.id ≡ d0.id
+  left_own i s a d0 o d in' left agrees worse =
+      let w = was_first i s a in
+      let r = w.facts in
+      let agreed : meets ById r d ≡ true = ap (λ t. are_same t d.financial_id) (same_ids r s w.alike) ∙ agrees in
+      ⊎_elim (λ m. absurd (let bad : true ≡ false = sym agrees ∙ left_again i s a m.0 ById d in' left in cc))
+      (λ m. let b = law_of_best cs rise rs i r m.0.id w.at m.2 in
       let one : b.candidate ≡ m.0 = one_of cs rise b.candidate m.0 b.is_in m.1 b.id in
-      let far : distance r d0 ≡ distance r m.0 = ap (distance r) m.3 in
+      let far : distance s d0 ≡ distance s m.0 = ap (distance s) m.3 in
       let id : d0.id ≡ m.0.id = ap (λ (y : Candidate). y.id) m.3 in
-      both_ways r m.0 d d0 far id (subst (λ (y : Candidate). NoWorse r y d) one (first i r m.0.id b d in' left agrees)) worse)
+      let better : NoWorse r m.0 d = subst (λ (y : Candidate). NoWorse r y d) one (first i r m.0.id b d in' left agreed) in
+      both_ways s m.0 d d0 far id (subst (λ (y : Facts). NoWorse y m.0 d) w.alike better) worse)
       o.how
 
-module _ (cs : List Candidate) (rise : Rising cs) (rs : List Facts) (ids : HaveIds rs) (os : List Text) (after : List Candidate) (is : IsAfter cs rs os after) where
-  turns : (i : ℕ) (r : Facts) (x : Text) → slice_get rs i ≡ Some r → slice_get os i ≡ Some x → (t : Test) → t x ≡ false → id_of (turn ById r t after) ≡ Some x
+module _ (cs : List Candidate) (rise : Rising cs) (rs ss : List Facts) (same : map but_payee ss ≡ map but_payee rs) (ids : HaveIds ss) (os : List Text) (after : List Candidate)
+    (is : IsAfter cs ss (matched_among cs rs) os after) where
+  turns : (i : ℕ) (r : Facts) (x : Text) → slice_get ss i ≡ Some r → slice_get os i ≡ Some x → (t : Test) → t x ≡ false → id_of (turn ById r t after) ≡ Some x
   turns i r x a b t free =
       let k = ids.some i r a in
       let w = is.owned i r a in
@@ -160,28 +202,28 @@ module _ (cs : List Candidate) (rise : Rising cs) (rs : List Facts) (ids : HaveI
       let o = w.2 in
       let entry : o.entry ≡ r = some_is o.entry r (sym o.at ∙ a) in
       let x_is : d0.id ≡ x = some_is d0.id x (sym o.own ∙ b) in
-      let id0 : d0.financial_id ≡ Some k.0 = own_id cs rise rs os i d0 o k.0 (ap (λ (y : Facts). y.financial_id) entry ∙ k.1) in
+      let id0 : d0.financial_id ≡ Some k.0 = own_id cs rise rs ss same os i d0 o k.0 (ap (λ (y : Facts). y.financial_id) entry ∙ k.1) in
       let agrees0 : meets ById r d0 ≡ true = ap (λ q. are_same q d0.financial_id) k.1 ∙ ap (are_same (Some k.0)) id0 ∙ id_itself k.0 in
       let free0 : t d0.id ≡ false = ap t x_is ∙ free in
-      found cs rise rs os (id_of (turn ById r t after)) x
+      found cs rise rs ss same os (id_of (turn ById r t after)) x
       (λ e. let bad : true ≡ false = sym agrees0 ∙ turn_none ById r t after e d0 w.1 free0 in cc)
       (λ y e. let c = turn_best ById r t after is.rising y e in
-      ⊎_elim (λ l. sym c.id ∙ left_own cs rise rs os i r a d0 o entry c.candidate l.0 l.1 c.agrees (c.best d0 w.1 free0 agrees0) ∙ x_is)
+      ⊎_elim (λ l. sym c.id ∙ left_own cs rise rs ss same os i r a d0 o c.candidate l.0 l.1 c.agrees (c.best d0 w.1 free0 agrees0) ∙ x_is)
       (λ l. let s = l.1 in
       let k2 = ids.some l.0 s.entry s.at in
-      let id2 : c.candidate.financial_id ≡ Some k2.0 = own_id cs rise rs os l.0 c.candidate s k2.0 k2.1 in
-      let same : same_id k.0 k2.0 ≡ true = sym (ap (λ q. are_same q c.candidate.financial_id) k.1 ∙ ap (are_same (Some k.0)) id2) ∙ c.agrees in
-      let one : i ≡ l.0 = ids.apart i l.0 r s.entry k.0 a s.at k.1 (k2.1 ∙ ap (λ z. Some z) (sym (id_same k.0 k2.0 same))) in
+      let id2 : c.candidate.financial_id ≡ Some k2.0 = own_id cs rise rs ss same os l.0 c.candidate s k2.0 k2.1 in
+      let one_id : same_id k.0 k2.0 ≡ true = sym (ap (λ q. are_same q c.candidate.financial_id) k.1 ∙ ap (are_same (Some k.0)) id2) ∙ c.agrees in
+      let one : i ≡ l.0 = ids.apart i l.0 r s.entry k.0 a s.at k.1 (k2.1 ∙ ap (λ z. Some z) (sym (id_same k.0 k2.0 one_id))) in
       some_is y x (sym (ap (λ z. Some z) c.id) ∙ sym s.own ∙ ap (slice_get os) (sym one) ∙ b))
       (is.from c.candidate c.is_in))
 
-  second : matched_among after rs ≡ map (λ x. Some x) os
+  second : matched_among after ss ≡ map (λ x. Some x) os
   second =
-      let m1 : next_pass ById after rs (no_match rs) ≡ map (λ x. Some x) os =
-      run_own after rs os (is_among (somes (no_match rs))) is.len turns is.apart (λ i x e. none_among rs x) in
-      ap (λ ms. next_pass ByAmount after rs (next_pass ByPayee after rs ms)) m1
-      ∙ ap (next_pass ByAmount after rs) (run_full ByPayee after rs os (is_among (somes (map (λ x. Some x) os))) is.len)
-      ∙ run_full ByAmount after rs os (is_among (somes (map (λ x. Some x) os))) is.len
+      let m1 : next_pass ById after ss (no_match ss) ≡ map (λ x. Some x) os =
+      run_own after ss os (is_among (somes (no_match ss))) is.len turns is.apart (λ i x e. none_among ss x) in
+      ap (λ ms. next_pass ByAmount after ss (next_pass ByPayee after ss ms)) m1
+      ∙ ap (next_pass ByAmount after ss) (run_full ByPayee after ss os (is_among (somes (map (λ x. Some x) os))) is.len)
+      ∙ run_full ByAmount after ss os (is_among (somes (map (λ x. Some x) os))) is.len
 
 pub law_of_second : LawOfSecond
-law_of_second cs rise rs ids os after is = second cs rise rs ids os after is
+law_of_second cs rise rs ss same ids os after is = second cs rise rs ss same ids os after is

@@ -1,5 +1,5 @@
 -- Which texts are amounts.
-use Rattle.std.proofs.Common.{◌≡◌, ℕ, zero, suc, ◌+◌, ◌-◌, ◌*◌, ◌<◌, ◌≤◌, Bool, true, false, cond, List, [], ◌∷◌, ◌++◌, Option, Some, None, refl, sym, ap, ◌∙◌, subst, arith}
+use Rattle.std.proofs.Common.{◌≡◌, ℕ, ◌+◌, ◌-◌, ◌*◌, ◌≤◌, Bool, true, false, cond, [], ◌∷◌, ◌++◌, Option, Some, None, refl, sym, ap, ◌∙◌, arith}
 use lib.IntN.{ℤ, pos}
 use Rattle.std.specs.Prelude.{◌&&◌, ◌==◌, nat_lt, neg_ℤ, length}
 use Rattle.std.specs.Option.{option_map}

@@ -1,7 +1,6 @@
 -- What the writes of an import leave of other datasets, and of payees.
-use Rattle.std.proofs.Common.{◌≡◌, ℕ, zero, suc, ◌+◌, ◌<◌, ◌≤◌, Bool, true, false, cond, List, [], ◌∷◌, ◌++◌, length, Option, Some, None, refl, sym, ap, ◌∙◌, inl, inr, ◌⊎◌, ⊎_elim, subst, arith, codes}
+use Rattle.std.proofs.Common.{◌≡◌, ℕ, zero, suc, ◌+◌, ◌<◌, ◌≤◌, Bool, true, false, cond, List, [], ◌∷◌, ◌++◌, length, Option, Some, None, refl, sym, ap, ◌∙◌, subst, arith, codes}
 use Rattle.std.specs.Prelude.{unwrap_or}
-use Rattle.std.specs.Option.{option_map}
 use Rattle.std.specs.List.{AllByRecursion, slice_get}
 use Rattle.std.specs.FinMap.{get, insert, get-insert}
 use Rattle.field_values.specs.declared.value.Value.{Value}
@@ -19,7 +18,7 @@ use Rattle.book_rows.specs.declared.write.RowName.TheVariants.{Given, Made}
 use Rattle.book_rows.specs.declared.write.WriteValue.{WriteValue}
 use Rattle.book_rows.specs.declared.write.Write.{Write}
 use Rattle.book_rows.specs.Columns.{dataset_of, column_of}
-use Rattle.book_rows.specs.Rows.{with_cell, with_known}
+use Rattle.book_rows.specs.Rows.{with_known}
 use Rattle.book_rows.specs.Rules.{payee_table}
 use Rattle.book_rows.specs.Tables.{blank_row}
 use Rattle.book_rows.proofs.Naming.{dataset_found, column_found}
@@ -32,32 +31,41 @@ use Rattle.bank_import.specs.Edits.{value_write, text_write, missing, payee_valu
 use Rattle.bank_import.proofs.Nearest.{id_same, id_itself}
 use Rattle.bank_import.proofs.Outs.{is_not}
 
--- the later rows have the accounts, the categories and the rules of the earlier ones
+-- the later rows have the accounts, the categories, the rules and the mappings of the earlier ones
 pub record SameElse (r s : Rows) : Type 0 where
   pub accounts : s.accounts ≡ r.accounts
   pub groups : s.groups ≡ r.groups
   pub categories : s.categories ≡ r.categories
   pub rules : s.rules ≡ r.rules
+  pub category_mappings : s.category_mappings ≡ r.category_mappings
+  pub payee_mappings : s.payee_mappings ≡ r.payee_mappings
 
 same_else : (r : Rows) → SameElse r r
-same_else r = record { accounts = refl; groups = refl; categories = refl; rules = refl }
+same_else r = record { accounts = refl; groups = refl; categories = refl; rules = refl; category_mappings = refl; payee_mappings = refl }
 
 pub then_else : (r s t : Rows) → SameElse r s → SameElse s t → SameElse r t
-then_else r s t a b = record { accounts = b.accounts ∙ a.accounts; groups = b.groups ∙ a.groups; categories = b.categories ∙ a.categories; rules = b.rules ∙ a.rules }
+then_else r s t a b = record {
+  accounts = b.accounts ∙ a.accounts;
+  groups = b.groups ∙ a.groups;
+  categories = b.categories ∙ a.categories;
+  rules = b.rules ∙ a.rules;
+  category_mappings = b.category_mappings ∙ a.category_mappings;
+  payee_mappings = b.payee_mappings ∙ a.payee_mappings;
+}
 
 -- ---- writes into transactions
 
 abbrev pub IsOfTxs : Write → Type 0
 IsOfTxs w = w.dataset ≡ codes "transactions"
 
--- accounts, groups, categories, rules and payees stay
+-- accounts, groups, categories, rules, mappings and payees stay
 record OnlyTxs (r s : Rows) : Type 0 where
   kept : SameElse r s
   payees : s.payees ≡ r.payees
 
 only_known : (c : Option Column) (id : Text) (v : Value) (r : Rows) → OnlyTxs r (with_known (Some Transactions) c id v r)
 only_known None id v r = record { kept = same_else r; payees = refl }
-only_known (Some c) id v r = record { kept = record { accounts = refl; groups = refl; categories = refl; rules = refl }; payees = refl }
+only_known (Some c) id v r = record { kept = record { accounts = refl; groups = refl; categories = refl; rules = refl; category_mappings = refl; payee_mappings = refl }; payees = refl }
 
 only_write : (ids : Ids) (r : Rows) (w : Write) → IsOfTxs w → OnlyTxs r (with_write ids r w)
 only_write ids r w is =
@@ -150,7 +158,7 @@ payee_write ids r at name =
     ap (λ d. with_known d (column_of (codes "name")) (ids at) (IsText name) r) (dataset_found Payees)
     ∙ ap (λ c. with_known (Some Payees) c (ids at) (IsText name) r) (column_found of.Name)
 
--- accounts, groups, categories, rules and transactions stay
+-- accounts, groups, categories, rules, mappings and transactions stay
 pub record OnlyPayees (r s : Rows) : Type 0 where
   pub kept : SameElse r s
   pub txs : s.txs ≡ r.txs
@@ -161,7 +169,7 @@ payees_only ids (name ∷ names) at r =
     let s : Rows = record r { payees = named (ids at) name r.payees } in
     let h = payees_only ids names (at + 1) s in
     subst (λ t. OnlyPayees r (with_writes ids t (payee_writes (at + 1) names))) (sym (payee_write ids r at name))
-    (record { kept = then_else r s (with_writes ids s (payee_writes (at + 1) names)) (record { accounts = refl; groups = refl; categories = refl; rules = refl }) h.kept; txs = h.txs })
+    (record { kept = then_else r s (with_writes ids s (payee_writes (at + 1) names)) (record { accounts = refl; groups = refl; categories = refl; rules = refl; category_mappings = refl; payee_mappings = refl }) h.kept; txs = h.txs })
 
 get-named : (id name : Text) (m : Texts PayeeRow) (q : Text)
     → get (named id name m) q ≡ cond (same_id q id) (Some (record (unwrap_or (get m id) (blank_row payee_table id)) { name = Some name })) (get m q)

@@ -1,56 +1,50 @@
 -- What an import leaves: each record's own row, and every other one as it was.
-use Rattle.std.proofs.Common.{◌≡◌, ℕ, zero, suc, ◌+◌, ◌<◌, Bool, true, false, cond, List, [], ◌∷◌, ◌++◌, length, Option, Some, None, refl, sym, ap, ◌∙◌, inl, inr, ◌⊎◌, ⊎_elim, subst, arith}
-use lib.IntN.{ℤ, pos}
+use Rattle.std.proofs.Common.{◌≡◌, ℕ, zero, suc, ◌<◌, Bool, true, false, cond, List, [], ◌∷◌, length, Option, Some, None, refl, sym, ap, ◌∙◌, inl, inr, ◌⊎◌, ⊎_elim, subst, arith}
 use Rattle.std.specs.Prelude.{◌&&◌, ◌||◌, not, is_some, map as list_map}
 use Rattle.std.specs.Option.{option_map, option_and_then}
 use Rattle.std.specs.List.{slice_get}
 use Rattle.std.specs.FinMap.{get}
 use Rattle.std.specs.declared.cmp.Ordering.TheVariants.{Less}
-use Rattle.finite_sums.specs.Maps.{Text, text_cmp, some_and}
+use Rattle.finite_sums.specs.Maps.{Text, Texts, text_cmp, some_and}
 use Rattle.field_values.specs.declared.value.Value.TheVariants.{Text as IsText}
 use Rattle.book_rows.specs.declared.rows.Rows.{Rows}
 use Rattle.book_rows.specs.declared.rows.TxRow.{TxRow}
+use Rattle.book_rows.specs.declared.rows.PayeeMappingRow.{PayeeMappingRow}
 use Rattle.book_rows.specs.declared.write.WriteValue.{WriteValue}
-use Rattle.book_rows.specs.declared.write.WriteValue.TheVariants.{Plain, IdOf}
-use Rattle.book_rows.specs.declared.write.Write.{Write}
+use Rattle.book_rows.specs.declared.write.WriteValue.TheVariants.{Plain}
 use Rattle.book_rows.specs.Kinds as kinds
 use Rattle.book_rows.specs.Kinds.{is_day, text_of}
-use Rattle.book_rows.specs.Live.{is_live_tx, has_parent}
+use Rattle.book_rows.specs.Live.{is_live_tx, has_parent, mapped, mapped_payee}
 use Rattle.book_rows.specs.Parts.{is_text}
 use Rattle.book_edits.specs.Checks.{same_id}
 use Rattle.book_edits.specs.Writing.{text_or_null}
-use Rattle.split_transfer.specs.After.{Ids, with_writes, makes}
+use Rattle.split_transfer.specs.After.{Ids, makes}
 use Rattle.split_transfer.specs.Pairs.{only_where, live_row, names_back, partner_of}
 use Rattle.split_transfer.specs.Writing.{day_or_null}
-use Rattle.split_transfer.proofs.Basics.{both_true, and_both, not_true, option_cases, holds_some, where_some}
+use Rattle.split_transfer.proofs.Basics.{both_true, and_both, holds_some, where_some}
 use Rattle.rule_engine.specs.Days.{day_number, numbered}
-use Rattle.rule_engine.specs.Conditions.{folded}
-use Rattle.rule_engine.specs.Running.{run, rules_of}
+use Rattle.rule_engine.specs.Running.{rules_of}
 use Rattle.bank_import.specs.declared.entry.Entry.{Entry}
 use Rattle.bank_import.specs.declared.drafts.Draft.{Draft}
 use Rattle.bank_import.specs.declared.facts.Facts.{Facts}
 use Rattle.bank_import.specs.declared.facts.Candidate.{Candidate}
-use Rattle.bank_import.specs.declared.facts.Pass.{Pass}
-use Rattle.bank_import.specs.declared.facts.Pass.TheVariants.{ById, ByPayee, ByAmount}
-use Rattle.bank_import.specs.Matching.{are_same, is_near, meets, facts_of, candidate_of, candidates, somes, is_among, matched_among, matched}
+use Rattle.bank_import.specs.Matching.{facts_of, candidate_of, candidates, somes, is_among, matched_among, matched}
 use Rattle.bank_import.specs.Laws.{IsIn, IsWhole}
-use Rattle.bank_import.specs.Second.{or_else, filled, made, IsOwn, IsAfter, HaveIdsOrRows, MadeRise}
-use Rattle.bank_import.specs.Drafts.{payee_of, new_tx, ruled, draft_of, place_of}
-use Rattle.bank_import.specs.Edits.{missing, payee_by, payee_value, payee_writes, takes_none, missing_category}
-use Rattle.bank_import.specs.Rest.{IsFull, AreFull, drafts_in, rows_in_drafts, facts_in}
+use Rattle.bank_import.specs.Second.{or_else, but_payee, filled, made, IsOwn, IsAfter, HaveIdsOrRows, MadeRise}
+use Rattle.bank_import.specs.Drafts.{payee_of, new_tx, draft_of}
+use Rattle.bank_import.specs.Edits.{missing, payee_value, payee_writes, takes_none, missing_category}
+use Rattle.bank_import.specs.Rest.{IsFull, AreFull, drafts_in, rows_in_drafts}
 use Rattle.bank_import.specs.Twice.{AreNew, HaveOwn, AskNothingNew}
-use Rattle.bank_import.proofs.Nearest.{id_same, id_itself}
 use Rattle.bank_import.proofs.Runs.{law_of_matches}
+use Rattle.bank_import.proofs.Mapped.{map_at, at_map}
 use Rattle.bank_import.proofs.Again.{irreflexive}
 use Rattle.bank_import.proofs.Outs.{is_not, among_from}
 use Rattle.bank_import.proofs.Listed.{law_of_candidates}
-use Rattle.bank_import.proofs.Blocks.{pick, plain, payee, category, notes, imported, financial, schedule, row_filled, filled_row, row_made, made_row}
-use Rattle.bank_import.proofs.Places.{makes-append, AreApart, find_text, at_same, own_of, change_of, filling_change, owns, places, owns_len, places_rise, other_row, IsBegun, begun, own_row}
+use Rattle.bank_import.proofs.Blocks.{pick, plain, row_filled, filled_row, row_made, made_row}
+use Rattle.bank_import.proofs.Places.{makes-append, AreApart, find_text, at_same, change_of, filling_change, owns, places, owns_len, places_rise, other_row, IsBegun, begun, own_row}
 use Rattle.bank_import.proofs.Datasets.{payees_only}
-use Rattle.bank_import.proofs.NewNames.{names_found, place_name}
 use Rattle.bank_import.proofs.Ruled.{Leaves, run_leaves}
-use Rattle.bank_import.proofs.Alike.{IsAlike, AreAlike, same_matched}
-use Rattle.bank_import.proofs.Settled.{map_at, at_map, given, settled, ds, names, ms, ws, mid, later, rest, later_is, settles, IsGiven, given_how}
+use Rattle.bank_import.proofs.Settled.{given, settled, ds, names, ms, ws, mid, later, rest, later_is, later_else, settles}
 
 no_some : {X P : Type 0} (x : X) → None ≡ Some x → P
 no_some x h = absurd (clash h)
@@ -115,10 +109,22 @@ compare zero (suc j) = inr (inr (omega arith))
 compare (suc i) zero = inl (omega arith)
 compare (suc i) (suc j) = ⊎_elim (λ (l : j < i). inl (omega arith)) (λ m. ⊎_elim (λ e. inr (inl (ap suc e))) (λ (l : i < j). inr (inr (omega arith))) m) (compare i j)
 
-alike_maps : (cs : List Candidate) (f g : Entry → Draft) (es : List Entry) → ((i : ℕ) (e : Entry) → slice_get es i ≡ Some e → IsAlike cs (facts_of (f e).row) (facts_of (g e).row))
-    → AreAlike cs (list_map facts_of (rows_in_drafts (list_map f es))) (list_map facts_of (rows_in_drafts (list_map g es)))
-alike_maps cs f g [] h = tt
-alike_maps cs f g (e ∷ es) h = (h zero e refl, alike_maps cs f g es (λ i x a. h (suc i) x a))
+same_maps : (a b : TxRow → Facts) (f g : Entry → Draft) (es : List Entry) → ((e : Entry) → but_payee (a (f e).row) ≡ but_payee (b (g e).row))
+    → list_map but_payee (list_map a (rows_in_drafts (list_map f es))) ≡ list_map but_payee (list_map b (rows_in_drafts (list_map g es)))
+same_maps a b f g [] h = refl
+same_maps a b f g (e ∷ es) h =
+    ap (λ y. y ∷ list_map but_payee (list_map a (rows_in_drafts (list_map f es)))) (h e)
+    ∙ ap (λ l. but_payee (b (g e).row) ∷ l) (same_maps a b f g es h)
+
+-- ---- what ids stand for
+
+abbrev stands : Rows → Option Text → Option Text
+stands r o = option_map (mapped_payee r) o
+
+-- what is there, or else another, stands for what the one stands for, or else the other
+stands_or : (r : Rows) (a b : Option Text) → stands r (or_else a b) ≡ or_else (stands r a) (stands r b)
+stands_or r None b = refl
+stands_or r (Some t) b = refl
 
 -- the later row hangs together with others as the earlier one
 record IsLinked (x y : TxRow) : Type 0 where
@@ -144,7 +150,7 @@ module _ (ids : Ids) (rows : Rows) (account : Text) (es : List Entry) where
   d2 e = record { row = settled ids all_names (d1 e); wanted = None }
 
   abbrev s2 : Entry → Facts
-  s2 e = facts_of (settled ids all_names (d1 e))
+  s2 e = facts_of next (settled ids all_names (d1 e))
 
   abbrev found : List (Option Text)
   found = ms ids rows account es
@@ -155,16 +161,16 @@ module _ (ids : Ids) (rows : Rows) (account : Text) (es : List Entry) where
   abbrev cs : List Candidate
   cs = candidates rows account
 
-  abbrev rs : List Facts
-  rs = list_map facts_of (rows_in_drafts (ds ids rows account es))
+  abbrev pub rs : List Facts
+  rs = list_map (facts_of rows) (rows_in_drafts (ds ids rows account es))
 
   abbrev pub drafts2 : List Draft
   drafts2 = list_map d2 es
 
   abbrev pub ss : List Facts
-  ss = list_map facts_of (rows_in_drafts drafts2)
+  ss = list_map (facts_of next) (rows_in_drafts drafts2)
 
-  found_is : found ≡ matched_among cs rs
+  pub found_is : found ≡ matched_among cs rs
   unfolding matched
   found_is = refl
 
@@ -177,26 +183,34 @@ module _ (ids : Ids) (rows : Rows) (account : Text) (es : List Entry) where
   ds_len = map_len (draft_of rows account) es
 
   rs_len : length rs ≡ length es
-  rs_len = map_len facts_of (rows_in_drafts (ds ids rows account es)) ∙ map_len (λ (d : Draft). d.row) (ds ids rows account es) ∙ ds_len
+  rs_len = map_len (facts_of rows) (rows_in_drafts (ds ids rows account es)) ∙ map_len (λ (d : Draft). d.row) (ds ids rows account es) ∙ ds_len
 
-  rs_at : (i : ℕ) (e : Entry) → slice_get es i ≡ Some e → slice_get rs i ≡ Some (facts_of (r1 e))
-  rs_at i e a = at_map facts_of (rows_in_drafts (ds ids rows account es)) i (r1 e) (at_map (λ (d : Draft). d.row) (ds ids rows account es) i (d1 e) (ds_at i e a))
+  rs_at : (i : ℕ) (e : Entry) → slice_get es i ≡ Some e → slice_get rs i ≡ Some (facts_of rows (r1 e))
+  rs_at i e a = at_map (facts_of rows) (rows_in_drafts (ds ids rows account es)) i (r1 e) (at_map (λ (d : Draft). d.row) (ds ids rows account es) i (d1 e) (ds_at i e a))
 
   ss_at : (i : ℕ) (e : Entry) → slice_get es i ≡ Some e → slice_get ss i ≡ Some (s2 e)
-  ss_at i e a = at_map facts_of (rows_in_drafts drafts2) i (d2 e).row (at_map (λ (d : Draft). d.row) drafts2 i (d2 e) (at_map d2 es i e a))
+  ss_at i e a = at_map (facts_of next) (rows_in_drafts drafts2) i (d2 e).row (at_map (λ (d : Draft). d.row) drafts2 i (d2 e) (at_map d2 es i e a))
 
   from_ss : (i : ℕ) (s : Facts) → slice_get ss i ≡ Some s → (e : Entry) × (slice_get es i ≡ Some e) × (s2 e ≡ s)
   from_ss i s h =
-      let a = map_at facts_of (rows_in_drafts drafts2) i s h in
+      let a = map_at (facts_of next) (rows_in_drafts drafts2) i s h in
       let b = map_at (λ (d : Draft). d.row) drafts2 i a.0 a.1 in
       let c = map_at d2 es i b.0 b.1 in
-      (c.0, c.1, ap facts_of (ap (λ (d : Draft). d.row) c.2 ∙ b.2) ∙ a.2)
+      (c.0, c.1, ap (facts_of next) (ap (λ (d : Draft). d.row) c.2 ∙ b.2) ∙ a.2)
 
   ms_len : length found ≡ length es
   ms_len = ap length found_is ∙ (law_of_matches cs rs).len ∙ rs_len
 
   os_len : length own_ids ≡ length es
   os_len = owns_len ids rows all_names (length all_names) (ds ids rows account es) found (ms_len ∙ sym ds_len) ∙ ds_len
+
+  -- records are compared as before, but for payees that are made
+  pub same_again : list_map but_payee ss ≡ list_map but_payee rs
+  same_again = same_maps (facts_of next) (facts_of rows) d2 (draft_of rows account) es (λ e. refl)
+
+  -- ids stand for what they stood for before
+  next_stands : (o : Option Text) → stands next o ≡ stands rows o
+  next_stands o = ap (λ (m : Texts PayeeMappingRow). option_map (mapped (λ (p : PayeeMappingRow). p.target_id) m) o) (later_else ids rows account es).payee_mappings
 
   -- ---- what rules leave of a record
 
@@ -212,34 +226,6 @@ module _ (ids : Ids) (rows : Rows) (account : Text) (es : List Entry) where
     made_new : (p : ℕ) → makes (rest ids rows account es) p ≡ true → makes (ws ids rows account es) p ≡ true
     made_new p h = makes-append (payee_writes 0 all_names) (rest ids rows account es) p h
 
-    -- ---- the same matches, with the payees that are made
-
-    no_tie : (k : ℕ) (c : Candidate) → makes (ws ids rows account es) k ≡ true → IsIn cs c → are_same (Some (ids k)) c.payee ≡ false
-    no_tie k c m i = by c.payee refl
-      where
-        by : (o : Option Text) → c.payee ≡ o → are_same (Some (ids k)) o ≡ false
-        by None e = refl
-        by (Some f) e = is_not (same_id (ids k) f) (λ t.
-            let w = (law_of_candidates.told rows account c).0 i in
-            let same : ids k ≡ f = id_same (ids k) f t in
-            new.unnamed k c.id w.0 m w.1.there (ap (λ (x : Candidate). x.payee) (sym w.2) ∙ e ∙ ap (λ x. Some x) (sym same)))
-
-    alike : (i : ℕ) (e : Entry) → slice_get es i ≡ Some e → IsAlike cs (facts_of (r1 e)) (s2 e)
-    alike i e a = record { day = refl; agrees = by }
-      where
-        payees : (c : Candidate) → IsIn cs c → are_same (r1 e).description c.payee ≡ are_same (given ids all_names (d1 e)) c.payee
-        payees c j = ⊎_elim (λ g. ap (λ o. are_same o c.payee) (sym g))
-            (λ (g : IsGiven ids rows account es (d1 e)). ap (λ o. are_same o c.payee) g.none ∙ sym (ap (λ o. are_same o c.payee) g.is ∙ no_tie g.place c g.makes j))
-            (given_how ids rows account es i e a)
-
-        by : (p : Pass) (c : Candidate) → IsIn cs c → meets p (facts_of (r1 e)) c ≡ meets p (s2 e) c
-        by ById c j = refl
-        by ByPayee c j = ap (λ b. is_near (facts_of (r1 e)) c && b) (payees c j)
-        by ByAmount c j = refl
-
-    same_found : found ≡ matched_among cs ss
-    same_found = found_is ∙ same_matched cs rs ss (alike_maps cs (draft_of rows account) d2 es alike)
-
     -- ---- own ids
 
     -- a transaction that is matched was there
@@ -249,11 +235,11 @@ module _ (ids : Ids) (rows : Rows) (account : Text) (es : List Entry) where
       same : candidate.id ≡ o
       row : TxRow
       whole : IsWhole rows account o row
-      is : candidate ≡ candidate_of o row
+      is : candidate ≡ candidate_of rows o row
 
     matched_at : (i : ℕ) (e : Entry) (o : Text) → slice_get es i ≡ Some e → slice_get found i ≡ Some (Some o) → IsMatched i o
     matched_at i e o a b =
-        let w = (law_of_matches cs rs).match i (facts_of (r1 e)) o (rs_at i e a) (ap (λ l. slice_get l i) (sym found_is) ∙ b) in
+        let w = (law_of_matches cs rs).match i (facts_of rows (r1 e)) o (rs_at i e a) (ap (λ l. slice_get l i) (sym found_is) ∙ b) in
         let t = (law_of_candidates.told rows account w.candidate).0 w.is_in in
         record {
           candidate = w.candidate;
@@ -261,7 +247,7 @@ module _ (ids : Ids) (rows : Rows) (account : Text) (es : List Entry) where
           same = w.id;
           row = t.0;
           whole = subst (λ (q : Text). IsWhole rows account q t.0) w.id t.1;
-          is = t.2 ∙ ap (λ q. candidate_of q t.0) w.id;
+          is = t.2 ∙ ap (λ q. candidate_of rows q t.0) w.id;
         }
 
     clash : (o : Text) (x : TxRow) → get rows.txs o ≡ Some x → get rows.txs o ≡ None → ⊥
@@ -414,7 +400,7 @@ module _ (ids : Ids) (rows : Rows) (account : Text) (es : List Entry) where
       there : get next.txs o ≡ Some row
       whole : IsWhole next account o row
       full : IsFull next o row (d2 e)
-      how : ((slice_get found i ≡ Some None) × (candidate_of o row ≡ made o (s2 e))) ⊎ ((c : Candidate) × IsIn cs c × (slice_get found i ≡ Some (Some c.id)) × (candidate_of o row ≡ filled (s2 e) c))
+      how : ((slice_get found i ≡ Some None) × (candidate_of next o row ≡ made o (s2 e))) ⊎ ((c : Candidate) × IsIn cs c × (slice_get found i ≡ Some (Some c.id)) × (candidate_of next o row ≡ filled (s2 e) c))
 
     left_filled : (i : ℕ) (e : Entry) (o : Text) → slice_get es i ≡ Some e → slice_get found i ≡ Some (Some o) → slice_get own_ids i ≡ Some o → IsLeft i e o
     left_filled i e o a b c =
@@ -424,6 +410,8 @@ module _ (ids : Ids) (rows : Rows) (account : Text) (es : List Entry) where
         let y = row_filled ids rows all_names o x d in
         let there : get next.txs o ≡ Some y = filled_at i e o x a b c w.whole.there in
         let description : y.description ≡ or_else x.description (given ids all_names d) = picked ids x.description (payee_value all_names d) in
+        let payee : stands next y.description ≡ or_else (stands rows x.description) (s2 e).payee =
+        ap (stands next) description ∙ stands_or next x.description (given ids all_names d) ∙ ap (λ o. or_else o (s2 e).payee) (next_stands x.description) in
         record {
           row = y;
           there = there;
@@ -441,8 +429,8 @@ module _ (ids : Ids) (rows : Rows) (account : Text) (es : List Entry) where
             w.candidate,
             w.is_in,
             b ∙ ap (λ t. Some (Some t)) (sym w.same),
-            ap (λ t. record (candidate_of o x) { payee = t; financial_id = y.financial_id }) description
-                ∙ ap (λ t. record (candidate_of o x) { payee = or_else x.description (given ids all_names d); financial_id = t }) (picked_text ids x.financial_id d.row.financial_id)
+            ap (λ t. record (candidate_of rows o x) { payee = t; financial_id = y.financial_id }) payee
+                ∙ ap (λ t. record (candidate_of rows o x) { payee = or_else (stands rows x.description) (s2 e).payee; financial_id = t }) (picked_text ids x.financial_id d.row.financial_id)
                 ∙ ap (filled (s2 e)) (sym w.is),
           );
         }
@@ -488,7 +476,7 @@ module _ (ids : Ids) (rows : Rows) (account : Text) (es : List Entry) where
       abbrev after : List Candidate
       after = candidates next account
 
-      own_is : (i : ℕ) (e : Entry) (o : Text) → slice_get es i ≡ Some e → slice_get own_ids i ≡ Some o → (w : IsLeft i e o) → IsOwn cs ss found own_ids i (candidate_of o w.row)
+      own_is : (i : ℕ) (e : Entry) (o : Text) → slice_get es i ≡ Some e → slice_get own_ids i ≡ Some o → (w : IsLeft i e o) → IsOwn cs ss found own_ids i (candidate_of next o w.row)
       own_is i e o a c w = record { entry = s2 e; at = ss_at i e a; own = c; how = w.how }
 
       owned : (i : ℕ) (r : Facts) → slice_get ss i ≡ Some r → (d : Candidate) × IsIn after d × IsOwn cs ss found own_ids i d
@@ -496,12 +484,12 @@ module _ (ids : Ids) (rows : Rows) (account : Text) (es : List Entry) where
           let e = from_ss i r h in
           let o = at_same es own_ids i e.0 os_len e.1 in
           let w = left i e.0 o.0 e.1 o.1 in
-          (candidate_of o.0 w.row, (law_of_candidates.told next account (candidate_of o.0 w.row)).1 (w.row, w.whole, refl), own_is i e.0 o.0 e.1 o.1 w)
+          (candidate_of next o.0 w.row, (law_of_candidates.told next account (candidate_of next o.0 w.row)).1 (w.row, w.whole, refl), own_is i e.0 o.0 e.1 o.1 w)
 
       from : (d : Candidate) → IsIn after d → (IsIn cs d × (is_among (somes found) d.id ≡ false)) ⊎ ((i : ℕ) × IsOwn cs ss found own_ids i d)
       from d h = ⊎_elim (λ w. inr (w.0, own w.0 w.1)) (λ n. inl (other n)) (find_text own_ids d.id)
         where
-          t : (x : TxRow) × IsWhole next account d.id x × (d ≡ candidate_of d.id x)
+          t : (x : TxRow) × IsWhole next account d.id x × (d ≡ candidate_of next d.id x)
           t = (law_of_candidates.told next account d).0 h
 
           own : (i : ℕ) → slice_get own_ids i ≡ Some d.id → IsOwn cs ss found own_ids i d
@@ -509,26 +497,24 @@ module _ (ids : Ids) (rows : Rows) (account : Text) (es : List Entry) where
               let e = at_same own_ids es i d.id (sym os_len) c in
               let w = left i e.0 d.id e.1 c in
               let same : w.row ≡ t.0 = some_is w.row t.0 (sym w.there ∙ t.1.there) in
-              subst (λ (x : Candidate). IsOwn cs ss found own_ids i x) (ap (candidate_of d.id) same ∙ sym t.2) (own_is i e.0 d.id e.1 c w)
+              subst (λ (x : Candidate). IsOwn cs ss found own_ids i x) (ap (candidate_of next d.id) same ∙ sym t.2) (own_is i e.0 d.id e.1 c w)
 
           other : ((i : ℕ) → slice_get own_ids i ≡ Some d.id → ⊥) → IsIn cs d × (is_among (somes found) d.id ≡ false)
           other n = (
-            (law_of_candidates.told rows account d).1 (t.0, record { there = sym (others_stay d.id n) ∙ t.1.there; here = t.1.here; kept = t.1.kept; whole = t.1.whole }, t.2),
+            (law_of_candidates.told rows account d).1 (t.0, record { there = sym (others_stay d.id n) ∙ t.1.there; here = t.1.here; kept = t.1.kept; whole = t.1.whole }, t.2 ∙ ap (λ p. record (candidate_of rows d.id t.0) { payee = p }) (next_stands t.0.description)),
             is_not (is_among (somes found) d.id) (λ h.
                 let f = among_from found d.id h in
                 let o = at_same found own_ids f.0 (Some d.id) (os_len ∙ sym ms_len) f.1 in
                 n f.0 (o.1 ∙ ap Some (own_some f.0 d.id o.0 f.1 o.1))),
           )
 
-      pub is_after : IsAfter cs ss own_ids after
+      pub is_after : IsAfter cs ss found own_ids after
       is_after = record {
         rising = law_of_candidates.rise next account;
-        len = os_len ∙ sym (map_len facts_of (rows_in_drafts drafts2) ∙ map_len (λ (d : Draft). d.row) drafts2 ∙ map_len d2 es);
+        len = os_len ∙ sym (map_len (facts_of next) (rows_in_drafts drafts2) ∙ map_len (λ (d : Draft). d.row) drafts2 ∙ map_len d2 es);
         apart = apart;
-        owned = λ i r h. let w = owned i r h in (w.0, w.1, subst (λ (m : List (Option Text)). IsOwn cs ss m own_ids i w.0) same_found w.2);
-        from = λ d h. ⊎_elim
-            (λ w. inl (w.0, ap (λ m. is_among (somes m) d.id) (sym same_found) ∙ w.1))
-            (λ w. inr (w.0, subst (λ (m : List (Option Text)). IsOwn cs ss m own_ids w.0 d) same_found w.1)) (from d h);
+        owned = owned;
+        from = from;
       }
 
       -- each record's own row has all
@@ -554,7 +540,7 @@ module _ (ids : Ids) (rows : Rows) (account : Text) (es : List Entry) where
         day_is : (e : Entry) → is_day e.date ≡ true → (s2 e).day ≡ Some (day_number e.date)
         day_is e h = ap (option_and_then numbered) (kept e).date ∙ ap (λ b. cond b (Some (day_number e.date)) None) h
 
-        pub have_own : HaveIdsOrRows ss (matched_among cs ss)
+        pub have_own : HaveIdsOrRows ss (matched_among cs rs)
         have_own = record {
           each = λ i s h. let e = from_ss i s h in each i s e.0 e.1 e.2 e.0.id refl;
           days = λ i s h. let e = from_ss i s h in (day_number e.0.date, ap (λ (x : Facts). x.day) (sym e.2) ∙ day_is e.0 (dated i e.0 e.1));
@@ -562,12 +548,12 @@ module _ (ids : Ids) (rows : Rows) (account : Text) (es : List Entry) where
         }
           where
             each : (i : ℕ) (s : Facts) (e : Entry) → slice_get es i ≡ Some e → s2 e ≡ s → (o : Option Text) → e.id ≡ o
-                → ((k : Text) × (s.financial_id ≡ Some k)) ⊎ ((s.financial_id ≡ None) × (slice_get (matched_among cs ss) i ≡ Some None))
+                → ((k : Text) × (s.financial_id ≡ Some k)) ⊎ ((s.financial_id ≡ None) × (slice_get (matched_among cs rs) i ≡ Some None))
             each i s e a is (Some k) f = inl (k, ap (λ (x : Facts). x.financial_id) (sym is) ∙ id_is e ∙ f)
-            each i s e a is None f = inr (ap (λ (x : Facts). x.financial_id) (sym is) ∙ id_is e ∙ f, ap (λ m. slice_get m i) (sym same_found) ∙ own.makes i e a f)
+            each i s e a is None f = inr (ap (λ (x : Facts). x.financial_id) (sym is) ∙ id_is e ∙ f, ap (λ m. slice_get m i) (sym found_is) ∙ own.makes i e a f)
 
-        pub made_rise : MadeRise (matched_among cs ss) own_ids
-        made_rise i j x y l a b c d = rising i j x y l a b (ap (λ m. slice_get m i) same_found ∙ c) (ap (λ m. slice_get m j) same_found ∙ d)
+        pub made_rise : MadeRise (matched_among cs rs) own_ids
+        made_rise i j x y l a b c d = rising i j x y l a b (ap (λ m. slice_get m i) found_is ∙ c) (ap (λ m. slice_get m j) found_is ∙ d)
 
   -- what records make of the rows after the import
   pub drafts_are : AreNew ids rows (ws ids rows account es) → AskNothingNew ids rows account es (ws ids rows account es) → drafts_in next account es ≡ drafts2

@@ -9,6 +9,7 @@ pub mod Nearest
 pub mod Grouped
 pub mod Runs
 pub mod Best
+pub mod Mapped
 pub mod Again
 pub mod Outs
 pub mod Rows
@@ -25,7 +26,6 @@ pub mod Datasets
 pub mod NewNames
 pub mod Ruled
 pub mod Dated
-pub mod Alike
 pub mod Settled
 pub mod Left
 pub mod Twice

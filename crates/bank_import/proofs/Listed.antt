@@ -39,28 +39,28 @@ record IsAt (rows : Rows) (id : Text) (c : Candidate) : Type 0 where
   there : get rows.txs id ≡ Some x
   live : is_live_tx rows x ≡ true
   whole : x.is_child ≡ false
-  is : candidate_of id x ≡ c
+  is : candidate_of rows id x ≡ c
 
-by_child : (rows : Rows) (id : Text) (c : Candidate) (x : TxRow) → get rows.txs id ≡ Some x → is_live_tx rows x ≡ true → (b : Bool) → x.is_child ≡ b → cond b None (Some (candidate_of id x)) ≡ Some c → IsAt rows id c
+by_child : (rows : Rows) (id : Text) (c : Candidate) (x : TxRow) → get rows.txs id ≡ Some x → is_live_tx rows x ≡ true → (b : Bool) → x.is_child ≡ b → cond b None (Some (candidate_of rows id x)) ≡ Some c → IsAt rows id c
 by_child rows id c x e l true w h = none_some c h
-by_child rows id c x e l false w h = record { x = x; there = e; live = l; whole = w; is = some_is (candidate_of id x) c h }
+by_child rows id c x e l false w h = record { x = x; there = e; live = l; whole = w; is = some_is (candidate_of rows id x) c h }
 
-by_live : (rows : Rows) (id : Text) (c : Candidate) (x : TxRow) → get rows.txs id ≡ Some x → (b : Bool) → is_live_tx rows x ≡ b → option_and_then (candidate_in id) (cond b (Some x) None) ≡ Some c → IsAt rows id c
+by_live : (rows : Rows) (id : Text) (c : Candidate) (x : TxRow) → get rows.txs id ≡ Some x → (b : Bool) → is_live_tx rows x ≡ b → option_and_then (candidate_in rows id) (cond b (Some x) None) ≡ Some c → IsAt rows id c
 by_live rows id c x e true l h = by_child rows id c x e l x.is_child refl h
 by_live rows id c x e false l h = none_some c h
 
-by_row : (rows : Rows) (id : Text) (c : Candidate) (o : Option TxRow) → get rows.txs id ≡ o → option_and_then (candidate_in id) (only_where (is_live_tx rows) o) ≡ Some c → IsAt rows id c
+by_row : (rows : Rows) (id : Text) (c : Candidate) (o : Option TxRow) → get rows.txs id ≡ o → option_and_then (candidate_in rows id) (only_where (is_live_tx rows) o) ≡ Some c → IsAt rows id c
 by_row rows id c None e h = none_some c h
 by_row rows id c (Some x) e h = by_live rows id c x e (is_live_tx rows x) refl h
 
 at : (rows : Rows) (id : Text) (c : Candidate) → candidate_at rows id ≡ Some c → IsAt rows id c
 at rows id c h = by_row rows id c (get rows.txs id) refl h
 
-found_at : (rows : Rows) (id : Text) (x : TxRow) → get rows.txs id ≡ Some x → is_live_tx rows x ≡ true → x.is_child ≡ false → candidate_at rows id ≡ Some (candidate_of id x)
+found_at : (rows : Rows) (id : Text) (x : TxRow) → get rows.txs id ≡ Some x → is_live_tx rows x ≡ true → x.is_child ≡ false → candidate_at rows id ≡ Some (candidate_of rows id x)
 found_at rows id x there live whole =
-    ap (λ o. option_and_then (candidate_in id) (only_where (is_live_tx rows) o)) there
-    ∙ ap (λ b. option_and_then (candidate_in id) (cond b (Some x) None)) live
-    ∙ ap (λ b. cond b None (Some (candidate_of id x))) whole
+    ap (λ o. option_and_then (candidate_in rows id) (only_where (is_live_tx rows) o)) there
+    ∙ ap (λ b. option_and_then (candidate_in rows id) (cond b (Some x) None)) live
+    ∙ ap (λ b. cond b None (Some (candidate_of rows id x))) whole
 
 own_id : (rows : Rows) (id : Text) (c : Candidate) → candidate_at rows id ≡ Some c → id ≡ c.id
 own_id rows id c h = ap (λ (d : Candidate). d.id) (at rows id c h).is
@@ -168,16 +168,16 @@ module _ (rows : Rows) where
     is_here None h = absurd (let bad : false ≡ true = h in cc)
     is_here (Some a) h = ap Some (id_same a account h)
 
-    forth : (c : Candidate) → IsIn (out (account_txs rows account)) c → (x : TxRow) × IsWhole rows account c.id x × (c ≡ candidate_of c.id x)
+    forth : (c : Candidate) → IsIn (out (account_txs rows account)) c → (x : TxRow) × IsWhole rows account c.id x × (c ≡ candidate_of rows c.id x)
     forth c h =
         let w = was_in (account_txs rows account) c h in
         let a = at rows w.key c w.made in
         let own : w.key ≡ c.id = own_id rows w.key c w.made in
         let live = both_true _ _ a.live in
         let acct : a.x.acct ≡ Some account = is_here a.x.acct (sym (ap (some_and (is_in_account account)) a.there) ∙ sym (among w.key) ∙ w.among) in
-        (a.x, record { there = ap (get rows.txs) (sym own) ∙ a.there; here = acct; kept = not_true a.x.tombstone live.0; whole = a.whole }, sym a.is ∙ ap (λ id. candidate_of id a.x) own)
+        (a.x, record { there = ap (get rows.txs) (sym own) ∙ a.there; here = acct; kept = not_true a.x.tombstone live.0; whole = a.whole }, sym a.is ∙ ap (λ id. candidate_of rows id a.x) own)
 
-    back : (c : Candidate) → ((x : TxRow) × IsWhole rows account c.id x × (c ≡ candidate_of c.id x)) → IsIn (out (account_txs rows account)) c
+    back : (c : Candidate) → ((x : TxRow) × IsWhole rows account c.id x × (c ≡ candidate_of rows c.id x)) → IsIn (out (account_txs rows account)) c
     back c h =
         let x = h.0 in
         let w = h.1 in

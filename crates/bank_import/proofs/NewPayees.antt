@@ -1,10 +1,6 @@
 -- The payees that an import makes.
-use Rattle.std.proofs.Common.{◌≡◌, ℕ, Some, ap, sym, ◌∙◌}
-use Rattle.std.specs.FinMap.{get}
-use Rattle.finite_sums.specs.Maps.{Text}
-use Rattle.book_rows.specs.declared.rows.Rows.{Rows}
+use Rattle.std.proofs.Common.{ap, sym, ◌∙◌}
 use Rattle.rule_engine.specs.Conditions.{folded}
-use Rattle.bank_import.specs.declared.drafts.Draft.{Draft}
 use Rattle.bank_import.specs.Drafts.{is_called, place_of, new_names}
 use Rattle.bank_import.specs.NewPayees.{LawOfNames}
 use Rattle.bank_import.proofs.Least.{none_passes}

@@ -1,7 +1,7 @@
 -- Which rows are read as entries, and where the first bad place is.
 use Rattle.std.proofs.Common.{◌≡◌, ℕ, zero, suc, ◌+◌, ◌<◌, ◌≤◌, Bool, true, false, cond, List, [], ◌∷◌, Option, Some, None, Result, Ok, Err, refl, sym, subst, ap, ◌∙◌, inl, inr, ◌⊎◌, ⊎_elim, arith}
 use lib.IntN.{ℤ, pos}
-use Rattle.std.specs.Prelude.{◌≢◌, ◌↔◌, ◌&&◌, ◌||◌, ◌==◌, not, is_some, length, unwrap_or, codes}
+use Rattle.std.specs.Prelude.{◌↔◌, ◌&&◌, ◌||◌, ◌==◌, not, is_some, length, unwrap_or, codes}
 use Rattle.std.specs.List.{slice_get}
 use Rattle.std.specs.Str.{bytes_eq}
 use Rattle.std.proofs.lemmas.Bool.{and_parts, eq-eqb, eqb-true, eqb-false, ne_eqb}
@@ -14,7 +14,7 @@ use Rattle.rule_engine.specs.Days.{day_of_text}
 use Rattle.bank_import.specs.declared.entry.Entry.{Entry}
 use Rattle.bank_import.specs.declared.entry.Columns.{Columns}
 use Rattle.bank_import.specs.Statement.{amount_of_text, column_from, column_of, columns_of, is_good, bad_from, bad_place, field, entry_of, entry_unless, read_record, read_records, read_under, read_rows}
-use Rattle.bank_import.specs.Read.{IsEntry, AreEntries, IsFirstBad, IsBadAt, IsRefused, IsColumn, LawOfReading}
+use Rattle.bank_import.specs.Read.{IsEntry, AreEntries, IsBadAt, IsColumn, LawOfReading}
 
 no_some : {X P : Type 0} (x : X) → None ≡ Some x → P
 no_some x h = absurd (clash h)

@@ -11,7 +11,7 @@ use Rattle.book_rows.specs.declared.write.WriteValue.{WriteValue}
 use Rattle.book_rows.specs.declared.write.Write.{Write}
 use Rattle.bank_import.specs.declared.entry.Entry.{Entry}
 use Rattle.bank_import.specs.declared.drafts.Draft.{Draft}
-use Rattle.bank_import.specs.Matching.{candidates, matched_among, matched}
+use Rattle.bank_import.specs.Matching.{candidates, matched}
 use Rattle.bank_import.specs.Drafts.{with_name, new_names}
 use Rattle.bank_import.specs.Edits.{value_write, text_write, missing, takes_none, missing_category, texts_writes, clearing, filling, filling_at, payee_writes, records_writes, drafts_writes}
 use Rattle.bank_import.specs.Rest.{IsFull, AreFull, drafts_in, rows_in_drafts, facts_in, IsAgain, LawOfRest}
@@ -75,8 +75,7 @@ rests rows account ds os m f =
 again_matched : (rows later : Rows) (account : Text) (es : List Entry) (os : List Text) → IsAgain rows later account es os → matched later account (rows_in_drafts (drafts_in later account es)) ≡ map (λ x. Some x) os
 unfolding matched
 again_matched rows later account es os a =
-    ap (matched_among (candidates later account)) a.same
-    ∙ law_of_rows (candidates rows account) (law_of_candidates.rise rows account) (facts_in rows account es) a.own os a.rise (candidates later account) a.after
+    law_of_rows (candidates rows account) (law_of_candidates.rise rows account) (facts_in rows account es) (facts_in later account es) a.same a.own os a.rise (candidates later account) a.after
 
 pub law_of_rest : LawOfRest
 law_of_rest = record {

@@ -11,13 +11,13 @@ use Rattle.finite_sums.specs.Maps.{Text, text_cmp}
 use Rattle.book_edits.specs.Checks.{same_id}
 use Rattle.bank_import.specs.Matching.{are_same, is_near, distance, days_apart, turn, id_of, meets, is_open, run_pass, somes, is_among, next_pass, no_match, matched_among}
 use Rattle.bank_import.specs.Laws.{Rising, NoWorse}
-use Rattle.bank_import.specs.Second.{made, IsOwn, IsAfter, HaveIdsOrRows, MadeRise, LawOfRows}
+use Rattle.bank_import.specs.Second.{but_payee, made, IsOwn, IsAfter, HaveIdsOrRows, MadeRise, LawOfRows}
 use Rattle.bank_import.proofs.Passes.{Test}
 use Rattle.bank_import.proofs.Nearest.{id_same, id_itself, turn_none, turn_took}
-use Rattle.bank_import.proofs.Runs.{Matches, some_is, among_at, no_match_len, no_match_at, law_of_matches}
+use Rattle.bank_import.proofs.Runs.{Matches, some_is, among_at, no_match_len, no_match_at}
 use Rattle.bank_import.proofs.Grouped.{turn_none_id, none_can}
 use Rattle.bank_import.proofs.Best.{turn_best}
-use Rattle.bank_import.proofs.Again.{irreflexive, none_among, own_id, found, left_own}
+use Rattle.bank_import.proofs.Again.{irreflexive, none_among, own_id, found, left_again, left_own}
 use Rattle.bank_import.proofs.Outs.{out, AreOwn, among_from, out_len, out_some, out_not, out_keep, out_none, out_own, out_all, is_not, run_takes, Taken}
 use Rattle.bank_import.specs.declared.facts.Facts.{Facts}
 use Rattle.bank_import.specs.declared.facts.Candidate.{Candidate}
@@ -90,10 +90,10 @@ near_made r x d day e = three (int_eq r.amount r.amount) (nat_le (distance r (ma
 beside : (r : Facts) (d e : Candidate) → distance r e ≡ 0 → NoWorse r d e → (d ≡ e) ⊎ (text_cmp d.id e.id ≡ Less)
 beside r d e z n = ⊎_elim (λ (l : distance r d < distance r e). absurd (omega arith)) (λ m. m.1) n
 
-module _ (cs : List Candidate) (rise : Rising cs) (rs : List Facts) (ids : HaveIdsOrRows rs (matched_among cs rs)) (os : List Text) (up : MadeRise (matched_among cs rs) os)
-    (after : List Candidate) (is : IsAfter cs rs os after) where
+module _ (cs : List Candidate) (rise : Rising cs) (fs rs : List Facts) (same : map but_payee rs ≡ map but_payee fs) (ids : HaveIdsOrRows rs (matched_among cs fs)) (os : List Text)
+    (up : MadeRise (matched_among cs fs) os) (after : List Candidate) (is : IsAfter cs rs (matched_among cs fs) os after) where
   abbrev ms : Matches
-  ms = matched_among cs rs
+  ms = matched_among cs fs
 
   is_made : (j : ℕ) (d : Candidate) (o : IsOwn cs rs ms os j d) → slice_get ms j ≡ Some None → d ≡ made d.id o.entry
   is_made j d o e = ⊎_elim (λ m. m.1) (λ m. absurd (let bad : Some (Some m.0.id) ≡ Some None = sym m.2 ∙ e in cc)) o.how
@@ -105,17 +105,17 @@ module _ (cs : List Candidate) (rise : Rising cs) (rs : List Facts) (ids : HaveI
       let o = w.2 in
       let entry : o.entry ≡ r = some_is o.entry r (sym o.at ∙ a) in
       let x_is : d0.id ≡ x = some_is d0.id x (sym o.own ∙ b) in
-      let id0 : d0.financial_id ≡ Some k = own_id cs rise rs os i d0 o k (ap (λ (y : Facts). y.financial_id) entry ∙ e) in
+      let id0 : d0.financial_id ≡ Some k = own_id cs rise fs rs same os i d0 o k (ap (λ (y : Facts). y.financial_id) entry ∙ e) in
       let agrees0 : meets ById r d0 ≡ true = ap (λ q. are_same q d0.financial_id) e ∙ ap (are_same (Some k)) id0 ∙ id_itself k in
       let free0 : t d0.id ≡ false = ap t x_is ∙ free in
-      found cs rise rs os (id_of (turn ById r t after)) x
+      found cs rise fs rs same os (id_of (turn ById r t after)) x
       (λ n. let bad : true ≡ false = sym agrees0 ∙ turn_none ById r t after n d0 w.1 free0 in cc)
       (λ y h. let c = turn_best ById r t after is.rising y h in
-      ⊎_elim (λ l. sym c.id ∙ left_own cs rise rs os i r a d0 o entry c.candidate l.0 l.1 c.agrees (c.best d0 w.1 free0 agrees0) ∙ x_is)
+      ⊎_elim (λ l. sym c.id ∙ left_own cs rise fs rs same os i r a d0 o c.candidate l.0 l.1 c.agrees (c.best d0 w.1 free0 agrees0) ∙ x_is)
       (λ l. let s = l.1 in
-      ⊎_elim (λ k2. let id2 : c.candidate.financial_id ≡ Some k2.0 = own_id cs rise rs os l.0 c.candidate s k2.0 k2.1 in
-      let same : same_id k k2.0 ≡ true = sym (ap (λ q. are_same q c.candidate.financial_id) e ∙ ap (are_same (Some k)) id2) ∙ c.agrees in
-      let one : i ≡ l.0 = ids.apart i l.0 r s.entry k a s.at e (k2.1 ∙ ap (λ z. Some z) (sym (id_same k k2.0 same))) in
+      ⊎_elim (λ k2. let id2 : c.candidate.financial_id ≡ Some k2.0 = own_id cs rise fs rs same os l.0 c.candidate s k2.0 k2.1 in
+      let one_id : same_id k k2.0 ≡ true = sym (ap (λ q. are_same q c.candidate.financial_id) e ∙ ap (are_same (Some k)) id2) ∙ c.agrees in
+      let one : i ≡ l.0 = ids.apart i l.0 r s.entry k a s.at e (k2.1 ∙ ap (λ z. Some z) (sym (id_same k k2.0 one_id))) in
       some_is y x (sym (ap (λ z. Some z) c.id) ∙ sym s.own ∙ ap (slice_get os) (sym one) ∙ b))
       (λ n. let none : c.candidate.financial_id ≡ None = ap (λ (y : Candidate). y.financial_id) (is_made l.0 c.candidate s n.1) ∙ n.0 in
       let bad : true ≡ false = sym c.agrees ∙ ap (λ q. are_same q c.candidate.financial_id) e ∙ ap (are_same (Some k)) none in absurd (let b2 : true ≡ false = bad in cc))
@@ -174,12 +174,12 @@ module _ (cs : List Candidate) (rise : Rising cs) (rs : List Facts) (ids : HaveI
       let agrees0 : meets p r d0 ≡ true = ap (meets p r) made0 ∙ meet in
       let free0 : t d0.id ≡ false = ap t x_is ∙ free in
       let zero0 : distance r d0 ≡ 0 = ap (distance r) made0 ∙ same_day r.day (ids.days i r a).0 (ids.days i r a).1 in
-      found cs rise rs os (id_of (turn p r t after)) x
+      found cs rise fs rs same os (id_of (turn p r t after)) x
       (λ n. let bad : true ≡ false = sym agrees0 ∙ turn_none p r t after n d0 w.1 free0 in cc)
       (λ y h. let c = turn_best p r t after is.rising y h in
       let took = turn_took p r t after y h in
       let open_y : t c.candidate.id ≡ false = ap t c.id ∙ took.free in
-      ⊎_elim (λ l. absurd (let bad : true ≡ false = sym c.agrees ∙ (law_of_matches cs rs).left i r a un p c.candidate l.0 l.1 in cc))
+      ⊎_elim (λ l. absurd (let bad : true ≡ false = sym c.agrees ∙ left_again cs rise fs rs same os i r a un p c.candidate l.0 l.1 in cc))
       (λ l. ⊎_elim (λ (one : l.0 ≡ i). some_is y x (sym (ap (λ z. Some z) c.id) ∙ sym l.1.own ∙ ap (slice_get os) one ∙ b))
       (λ q. ⊎_elim (λ g. absurd (let bad : true ≡ false = sym g ∙ open_y in cc))
       (λ g. let above : text_cmp x c.candidate.id ≡ Less = up i l.0 x c.candidate.id g.0 b l.1.own un g.1 in
@@ -251,4 +251,4 @@ module _ (cs : List Candidate) (rise : Rising cs) (rs : List Facts) (ids : HaveI
       ∙ pass3 ∙ out_all rs os m2 is.len len2 own2
 
 pub law_of_rows : LawOfRows
-law_of_rows cs rise rs ids os up after is = again cs rise rs ids os up after is
+law_of_rows cs rise rs ss same ids os up after is = again cs rise rs ss same ids os up after is

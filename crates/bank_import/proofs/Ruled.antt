@@ -1,21 +1,30 @@
 -- What rules leave of a transaction, and what they make of it where payees were added.
-use Rattle.std.proofs.Common.{◌≡◌, Bool, true, false, cond, List, [], ◌∷◌, Option, Some, None, refl, sym, ap, ◌∙◌, inl, inr, subst}
+use Rattle.std.proofs.Common.{◌≡◌, Bool, true, false, cond, List, [], ◌∷◌, Option, Some, None, refl, sym, ap, ◌∙◌, inl, inr}
 use Rattle.std.specs.Prelude.{◌&&◌, ◌||◌, not}
-use Rattle.std.specs.Option.{is_none}
-use Rattle.std.specs.List.{fold, filter_map}
+use Rattle.std.specs.Option.{is_none, option_map}
+use Rattle.std.specs.List.{fold, filter_map, list_all, list_any}
 use Rattle.std.specs.FinMap.{get, entries}
 use Rattle.finite_sums.specs.Maps.{Text, Texts, some_and}
 use Rattle.book_rows.specs.declared.rows.Rows.{Rows}
 use Rattle.book_rows.specs.declared.rows.TxRow.{TxRow}
 use Rattle.book_rows.specs.declared.rows.GroupRow.{GroupRow}
 use Rattle.book_rows.specs.declared.rows.CategoryRow.{CategoryRow}
-use Rattle.book_rows.specs.Live.{is_live_payee, is_live_category}
+use Rattle.book_rows.specs.declared.rows.CategoryMappingRow.{CategoryMappingRow}
+use Rattle.book_rows.specs.declared.rows.PayeeMappingRow.{PayeeMappingRow}
+use Rattle.book_rows.specs.Live.{is_live_payee, is_live_category, mapped, payee_of}
 use Rattle.split_transfer.specs.Pairs.{only_where, names_back, partner_of}
 use Rattle.book_edits.specs.Checks.{same_id}
 use Rattle.rule_engine.specs.declared.rule.Action.{Action}
 use Rattle.rule_engine.specs.declared.rule.Action.TheVariants.{SetDescription, SetCategory, SetNotes, SetCleared, PrependNotes, AppendNotes, LinkSchedule}
+use Rattle.rule_engine.specs.declared.rule.CondField.{CondField}
+use Rattle.rule_engine.specs.declared.rule.CondField.TheVariants.{Acct, Description, Category, ImportedDescription, Notes, Amount, Date, Cleared}
+use Rattle.rule_engine.specs.declared.rule.CondValue.{CondValue}
+use Rattle.rule_engine.specs.declared.rule.Condition.{Condition}
 use Rattle.rule_engine.specs.declared.rule.Rule.{Rule}
-use Rattle.rule_engine.specs.Running.{fires, if_given, takes_none, acted, applied, run, read_live, rules_of}
+use Rattle.rule_engine.specs.declared.rule.RuleOp.{RuleOp}
+use Rattle.rule_engine.specs.declared.rule.RuleOp.TheVariants.{And, Or}
+use Rattle.rule_engine.specs.Conditions.{holds, resolved_row, with_ids, resolved_value, resolved_condition, holds_in}
+use Rattle.rule_engine.specs.Running.{fires_by, fires, if_given, takes_none, acted, applied, run, read_live, rules_of}
 use Rattle.rule_engine.specs.Scores.{ranked}
 use Rattle.bank_import.specs.Laws.{IsIn}
 use Rattle.bank_import.proofs.Datasets.{SameElse}
@@ -65,7 +74,7 @@ fold_leaves f each x (a ∷ xs) = leaves_trans x (f x a) (fold f (f x a) xs) (ea
 
 applied_leaves : (rows : Rows) (x : TxRow) (r : Rule) → Leaves x (applied rows x r)
 unfolding applied
-applied_leaves rows x r = leaves_cond (fires r x) x (fold (acted rows) x r.actions) x (fold_leaves (acted rows) (acted_leaves rows) x r.actions) (leaves x)
+applied_leaves rows x r = leaves_cond (fires rows r x) x (fold (acted rows) x r.actions) x (fold_leaves (acted rows) (acted_leaves rows) x r.actions) (leaves x)
 
 pub run_leaves : (rows : Rows) (rules : List Rule) (x : TxRow) → Leaves x (run rows rules x)
 unfolding run
@@ -77,10 +86,52 @@ abbrev live_by : Texts CategoryRow → Texts GroupRow → Text → Bool
 live_by categories groups id =
     some_and (λ (c : CategoryRow). not c.tombstone && some_and (λ g. some_and (λ (row : GroupRow). not row.tombstone) (get groups g)) c.cat_group) (get categories id)
 
--- where no action gives a payee that is live in one of them alone, rules make the same of a transaction that hangs together with no other
+-- where ids stand for the same, and no action gives a payee that is live in one of them alone, rules make the same of a transaction that hangs together with no other
 module _ (r s : Rows) (same : SameElse r s) where
   same_category : (id : Text) → is_live_category s id ≡ is_live_category r id
   same_category id = ap (λ m. live_by m s.groups id) same.categories ∙ ap (λ g. live_by r.categories g id) same.groups
+
+  -- ---- what ids stand for
+
+  same_row : (x : TxRow) → resolved_row s x ≡ resolved_row r x
+  same_row x =
+      ap (λ (m : Texts CategoryMappingRow). record x { category = option_map (mapped (λ (c : CategoryMappingRow). c.transfer_id) m) x.category; description = payee_of s x }) same.category_mappings
+      ∙ ap (λ (m : Texts PayeeMappingRow). record (resolved_row r x) { description = option_map (mapped (λ (p : PayeeMappingRow). p.target_id) m) x.description }) same.payee_mappings
+
+  same_value : (field : CondField) (value : CondValue) → resolved_value s field value ≡ resolved_value r field value
+  same_value Acct value = refl
+  same_value Description value = ap (λ (m : Texts PayeeMappingRow). with_ids (mapped (λ (p : PayeeMappingRow). p.target_id) m) value) same.payee_mappings
+  same_value Category value = ap (λ (m : Texts CategoryMappingRow). with_ids (mapped (λ (c : CategoryMappingRow). c.transfer_id) m) value) same.category_mappings
+  same_value ImportedDescription value = refl
+  same_value Notes value = refl
+  same_value Amount value = refl
+  same_value Date value = refl
+  same_value Cleared value = refl
+
+  same_holds : (x : TxRow) (c : Condition) → holds_in s x c ≡ holds_in r x c
+  unfolding holds_in
+  same_holds x c =
+      ap (λ y. holds y (resolved_condition s c)) (same_row x)
+      ∙ ap (λ v. holds (resolved_row r x) (record c { value = v })) (same_value c.field c.value)
+
+  same_all : (x : TxRow) (cs : List Condition) → list_all (holds_in s x) cs ≡ list_all (holds_in r x) cs
+  same_all x [] = refl
+  same_all x (c ∷ cs) = ap (λ b. b && list_all (holds_in s x) cs) (same_holds x c) ∙ ap (λ b. holds_in r x c && b) (same_all x cs)
+
+  same_any : (x : TxRow) (cs : List Condition) → list_any (holds_in s x) cs ≡ list_any (holds_in r x) cs
+  same_any x [] = refl
+  same_any x (c ∷ cs) = ap (λ b. b || list_any (holds_in s x) cs) (same_holds x c) ∙ ap (λ b. holds_in r x c || b) (same_any x cs)
+
+  same_fires_by : (op : RuleOp) (cs : List Condition) (x : TxRow) → fires_by s op cs x ≡ fires_by r op cs x
+  same_fires_by op [] x = refl
+  same_fires_by And (c ∷ cs) x = same_all x (c ∷ cs)
+  same_fires_by Or (c ∷ cs) x = same_any x (c ∷ cs)
+
+  same_fires : (rule : Rule) (x : TxRow) → fires s rule x ≡ fires r rule x
+  unfolding fires
+  same_fires rule x = same_fires_by rule.op rule.conditions x
+
+  -- ---- actions
 
   abbrev pub SameFor : Action → Type 0
   SameFor a = (payee : Text) → a ≡ SetDescription (Some payee) → is_live_payee s payee ≡ is_live_payee r payee
@@ -120,7 +171,9 @@ module _ (r s : Rows) (same : SameElse r s) where
 
   same_applied : (x : TxRow) (rule : Rule) → x.transferred_id ≡ None → ((a : Action) → IsIn rule.actions a → SameFor a) → applied s x rule ≡ applied r x rule
   unfolding applied
-  same_applied x rule e h = ap (λ y. cond (fires rule x) y x) (same_actions rule.actions x e h)
+  same_applied x rule e h =
+      ap (λ b. cond b (fold (acted s) x rule.actions) x) (same_fires rule x)
+      ∙ ap (λ y. cond (fires r rule x) y x) (same_actions rule.actions x e h)
 
   same_rules : (rules : List Rule) (x : TxRow) → x.transferred_id ≡ None → ((rule : Rule) (a : Action) → IsIn rules rule → IsIn rule.actions a → SameFor a)
       → fold (applied s) x rules ≡ fold (applied r) x rules

@@ -1,6 +1,6 @@
 -- What records make of the rows that their first import left: what they made before, with the payees that it made.
-use Rattle.std.proofs.Common.{◌≡◌, ℕ, zero, suc, ◌+◌, ◌<◌, ◌≤◌, Bool, true, false, cond, List, [], ◌∷◌, ◌++◌, length, Option, Some, None, refl, sym, ap, ◌∙◌, inl, inr, ◌⊎◌, ⊎_elim, subst, arith}
-use Rattle.std.specs.Prelude.{◌||◌, not, is_some, map as list_map}
+use Rattle.std.proofs.Common.{◌≡◌, ℕ, zero, suc, ◌+◌, ◌<◌, ◌≤◌, Bool, true, false, cond, List, [], ◌∷◌, length, Option, Some, None, refl, sym, ap, ◌∙◌, inl, inr, ◌⊎◌, ⊎_elim, subst, arith}
+use Rattle.std.specs.Prelude.{◌||◌, not, is_some}
 use Rattle.std.specs.Option.{option_map, option_and_then}
 use Rattle.std.specs.List.{slice_get}
 use Rattle.std.specs.FinMap.{get, entries}
@@ -12,7 +12,6 @@ use Rattle.book_rows.specs.declared.rows.TxRow.{TxRow}
 use Rattle.book_rows.specs.declared.rows.PayeeRow.{PayeeRow}
 use Rattle.book_rows.specs.declared.write.WriteValue.TheVariants.{IdOf}
 use Rattle.book_rows.specs.declared.write.Write.{Write}
-use Rattle.book_rows.specs.Live.{is_live_payee}
 use Rattle.book_edits.specs.Checks.{same_id, least_where}
 use Rattle.split_transfer.specs.After.{Ids, with_writes, makes}
 use Rattle.split_transfer.proofs.After.{with_writes-append}
@@ -32,10 +31,11 @@ use Rattle.bank_import.specs.Edits.{payee_by, payee_value, payee_writes, records
 use Rattle.bank_import.specs.Rest.{drafts_in, rows_in_drafts}
 use Rattle.bank_import.specs.Twice.{AreNew, LeavePayee, AskNothingNew, with_payee}
 use Rattle.bank_import.proofs.Nearest.{id_same, id_itself}
+use Rattle.bank_import.proofs.Mapped.{map_at, at_map}
 use Rattle.bank_import.proofs.Again.{irreflexive}
 use Rattle.bank_import.proofs.Least.{least_none, least_only, none_passes, same_least}
 use Rattle.bank_import.proofs.Blocks.{pick}
-use Rattle.bank_import.proofs.Places.{makes-first, makes-append}
+use Rattle.bank_import.proofs.Places.{makes-first}
 use Rattle.bank_import.proofs.Datasets.{SameElse, then_else, records_else, records_payees, payee_with, payees_only, payee_other, payee_made}
 use Rattle.bank_import.proofs.NewNames.{place_name, names_once, names_found, names_first}
 use Rattle.bank_import.proofs.Ruled.{SameFor, same_run}
@@ -50,16 +50,6 @@ some_is : {X : Type 0} (x y : X) → Some x ≡ Some y → x ≡ y
 some_is x y h = cc
 
 -- ---- lists
-
-pub map_at : {X Y : Type 0} (f : X → Y) (xs : List X) (i : ℕ) (y : Y) → slice_get (list_map f xs) i ≡ Some y → (x : X) × (slice_get xs i ≡ Some x) × (f x ≡ y)
-map_at f [] i y h = no_some y h
-map_at f (x ∷ xs) zero y h = (x, refl, some_is (f x) y h)
-map_at f (x ∷ xs) (suc i) y h = map_at f xs i y h
-
-pub at_map : {X Y : Type 0} (f : X → Y) (xs : List X) (i : ℕ) (x : X) → slice_get xs i ≡ Some x → slice_get (list_map f xs) i ≡ Some (f x)
-at_map f [] i x h = no_some x h
-at_map f (y ∷ xs) zero x h = ap (λ z. Some (f z)) (some_is y x h)
-at_map f (y ∷ xs) (suc i) x h = at_map f xs i x h
 
 below : {X : Type 0} (xs : List X) (k : ℕ) (x : X) → slice_get xs k ≡ Some x → k < length xs
 below [] k x h = no_some x h
@@ -177,28 +167,6 @@ module _ (ids : Ids) (rows : Rows) (account : Text) (es : List Entry) where
 
   name_makes : (k : ℕ) → k < length names → makes ws k ≡ true
   name_makes k l = makes-first (payee_writes 0 names) rest k (ap (makes (payee_writes 0 names)) (let e : k ≡ 0 + k = omega arith in e) ∙ payee_makes names 0 k l)
-
-  -- it has the payee that rules gave it, or one that is made
-  pub record IsGiven (d : Draft) : Type 0 where
-    pub place : ℕ
-    pub is : given ids names d ≡ Some (ids place)
-    pub none : d.row.description ≡ None
-    pub makes : makes ws place ≡ true
-
-  pub given_how : (i : ℕ) (e : Entry) → slice_get es i ≡ Some e → (given ids names (draft_of rows account e) ≡ (draft_of rows account e).row.description) ⊎ IsGiven (draft_of rows account e)
-  given_how i e a = by (draft_of rows account e).wanted refl
-    where
-      by : (o : Option Text) → (draft_of rows account e).wanted ≡ o → (given ids names (draft_of rows account e) ≡ (draft_of rows account e).row.description) ⊎ IsGiven (draft_of rows account e)
-      by None w = inl (ap (λ t. pick ids None (payee_by names t (draft_of rows account e).row.description)) w ∙ plain_given ids names (draft_of rows account e).row.description)
-      by (Some n) w =
-          let f = names_found ds i (draft_of rows account e) n (at_map (draft_of rows account) es i e a) w in
-          let few : f.0 < length names = (let q = place_name names (folded n) f.0 f.1 in below names f.0 q.0 q.1) in
-          inr (record {
-            place = f.0;
-            is = ap (λ t. pick ids None (payee_by names t (draft_of rows account e).row.description)) w ∙ ap (λ t. pick ids None (option_map (λ at. IdOf at) t)) f.1;
-            none = (wants rows account e n w).2;
-            makes = name_makes f.0 few;
-          })
 
   module _ (new : AreNew ids rows ws) where
     apart : (a b : ℕ) → 0 ≤ a → a < b → b < 0 + length names → ids a ≡ ids b → ⊥

@@ -1,5 +1,5 @@
 -- A statement that comes again writes nothing.
-use Rattle.std.proofs.Common.{◌≡◌, List, [], Option, Some, Ok, refl, sym, ap, ◌∙◌, subst}
+use Rattle.std.proofs.Common.{◌≡◌, List, [], Option, Some, Ok, sym, ap, ◌∙◌, subst}
 use Rattle.std.specs.Prelude.{not, map as list_map}
 use Rattle.std.specs.FinMap.{get}
 use Rattle.finite_sums.specs.Maps.{Text, some_and}
@@ -25,8 +25,8 @@ use Rattle.bank_import.proofs.Rows.{law_of_rows}
 use Rattle.bank_import.proofs.Resting.{law_of_rest}
 use Rattle.bank_import.proofs.Dated.{statement_dated}
 use Rattle.bank_import.proofs.Untold.{leaves_payee}
-use Rattle.bank_import.proofs.Settled.{ws, later, later_else}
-use Rattle.bank_import.proofs.Left.{own_ids, drafts2, ss, is_after, are_full, have_own, made_rise, drafts_are}
+use Rattle.bank_import.proofs.Settled.{ms, ws, later, later_else}
+use Rattle.bank_import.proofs.Left.{own_ids, found_is, rs, ss, same_again, is_after, are_full, have_own, made_rise, drafts_are}
 
 module _ (ids : Ids) (rows : Rows) (account : Text) (es : List Entry) (text : Text) (said : statement text ≡ Ok es) (new : AreNew ids rows (ws ids rows account es)) (own : HaveOwn rows account es)
     (asked : AskNothingNew ids rows account es (ws ids rows account es)) where
@@ -36,17 +36,19 @@ module _ (ids : Ids) (rows : Rows) (account : Text) (es : List Entry) (text : Te
   found_again : matched_among (candidates next account) (ss ids rows account es) ≡ list_map (λ x. Some x) (own_ids ids rows account es)
   found_again =
       let dated = statement_dated text es said in
-      law_of_rows (candidates rows account) (law_of_candidates.rise rows account) (ss ids rows account es) (have_own ids rows account es new dated own) (own_ids ids rows account es)
-      (made_rise ids rows account es new dated own) (candidates next account) (is_after ids rows account es new dated)
+      law_of_rows (candidates rows account) (law_of_candidates.rise rows account) (rs ids rows account es) (ss ids rows account es) (same_again ids rows account es)
+      (have_own ids rows account es new dated own) (own_ids ids rows account es) (made_rise ids rows account es new dated own) (candidates next account)
+      (subst (λ (m : List (Option Text)). IsAfter (candidates rows account) (ss ids rows account es) m (own_ids ids rows account es) (candidates next account)) (found_is ids rows account es)
+      (is_after ids rows account es new dated))
 
   matched_again : matched next account (rows_in_drafts (drafts_in next account es)) ≡ list_map (λ x. Some x) (own_ids ids rows account es)
   unfolding matched
-  matched_again = ap (λ (d : List Draft). matched_among (candidates next account) (list_map facts_of (rows_in_drafts d))) (drafts_are ids rows account es new asked) ∙ found_again
+  matched_again = ap (λ (d : List Draft). matched_among (candidates next account) (list_map (facts_of next) (rows_in_drafts d))) (drafts_are ids rows account es new asked) ∙ found_again
 
   -- what the first import left
-  pub after_first : IsAfter (candidates rows account) (facts_in next account es) (own_ids ids rows account es) (candidates next account)
+  pub after_first : IsAfter (candidates rows account) (facts_in next account es) (ms ids rows account es) (own_ids ids rows account es) (candidates next account)
   after_first =
-      subst (λ (d : List Draft). IsAfter (candidates rows account) (list_map facts_of (rows_in_drafts d)) (own_ids ids rows account es) (candidates next account))
+      subst (λ (d : List Draft). IsAfter (candidates rows account) (list_map (facts_of next) (rows_in_drafts d)) (ms ids rows account es) (own_ids ids rows account es) (candidates next account))
       (sym (drafts_are ids rows account es new asked)) (is_after ids rows account es new (statement_dated text es said))
 
   pub full_again : AreFull next (drafts_in next account es) (own_ids ids rows account es)
@@ -89,7 +91,8 @@ comes_again ids rows edit es ws' f =
 
 abbrev Leaves : Ids → Rows → Text → List Entry → List Write → Type 0
 Leaves ids rows account es l = (os : List Text)
-    × IsAfter (candidates rows account) (facts_in (with_writes ids rows l) account es) os (candidates (with_writes ids rows l) account)
+    × IsAfter (candidates rows account) (facts_in (with_writes ids rows l) account es) (matched rows account (rows_in_drafts (drafts_in rows account es))) os
+    (candidates (with_writes ids rows l) account)
     × AreFull (with_writes ids rows l) (drafts_in (with_writes ids rows l) account es) os
 
 leaves : (ids : Ids) (rows : Rows) (edit : ImportEdit) (es : List Entry) (ws' : List Write) → IsFirstImport ids rows edit es ws' → Leaves ids rows edit.account es ws'

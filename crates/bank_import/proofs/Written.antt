@@ -69,7 +69,7 @@ fold_keeps f each x (a ∷ xs) = keeps_trans x (f x a) (fold f (f x a) xs) (each
 
 applied_keeps : (rows : Rows) (x : TxRow) (r : Rule) → Keeps x (applied rows x r)
 unfolding applied
-applied_keeps rows x r = keeps_cond (fires r x) x (fold (acted rows) x r.actions) x (fold_keeps (acted rows) (acted_keeps rows) x r.actions) (keeps x)
+applied_keeps rows x r = keeps_cond (fires rows r x) x (fold (acted rows) x r.actions) x (fold_keeps (acted rows) (acted_keeps rows) x r.actions) (keeps x)
 
 run_keeps : (rows : Rows) (rules : List Rule) (x : TxRow) → Keeps x (run rows rules x)
 unfolding run

@@ -85,4 +85,4 @@ pub record LawOfCandidates : Type 0 where
   -- they come in the order of their ids
   pub rise : (rows : Rows) (account : Text) → Rising (candidates rows account)
   -- each such transaction is one, and no other is
-  pub told : (rows : Rows) (account : Text) (c : Candidate) → IsIn (candidates rows account) c ↔ ((x : TxRow) × IsWhole rows account c.id x × (c ≡ candidate_of c.id x))
+  pub told : (rows : Rows) (account : Text) (c : Candidate) → IsIn (candidates rows account) c ↔ ((x : TxRow) × IsWhole rows account c.id x × (c ≡ candidate_of rows c.id x))

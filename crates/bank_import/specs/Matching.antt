@@ -6,6 +6,7 @@ use Rattle.std.specs.Ordering.{int_eq}
 use Rattle.finite_sums.specs.Maps.{Text}
 use Rattle.book_rows.specs.declared.rows.Rows.{Rows}
 use Rattle.book_rows.specs.declared.rows.TxRow.{TxRow}
+use Rattle.book_rows.specs.Live.{payee_of}
 use Rattle.book_rows.specs.Parts.{account_txs}
 use Rattle.book_edits.specs.Checks.{same_id}
 use Rattle.split_transfer.specs.Pairs.{live_row}
@@ -21,8 +22,9 @@ use Rattle.bank_import.specs.declared.facts.Pass.TheVariants.{ById, ByPayee, ByA
 abbrev pub day_of : TxRow → Option ℤ
 day_of x = option_and_then numbered x.date
 
-abbrev pub facts_of : TxRow → Facts
-facts_of x = record { day = day_of x; amount = x.amount; payee = x.description; financial_id = x.financial_id }
+-- its payee is the one that its own stands for
+abbrev pub facts_of : Rows → TxRow → Facts
+facts_of rows x = record { day = day_of x; amount = x.amount; payee = payee_of rows x; financial_id = x.financial_id }
 
 -- both are there and equal
 abbrev pub are_same : Option Text → Option Text → Bool
@@ -51,15 +53,15 @@ meets ByAmount r c = is_near r c
 
 -- ---- candidates
 
-abbrev pub candidate_of : Text → TxRow → Candidate
-candidate_of id x = record { id = id; day = day_of x; amount = x.amount; payee = x.description; financial_id = x.financial_id }
+abbrev pub candidate_of : Rows → Text → TxRow → Candidate
+candidate_of rows id x = record { id = id; day = day_of x; amount = x.amount; payee = payee_of rows x; financial_id = x.financial_id }
 
-abbrev pub candidate_in : Text → TxRow → Option Candidate
-candidate_in id x = if x.is_child then None else Some (candidate_of id x)
+abbrev pub candidate_in : Rows → Text → TxRow → Option Candidate
+candidate_in rows id x = if x.is_child then None else Some (candidate_of rows id x)
 
 -- the transaction of an id, where it is live and no part of a split
 abbrev pub candidate_at : Rows → Text → Option Candidate
-candidate_at rows id = option_and_then (candidate_in id) (live_row rows id)
+candidate_at rows id = option_and_then (candidate_in rows id) (live_row rows id)
 
 -- the transactions of an account that a record may match, in the order of their ids
 unfoldable pub candidates : Rows → Text → List Candidate
@@ -122,4 +124,4 @@ matched_among cs rs = next_pass ByAmount cs rs (next_pass ByPayee cs rs (next_pa
 
 -- for each record, as the transaction that it makes, the transaction of the account that it matches
 unfoldable pub matched : Rows → Text → List TxRow → List (Option Text)
-matched rows account xs = matched_among (candidates rows account) (map facts_of xs)
+matched rows account xs = matched_among (candidates rows account) (map (facts_of rows) xs)

@@ -11,7 +11,7 @@ use Rattle.bank_import.specs.declared.facts.Facts.{Facts}
 use Rattle.bank_import.specs.Matching.{facts_of, candidates, matched_among, matched}
 use Rattle.bank_import.specs.Drafts.{draft_of}
 use Rattle.bank_import.specs.Edits.{missing, payee_value, missing_category, takes_none, entries_writes}
-use Rattle.bank_import.specs.Second.{IsAfter, HaveIdsOrRows, MadeRise}
+use Rattle.bank_import.specs.Second.{but_payee, IsAfter, HaveIdsOrRows, MadeRise}
 
 -- a transaction has all that a record would write into it
 pub record IsFull (rows : Rows) (id : Text) (x : TxRow) (d : Draft) : Type 0 where
@@ -37,17 +37,17 @@ pub record AreFull (rows : Rows) (ds : List Draft) (os : List Text) : Type 0 whe
   pub full : (i : ℕ) (d : Draft) (o : Text) → slice_get ds i ≡ Some d → slice_get os i ≡ Some o → (x : TxRow) × (finite.get rows.txs o ≡ Some x) × IsFull rows o x d
 
 abbrev pub facts_in : Rows → Text → List Entry → List Facts
-facts_in rows account es = map facts_of (rows_in_drafts (drafts_in rows account es))
+facts_in rows account es = map (facts_of rows) (rows_in_drafts (drafts_in rows account es))
 
 -- an import of the same records into later rows
 pub record IsAgain (rows later : Rows) (account : Text) (es : List Entry) (os : List Text) : Type 0 where
-  -- rules and payees make of each record what they made before, as far as it is compared
-  pub same : facts_in later account es ≡ facts_in rows account es
+  -- rules make of each record what they made before, as far as it is compared, but for its payee
+  pub same : map but_payee (facts_in later account es) ≡ map but_payee (facts_in rows account es)
   -- each record has a day, and an id of its own, or no id and made a row; and the ids of all made rows rise
-  pub own : HaveIdsOrRows (facts_in rows account es) (matched_among (candidates rows account) (facts_in rows account es))
+  pub own : HaveIdsOrRows (facts_in later account es) (matched_among (candidates rows account) (facts_in rows account es))
   pub rise : MadeRise (matched_among (candidates rows account) (facts_in rows account es)) os
   -- the later candidates are those that a first import leaves
-  pub after : IsAfter (candidates rows account) (facts_in rows account es) os (candidates later account)
+  pub after : IsAfter (candidates rows account) (facts_in later account es) (matched_among (candidates rows account) (facts_in rows account es)) os (candidates later account)
   pub full : AreFull later (drafts_in later account es) os
 
 pub record LawOfRest : Type 0 where

@@ -19,20 +19,24 @@ filled r c = record c { payee = or_else c.payee r.payee; financial_id = or_else 
 abbrev pub made : Text → Facts → Candidate
 made x r = record { id = x; day = r.day; amount = r.amount; payee = r.payee; financial_id = r.financial_id }
 
--- the row that the i-th record matched or made
+-- what is compared of a record but for its payee. That may be another one when the record comes again, since its first import may have made it
+abbrev pub but_payee : Facts → Facts
+but_payee r = record r { payee = None }
+
+-- the row that the i-th record matched or made, by the payees that records have when they come again
 pub record IsOwn (cs : List Candidate) (rs : List Facts) (ms : List (Option Text)) (os : List Text) (i : ℕ) (d : Candidate) : Type 0 where
   pub entry : Facts
   pub at : slice_get rs i ≡ Some entry
   pub own : slice_get os i ≡ Some d.id
   pub how : ((slice_get ms i ≡ Some None) × (d ≡ made d.id entry)) ⊎ ((c : Candidate) × IsIn cs c × (slice_get ms i ≡ Some (Some c.id)) × (d ≡ filled entry c))
 
--- the candidates after the import: the own row of each record, and others that nobody took
-pub record IsAfter (cs : List Candidate) (rs : List Facts) (os : List Text) (after : List Candidate) : Type 0 where
+-- the candidates after an import with these matches: the own row of each record, and others that nobody took
+pub record IsAfter (cs : List Candidate) (rs : List Facts) (ms : List (Option Text)) (os : List Text) (after : List Candidate) : Type 0 where
   pub rising : Rising after
   pub len : length os ≡ length rs
   pub apart : (i j : ℕ) (x : Text) → slice_get os i ≡ Some x → slice_get os j ≡ Some x → i ≡ j
-  pub owned : (i : ℕ) (r : Facts) → slice_get rs i ≡ Some r → (d : Candidate) × IsIn after d × IsOwn cs rs (matched_among cs rs) os i d
-  pub from : (d : Candidate) → IsIn after d → (IsIn cs d × (is_among (somes (matched_among cs rs)) d.id ≡ false)) ⊎ ((i : ℕ) × IsOwn cs rs (matched_among cs rs) os i d)
+  pub owned : (i : ℕ) (r : Facts) → slice_get rs i ≡ Some r → (d : Candidate) × IsIn after d × IsOwn cs rs ms os i d
+  pub from : (d : Candidate) → IsIn after d → (IsIn cs d × (is_among (somes ms) d.id ≡ false)) ⊎ ((i : ℕ) × IsOwn cs rs ms os i d)
 
 -- each record has an id of its own
 pub record HaveIds (rs : List Facts) : Type 0 where
@@ -41,8 +45,8 @@ pub record HaveIds (rs : List Facts) : Type 0 where
 
 -- each record then finds its own row again
 abbrev pub LawOfSecond : Type 0
-LawOfSecond = (cs : List Candidate) → Rising cs → (rs : List Facts) → HaveIds rs → (os : List Text) (after : List Candidate) → IsAfter cs rs os after
-    → matched_among after rs ≡ map (λ x. Some x) os
+LawOfSecond = (cs : List Candidate) → Rising cs → (rs ss : List Facts) → map but_payee ss ≡ map but_payee rs → HaveIds ss → (os : List Text) (after : List Candidate)
+    → IsAfter cs ss (matched_among cs rs) os after → matched_among after ss ≡ map (λ x. Some x) os
 
 -- each record has a day, and an id of its own, or no id and matched nothing, so that it made a row
 pub record HaveIdsOrRows (rs : List Facts) (ms : List (Option Text)) : Type 0 where
@@ -55,5 +59,6 @@ abbrev pub MadeRise : List (Option Text) → List Text → Type 0
 MadeRise ms os = (i j : ℕ) (x y : Text) → i < j → slice_get os i ≡ Some x → slice_get os j ≡ Some y → slice_get ms i ≡ Some None → slice_get ms j ≡ Some None → text_cmp x y ≡ Less
 
 abbrev pub LawOfRows : Type 0
-LawOfRows = (cs : List Candidate) → Rising cs → (rs : List Facts) → HaveIdsOrRows rs (matched_among cs rs) → (os : List Text) → MadeRise (matched_among cs rs) os
-    → (after : List Candidate) → IsAfter cs rs os after → matched_among after rs ≡ map (λ x. Some x) os
+LawOfRows = (cs : List Candidate) → Rising cs → (rs ss : List Facts) → map but_payee ss ≡ map but_payee rs → HaveIdsOrRows ss (matched_among cs rs)
+    → (os : List Text) → MadeRise (matched_among cs rs) os → (after : List Candidate) → IsAfter cs ss (matched_among cs rs) os after
+    → matched_among after ss ≡ map (λ x. Some x) os

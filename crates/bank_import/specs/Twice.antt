@@ -1,5 +1,5 @@
 -- A statement that is imported twice, with nothing between.
-use Rattle.std.specs.Prelude.{◌≡◌, ◌≢◌, ℕ, ◌<◌, true, List, [], Option, Some, None, Ok}
+use Rattle.std.specs.Prelude.{◌≡◌, ℕ, ◌<◌, true, List, [], Some, None, Ok}
 use Rattle.std.specs.List.{slice_get}
 use Rattle.std.specs.FinMap as finite
 use Rattle.std.specs.declared.cmp.Ordering.TheVariants.{Less}
@@ -7,12 +7,13 @@ use Rattle.finite_sums.specs.Maps.{Text, text_cmp}
 use Rattle.book_rows.specs.declared.rows.Rows.{Rows}
 use Rattle.book_rows.specs.declared.rows.TxRow.{TxRow}
 use Rattle.book_rows.specs.declared.write.Write.{Write}
+use Rattle.book_rows.specs.Live.{mapped_payee}
 use Rattle.split_transfer.specs.After.{Ids, with_writes, makes}
 use Rattle.rule_engine.specs.declared.rule.Action.TheVariants.{SetDescription}
 use Rattle.rule_engine.specs.declared.rule.CondField.TheVariants.{Description}
 use Rattle.rule_engine.specs.declared.rule.Condition.{Condition}
 use Rattle.rule_engine.specs.declared.rule.Rule.{Rule}
-use Rattle.rule_engine.specs.Conditions.{id_holds}
+use Rattle.rule_engine.specs.Conditions.{with_ids, id_holds}
 use Rattle.rule_engine.specs.Running.{run, rules_of}
 use Rattle.bank_import.specs.declared.edit.ImportEdit.{ImportEdit}
 use Rattle.bank_import.specs.declared.entry.Entry.{Entry}
@@ -29,8 +30,7 @@ pub record AreNew (ids : Ids) (rows : Rows) (ws : List Write) : Type 0 where
   -- no transaction and no payee has one
   pub txs : (at : ℕ) → makes ws at ≡ true → finite.get rows.txs (ids at) ≡ None
   pub payees : (at : ℕ) → makes ws at ≡ true → finite.get rows.payees (ids at) ≡ None
-  -- no transaction names one as its payee, and no rule gives one
-  pub unnamed : (at : ℕ) (id : Text) (x : TxRow) → makes ws at ≡ true → finite.get rows.txs id ≡ Some x → x.description ≢ Some (ids at)
+  -- no rule gives one as a payee
   pub ungiven : (at : ℕ) (r : Rule) → makes ws at ≡ true → IsIn (rules_of rows) r → IsIn r.actions (SetDescription (Some (ids at))) → ⊥
   -- they rise in the order of their writes
   pub rise : (a b : ℕ) → a < b → makes ws a ≡ true → makes ws b ≡ true → text_cmp (ids a) (ids b) ≡ Less
@@ -60,9 +60,11 @@ pub record IsFirstImport (ids : Ids) (rows : Rows) (edit : ImportEdit) (es : Lis
   pub own : HaveOwn rows edit.account es
   pub asked : AskNothingNew ids rows edit.account es ws
 
--- a rule that does not tell a payee from none: each condition on the payee answers alike for both, and no action takes the payee away
-pub record TellsNot (payee : Text) (r : Rule) : Type 0 where
-  pub conditions : (c : Condition) → IsIn r.conditions c → c.field ≡ Description → id_holds c.op c.value (Some payee) ≡ id_holds c.op c.value None
+-- a rule that does not tell a payee from none: each condition on the payee answers alike for what the payee stands for and for none, and no
+-- action takes the payee away
+pub record TellsNot (rows : Rows) (payee : Text) (r : Rule) : Type 0 where
+  pub conditions : (c : Condition) → IsIn r.conditions c → c.field ≡ Description
+      → id_holds c.op (with_ids (mapped_payee rows) c.value) (Some (mapped_payee rows payee)) ≡ id_holds c.op (with_ids (mapped_payee rows) c.value) None
   pub actions : IsIn r.actions (SetDescription None) → ⊥
 
 pub record LawOfImports : Type 0 where
@@ -70,7 +72,8 @@ pub record LawOfImports : Type 0 where
   pub again : (ids : Ids) (rows : Rows) (edit : ImportEdit) (es : List Entry) (ws : List Write) → IsFirstImport ids rows edit es ws → import_writes (with_writes ids rows ws) edit ≡ Ok []
   -- since the candidates are then each record's own row and others that nobody took, and each own row has all that its record would write
   pub left : (ids : Ids) (rows : Rows) (edit : ImportEdit) (es : List Entry) (ws : List Write) → IsFirstImport ids rows edit es ws → (os : List Text)
-      × IsAfter (candidates rows edit.account) (facts_in (with_writes ids rows ws) edit.account es) os (candidates (with_writes ids rows ws) edit.account)
+      × IsAfter (candidates rows edit.account) (facts_in (with_writes ids rows ws) edit.account es) (matched rows edit.account (rows_in_drafts (drafts_in rows edit.account es))) os
+      (candidates (with_writes ids rows ws) edit.account)
       × AreFull (with_writes ids rows ws) (drafts_in (with_writes ids rows ws) edit.account es) os
   -- rules that don't tell a payee from none leave it to a record
-  pub untold : (rows : Rows) (account : Text) (e : Entry) (payee : Text) → ((r : Rule) → IsIn (rules_of rows) r → TellsNot payee r) → LeavePayee rows account e payee
+  pub untold : (rows : Rows) (account : Text) (e : Entry) (payee : Text) → ((r : Rule) → IsIn (rules_of rows) r → TellsNot rows payee r) → LeavePayee rows account e payee

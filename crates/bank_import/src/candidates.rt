@@ -19,7 +19,7 @@ fn candidate_at(book: &Book, id: &Txt) -> Result<Option<Candidate>, NoMemory>
     if row.is_child {
         return Ok(None);
     }
-    Ok(Some(candidate_of(id, row)?))
+    Ok(Some(candidate_of(book, id, row)?))
 }
 
 /// The transactions of an account that a record may match, in the order of their ids.

@@ -9,8 +9,7 @@ ghost use Rattle.bank_import.specs.declared.drafts.Draft.{Draft as DraftIs};
 use crate::entry::Entry;
 use crate::facts::{Facts, facts_of};
 use crate::payees::{payee_of, payees_of};
-use book_edits::writing::copied;
-use book_rows::{Book, TxRow};
+use book_rows::{Book, TxRow, copied};
 use field_values::{NoMemory, Txt};
 use rule_engine::{Rule, rules_of, run_rules};
 use std::alloc::Global;
@@ -106,12 +105,16 @@ pub(crate) fn drafts_of(
 }
 
 /// What is compared of the transactions of records.
-pub(crate) fn facts_of_drafts(alloc: Global, drafts: &[Draft]) -> Result<Vec<Facts>, NoMemory>
-    ensures { IfOk result (λ v. v.items ≡ map facts_of (map (λ (d : DraftIs). d.row) drafts.now)) }
+pub(crate) fn facts_of_drafts(
+    alloc: Global,
+    book: &Book,
+    drafts: &[Draft],
+) -> Result<Vec<Facts>, NoMemory>
+    ensures { IfOk result (λ v. v.items ≡ map (facts_of book.now.rows) (map (λ (d : DraftIs). d.row) drafts.now)) }
 {
     let mut found = Vec::new(alloc);
     for draft in drafts {
-        found.push(facts_of(&draft.row)?)?;
+        found.push(facts_of(book, &draft.row)?)?;
     }
     Ok(found)
 }

@@ -1,5 +1,8 @@
 //! What a statement says.
-use field_values::Txt;
+ghost use Rattle.std.specs.Prelude.{◌≡◌, IfOk};
+
+use book_rows::copied;
+use field_values::{NoMemory, Txt};
 
 /// A record of a statement.
 #[derive(Debug, PartialEq, Eq, Drop)]
@@ -14,6 +17,21 @@ pub struct Entry {
     pub notes: Option<Txt>,
     /// Its id, by which it is known when it comes again. An empty text is none.
     pub id: Option<Txt>,
+}
+
+impl Entry {
+    /// An equal entry.
+    pub fn copy(&self) -> Result<Entry, NoMemory>
+        ensures { IfOk result (λ e. e ≡ self.now) }
+    {
+        Ok(Entry {
+            date: self.date,
+            amount: self.amount,
+            payee: copied(&self.payee)?,
+            notes: copied(&self.notes)?,
+            id: copied(&self.id)?,
+        })
+    }
 }
 
 /// In which columns the fields of a record stand.

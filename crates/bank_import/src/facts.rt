@@ -1,11 +1,11 @@
 //! What is compared of a record and of a transaction.
 ghost use Rattle.std.specs.Prelude.{◌≡◌, IfOk};
 ghost use Rattle.std.specs.Option.{option_copied};
+ghost use Rattle.book_rows.specs.Live.{payee_of};
 ghost use Rattle.bank_import.specs.Matching.{day_of, facts_of, candidate_of, are_same, days_apart, distance, is_near, meets, is_nearer};
 
 use book_edits::given::same_id;
-use book_edits::writing::copied;
-use book_rows::TxRow;
+use book_rows::{Book, TxRow, copied};
 use field_values::{NoMemory, Txt};
 use rule_engine::numbered;
 
@@ -16,7 +16,7 @@ pub(crate) struct Facts {
     pub day: Option<i32>,
     /// In cents.
     pub amount: i64,
-    /// The id of its payee.
+    /// The id of the payee that its own stands for.
     pub payee: Option<Txt>,
     /// Its id in a statement.
     pub financial_id: Option<Txt>,
@@ -31,7 +31,7 @@ pub(crate) struct Candidate {
     pub day: Option<i32>,
     /// In cents.
     pub amount: i64,
-    /// The id of its payee.
+    /// The id of the payee that its own stands for.
     pub payee: Option<Txt>,
     /// Its id in a statement.
     pub financial_id: Option<Txt>,
@@ -73,27 +73,37 @@ fn day_of(row: &TxRow) -> Option<i32>
     }
 }
 
+/// The id of the payee that a transaction's own stands for, by the mappings of a book.
+fn resolved_payee(book: &Book, row: &TxRow) -> Result<Option<Txt>, NoMemory>
+    ensures { IfOk result (λ o. o ≡ payee_of book.now.rows row.now) }
+{
+    match book.resolved_payee(row) {
+        Some(id) => Ok(Some(id.copy()?)),
+        None => Ok(None),
+    }
+}
+
 /// What is compared of a transaction that a record makes.
-pub(crate) fn facts_of(row: &TxRow) -> Result<Facts, NoMemory>
-    ensures { IfOk result (λ f. f ≡ facts_of row.now) }
+pub(crate) fn facts_of(book: &Book, row: &TxRow) -> Result<Facts, NoMemory>
+    ensures { IfOk result (λ f. f ≡ facts_of book.now.rows row.now) }
 {
     Ok(Facts {
         day: day_of(row),
         amount: row.amount,
-        payee: copied(&row.description)?,
+        payee: resolved_payee(book, row)?,
         financial_id: copied(&row.financial_id)?,
     })
 }
 
 /// What is compared of the transaction of an id.
-pub(crate) fn candidate_of(id: &Txt, row: &TxRow) -> Result<Candidate, NoMemory>
-    ensures { IfOk result (λ c. c ≡ candidate_of id.now row.now) }
+pub(crate) fn candidate_of(book: &Book, id: &Txt, row: &TxRow) -> Result<Candidate, NoMemory>
+    ensures { IfOk result (λ c. c ≡ candidate_of book.now.rows id.now row.now) }
 {
     Ok(Candidate {
         id: id.copy()?,
         day: day_of(row),
         amount: row.amount,
-        payee: copied(&row.description)?,
+        payee: resolved_payee(book, row)?,
         financial_id: copied(&row.financial_id)?,
     })
 }

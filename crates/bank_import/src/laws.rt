@@ -19,13 +19,14 @@ pub fn matches_are_nearest()
     ensures { LawOfBest }
 {}
 
-/// A law: where each record has an id of its own, a second import finds each record's own row: the one that it filled or made.
+/// A law: where each record has an id of its own, a second import finds each record's own row: the one that it filled or made. Whatever
+/// payees the records have then, since the first may have made them.
 pub fn ids_are_found_again()
     ensures { LawOfSecond }
 {}
 
 /// A law: where each record has a day, and an id of its own, or no id and made a row, and the ids of all made rows rise in the order of
-/// the records, a second import finds each record's own row.
+/// the records, a second import finds each record's own row, whatever payees the records have then.
 pub fn rows_are_found_again()
     ensures { LawOfRows }
 {}
@@ -38,8 +39,8 @@ pub fn candidates_are_told()
 
 /// A law: an import writes nothing where no record wants a payee made and each matches a transaction that has all that it would write.
 /// So it is when a statement comes again, where each record has a day, and an id of its own, or no id and made a row, the ids of all made
-/// rows rise, the candidates are those that a first import leaves, rules and payees make of each record what they made before, as far as
-/// it is compared, no record wants a payee made then, and each one's own transaction has all.
+/// rows rise, the candidates are those that a first import leaves, rules make of each record what they made before, as far as it is
+/// compared, but for its payee, no record wants a payee made then, and each one's own transaction has all.
 pub fn imports_come_to_rest()
     ensures { LawOfRest }
 {}
@@ -67,12 +68,13 @@ pub fn statements_are_told()
 
 /// A law: a statement that comes again writes nothing, where the rows are those that the writes of its first import left.
 ///
-/// It is asked of the first import that it was accepted; that no transaction and no payee had an id that it makes, no transaction named
-/// one as its payee, and no rule gives one; that these ids rise in the order of the writes, as timestamps of one line do; that no two
-/// records have one id, and each without an id matched nothing, so that it made a row; and that rules make of each record for which the
-/// book has no payee, with any id that the import makes as its payee, what they make of it without a payee, but for that payee. The last
-/// holds of any rules that don't tell a payee from none: no condition on the payee answers otherwise for it, and no action takes the
-/// payee away. What is asked of records and of rules holds where each record has an id of its own and the book has no rules.
+/// It is asked of the first import that it was accepted; that no transaction and no payee had an id that it makes, and no rule gives one
+/// as a payee; that these ids rise in the order of the writes, as timestamps of one line do; that no two records have one id, and each
+/// without an id matched nothing, so that it made a row; and that rules make of each record for which the book has no payee, with any id
+/// that the import makes as its payee, what they make of it without a payee, but for that payee. The last holds of any rules that don't
+/// tell a payee from none: no condition on the payee answers otherwise for what it stands for, and no action takes the payee away.
+/// Nothing is asked of mappings: payees may have been merged before in any way. What is asked of records and of rules holds where each
+/// record has an id of its own and the book has no rules.
 ///
 /// Without these it is false. A record without an id that matched may find a nearer row, which a later record made. Of two records with
 /// one id the second may have filled a row that is nearer to the first. Equal records without ids change rows where the ids of the rows

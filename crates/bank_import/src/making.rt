@@ -140,7 +140,7 @@ fn drafts_writes(
     ensures { IfOk result (λ ws. ws.items ≡ drafts_writes book.now.rows account.now drafts.now) }
 {
     let names = new_names(alloc, drafts)?;
-    let facts = facts_of_drafts(alloc, drafts)?;
+    let facts = facts_of_drafts(alloc, book, drafts)?;
     let found = matched_by(alloc, book, account, facts.as_slice())?;
     let mut writes = payee_writes(alloc, names.as_slice())?;
     push_records(alloc, &mut writes, book, &names, drafts, found.as_slice())?;

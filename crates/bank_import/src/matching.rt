@@ -25,21 +25,21 @@ pub(crate) fn matched_by(
 }
 
 /// What is compared of transactions.
-fn facts_of_all(alloc: Global, rows: &[TxRow]) -> Result<Vec<Facts>, NoMemory>
-    ensures { IfOk result (λ v. v.items ≡ map facts_of rows.now) }
+fn facts_of_all(alloc: Global, book: &Book, rows: &[TxRow]) -> Result<Vec<Facts>, NoMemory>
+    ensures { IfOk result (λ v. v.items ≡ map (facts_of book.now.rows) rows.now) }
 {
     let mut found = Vec::new(alloc);
     for row in rows {
-        found.push(facts_of(row)?)?;
+        found.push(facts_of(book, row)?)?;
     }
     Ok(found)
 }
 
 /// For each record, given as the transaction that it makes, the id of the transaction of the account that it matches. Candidates are
 /// the live transactions of the account but for parts of splits, and none is matched twice. There are three passes, each over the
-/// records in order that have no match yet: first both have an id of a statement, and it is the same; then the amount and the payee are
-/// the same, and they are at most seven days apart; then the amount is, and they are at most seven days apart. In the second and the
-/// third not both have an id of a statement. Of the candidates that agree and that nobody took the nearest in days is taken, and of
+/// records in order that have no match yet: first both have an id of a statement, and it is the same; then the amount and the payees that
+/// theirs stand for by the mappings of the book are the same, and they are at most seven days apart; then the amount is, and they are at
+/// most seven days apart. In the second and the third not both have an id of a statement. Of the candidates that agree and that nobody took the nearest in days is taken, and of
 /// equally near ones that of the least id; one without a day is the farthest. It looks at the transactions of this account alone, once,
 /// and then a record at those of its id or of its amount.
 #[tactic(auto, unfolding(crate::specs::Matching::matched))]
@@ -52,6 +52,6 @@ pub fn matches(
     requires live { book.now.spent ≡ false }
     ensures { IfOk result (λ v. v.items ≡ matched book.now.rows account.now records.now) }
 {
-    let facts = facts_of_all(alloc, records)?;
+    let facts = facts_of_all(alloc, book, records)?;
     matched_by(alloc, book, account, facts.as_slice())
 }

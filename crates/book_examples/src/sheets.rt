@@ -1,15 +1,13 @@
 //! Sheets of small households. Expected values are written out by hand from the rules.
-ghost use Rattle.std.specs.Prelude.{◌≡◌, ◌≤◌, IsTrue, false};
+ghost use Rattle.std.specs.Prelude.{◌≡◌, IsTrue, false};
 ghost use Rattle.book_rows.specs.Months.{is_month};
 
 use crate::books::book_of;
 use book_rows::Book;
 use envelope_cells::name::Sheet;
 use envelope_cells::{CellKind, CellName, CellValues, sheet, sheet_text};
-use field_values::{Copied, Steps, Txt};
+use field_values::{Copied, Txt};
 use std::alloc::Global;
-use std::marker::Brand;
-use std::sync::ledger::{Blank, Ledger};
 use std::test::Fail;
 
 /// An account, an income category and one of expenses. In January 2024 1,000.00 come in and 350.00 go out, of 300.00 that were
@@ -79,23 +77,11 @@ fn month_of(text: &str) -> u32
     }
 }
 
-fn sheet_in<G: Ledger>(blank: Blank, alloc: Global, book: &Book, month: u32) -> Result<Sheet, Fail>
-    requires name { blank.name ≡ G.name }
-    requires parts { blank.parts ≡ G.parts }
-    requires some { 1 ≤ G.parts }
-    requires live { book.now.spent ≡ false }
-    requires month { IsTrue (is_month month) }
-{
-    let mut steps = Steps::<G>::new(blank);
-    let made = sheet(alloc, book, month, &mut steps)?;
-    Ok(made)
-}
-
 /// The sheet of a month.
 fn sheet_of(alloc: Global, book: &Book, month: &str) -> Result<Sheet, Fail>
     requires { book.now.spent ≡ false }
 {
-    let made = sheet_in::<Brand>(Blank::new(1), alloc, book, month_of(month))?;
+    let made = sheet(alloc, book, month_of(month))?;
     Ok(made)
 }
 

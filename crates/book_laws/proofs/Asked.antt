@@ -1,6 +1,6 @@
 -- Plain edits are refused with the first fault of what they ask for.
 use Rattle.std.proofs.Common.{◌≡◌, ℕ, Bool, true, false, List, [], ◌∷◌, ◌++◌, Option, None, Some, Result, Ok, Err, refl, ap, ◌∙◌}
-use Rattle.std.specs.Prelude.{◌+ℤ◌, ◌-ℤ◌, unsigned_abs, nat_le, not}
+use Rattle.std.specs.Prelude.{◌+ℤ◌, ◌-ℤ◌, unsigned_abs, nat_le, not, map as list_map}
 use Rattle.std.specs.Option.{option_map, option_and_then, is_none}
 use Rattle.std.specs.Ordering.{int_eq}
 use lib.IntN.{ℤ, pos, negsuc}
@@ -17,23 +17,25 @@ use Rattle.book_rows.specs.declared.write.RowName.{RowName}
 use Rattle.book_rows.specs.declared.write.RowName.TheVariants.{Given, Made}
 use Rattle.book_rows.specs.declared.write.Write.{Write}
 use Rattle.book_rows.specs.declared.fault.EditFault.{EditFault}
-use Rattle.book_rows.specs.declared.fault.EditFault.TheVariants.{BadId, IdTaken, NoSuchAccount, NoSuchGroup, NoSuchCategory, NoSuchPayee, BadDate, BadAmount, BadMonth, SameAccount, ClosedAccount, IncomeCategory}
+use Rattle.book_rows.specs.declared.fault.EditFault.TheVariants.{BadId, IdTaken, NoSuchAccount, NoSuchGroup, NoSuchCategory, NoSuchPayee, BadDate, BadAmount, BadMonth, SameAccount, ClosedAccount, IncomeCategory, CategoryType, TransferPayee}
 use Rattle.book_rows.specs.Balances.{balance_of}
 use Rattle.book_rows.specs.Ids.{budget_id}
 use Rattle.book_rows.specs.Kinds.{is_day}
 use Rattle.book_rows.specs.Live.{is_live_account, is_live_group, is_live_payee, is_live_category, is_income_category}
 use Rattle.book_rows.specs.Months.{is_month}
 use Rattle.book_edits.specs.declared.edit.BookEdit.{BookEdit}
-use Rattle.book_edits.specs.declared.edit.BookEdit.TheVariants.{Set, AccountAdd, AccountRename, AccountOffbudget, AccountReopen, AccountClose, GroupAdd, GroupRename, GroupDelete, CategoryAdd, CategoryRename, CategoryMove, CategoryDelete, PayeeAdd, PayeeRename, PayeeDelete, TxAdd, Budget, Carryover, Hold, Move, Note}
-use Rattle.book_edits.specs.Faults.{◌>>=◌, Check, must, if_there}
-use Rattle.book_edits.specs.Checks.{may_be_chosen, new_row, same_id, free_group_name, free_category_name, live_payee, live_category, an_amount, a_name}
+use Rattle.book_edits.specs.declared.edit.BookEdit.TheVariants.{Set, AccountAdd, AccountRename, AccountOffbudget, AccountReopen, AccountClose, GroupAdd, GroupRename, GroupDelete, CategoryAdd, CategoryRename, CategoryMove, CategoryDelete, CategoryDeleteTo, PayeeAdd, PayeeRename, PayeeDelete, PayeeMerge, TxAdd, Budget, Carryover, Hold, Move, Track, TrackCarryover, Note}
+use Rattle.book_edits.specs.declared.gains.Gain.{Gain}
+use Rattle.book_edits.specs.Faults.{◌>>=◌, Check, must, if_there, each}
+use Rattle.book_edits.specs.Checks.{may_be_chosen, new_row, same_id, free_group_name, free_category_name, live_payee, live_category, same_flag, is_transfer_payee, two_ids, no_transfer, an_amount, a_name}
 use Rattle.book_edits.specs.Edits.{bad_id, write_unless, book_writes}
 use Rattle.book_edits.specs.Accounts.{is_account, is_payee}
 use Rattle.book_edits.specs.Categories.{is_group, is_category}
 use Rattle.book_edits.specs.Transactions.{is_tx}
 use Rattle.book_edits.specs.Budgets.{budgeted, two_amounts}
-use Rattle.book_laws.specs.Asking.{unless, fault_of, first_fault, new, payee, category, asked, PlainEditsAreJudged}
-use Rattle.book_laws.specs.Leaving.{budget_row}
+use Rattle.book_edits.specs.Mappings.{gains}
+use Rattle.book_laws.specs.Asking.{unless, fault_of, first_fault, new, named, payee, category, apart, no_account, amount_number, asked, PlainEditsAreJudged}
+use Rattle.book_laws.specs.Leaving.{new_budget, budget_row}
 use Rattle.book_laws.proofs.NoMore.{given_as}
 
 module _ {A : Type 0} where
@@ -68,6 +70,18 @@ pub at_end : (xs : List (Option EditFault)) → xs ++ [] ≡ xs
 at_end [] = refl
 at_end (x ∷ xs) = ap (λ ys. x ∷ ys) (at_end xs)
 
+-- two checks, and then the rest
+in_turn : (a b : Check) (c : Result (List Write) EditFault) → fault_of ((a >>= λ _. b) >>= λ _. c) ≡ fault_of (a >>= λ _. (b >>= λ _. c))
+in_turn (Ok u) b c = refl
+in_turn (Err f) b c = refl
+
+-- a check of each
+pub all_asked : {X : Type 0} (check : X → Check) (told : X → Option EditFault) → ((x : X) (go : Result (List Write) EditFault) (others : List (Option EditFault)) → fault_of go ≡ first_fault others → fault_of (check x >>= λ _. go) ≡ first_fault (told x ∷ others))
+    → (xs : List X) (go : Result (List Write) EditFault) (others : List (Option EditFault)) → fault_of go ≡ first_fault others → fault_of (each check xs >>= λ _. go) ≡ first_fault (list_map told xs ++ others)
+all_asked check told same [] go others h = h
+all_asked check told same (x ∷ xs) go others h =
+    in_turn (check x) (each check xs) go ∙ same x (each check xs >>= λ _. go) (list_map told xs ++ others) (all_asked check told same xs go others h)
+
 -- ---- edits
 
 set_judged : (o : Option NameFault) (field : FieldNames) (value : Value) → fault_of (write_unless o field value) ≡ first_fault (option_map (bad_id field) o ∷ [])
@@ -96,7 +110,7 @@ module _ (rows : Rows) where
 
   -- what the row of a category says of a month
   amount_is : (id : Text) (month : ℕ) → budgeted rows id month ≡ (budget_row rows id month).amount
-  amount_is id month = given_as (get rows.budgets (budget_id id month)) (record { id = budget_id id month; month = pos month; category = Some id; amount = pos 0; carryover = false }) refl
+  amount_is id month = given_as (get rows.budgets (budget_id id month)) (new_budget id month) refl
 
   abbrev amount_of : ℤ → Bool
   amount_of z = nat_le (unsigned_abs z) largest_number
@@ -143,6 +157,52 @@ module _ (rows : Rows) where
       by true true true true true true false go others h = refl
       by true true true true true true true go others h = h
 
+  -- what is handed on
+  gain_amount : (g : Gain) (go : Result (List Write) EditFault) (others : List (Option EditFault)) → fault_of go ≡ first_fault others → fault_of (an_amount g.amount >>= λ _. go) ≡ first_fault (amount_number g.amount ∷ others)
+  gain_amount g go others h = asks (amount_of g.amount) (BadAmount g.amount) go others h
+
+  gain_name : (to : Text) (g : Gain) (go : Result (List Write) EditFault) (others : List (Option EditFault)) → fault_of go ≡ first_fault others
+      → fault_of (a_name (budget_id to g.month) >>= λ _. go) ≡ first_fault (named (budget_id to g.month) ∷ others)
+  gain_name to g go others h = asks (name_at (budget_id to g.month)) (BadId (budget_id to g.month)) go others h
+
+  hand_on_judged : (id to : Text) → fault_of (book_writes rows (CategoryDeleteTo id to)) ≡ first_fault (asked rows (CategoryDeleteTo id to))
+  hand_on_judged id to =
+      by (is_live_category rows id) (is_live_category rows to) (not (same_id id to)) (same_flag (is_income_category rows id) (is_income_category rows to)) _ _
+      (in_turn amounts names _
+      ∙ all_asked (λ (g : Gain). an_amount g.amount) (λ (g : Gain). amount_number g.amount) gain_amount (gains rows id to) _ _
+      (all_asked (λ (g : Gain). a_name (budget_id to g.month)) (λ (g : Gain). named (budget_id to g.month)) (gain_name to) (gains rows id to) _ [] refl
+      ∙ ap first_fault (at_end (list_map (λ (g : Gain). named (budget_id to g.month)) (gains rows id to)))))
+    where
+      amounts : Check
+      amounts = each (λ (g : Gain). an_amount g.amount) (gains rows id to)
+
+      names : Check
+      names = each (λ (g : Gain). a_name (budget_id to g.month)) (gains rows id to)
+
+      by : (a b c d : Bool) (go : Result (List Write) EditFault) (others : List (Option EditFault)) → fault_of go ≡ first_fault others
+          → fault_of ((must a (NoSuchCategory id) >>= λ _. must b (NoSuchCategory to) >>= λ _. must c (SameAccount id) >>= λ _. must d (CategoryType to)) >>= λ _. go)
+          ≡ first_fault (unless a (NoSuchCategory id) ∷ unless b (NoSuchCategory to) ∷ unless c (SameAccount id) ∷ unless d (CategoryType to) ∷ others)
+      by false b c d go others h = refl
+      by true false c d go others h = refl
+      by true true false d go others h = refl
+      by true true true false go others h = refl
+      by true true true true go others h = h
+
+  -- payees that become another one
+  apart_asked : (to x : Text) (go : Result (List Write) EditFault) (others : List (Option EditFault)) → fault_of go ≡ first_fault others → fault_of (two_ids to x >>= λ _. go) ≡ first_fault (apart to x ∷ others)
+  apart_asked to x go others h = asks (not (same_id to x)) (SameAccount to) go others h
+
+  no_account_asked : (x : Text) (go : Result (List Write) EditFault) (others : List (Option EditFault)) → fault_of go ≡ first_fault others → fault_of (no_transfer rows x >>= λ _. go) ≡ first_fault (no_account rows x ∷ others)
+  no_account_asked x go others h = asks (not (is_transfer_payee rows x)) (TransferPayee x) go others h
+
+  merge_judged : (to : Text) (ids : List Text) → fault_of (book_writes rows (PayeeMerge to ids)) ≡ first_fault (asked rows (PayeeMerge to ids))
+  merge_judged to ids =
+      payee_asked to _ _
+      (all_asked (live_payee rows) (payee rows) payee_asked ids _ _
+      (all_asked (two_ids to) (apart to) (apart_asked to) ids _ _
+      (no_account_asked to _ _
+      (all_asked (no_transfer rows) (no_account rows) no_account_asked ids _ [] refl ∙ ap first_fault (at_end (list_map (no_account rows) ids))))))
+
   judged_by : (edit : BookEdit) → fault_of (book_writes rows edit) ≡ first_fault (asked rows edit)
   judged_by (Set dataset row column value) = set_judged (names_fault (field_of dataset row column)) (field_of dataset row column) value
   judged_by (AccountAdd id name off) = adds (is_account rows) id _ [] (λ row. refl) ∙ ap first_fault (at_end (new (is_account rows) id))
@@ -157,9 +217,11 @@ module _ (rows : Rows) where
   judged_by (CategoryRename id name) = asks (is_live_category rows id) (NoSuchCategory id) _ _ (own_group (get rows.categories id) name _ [] refl)
   judged_by (CategoryMove id into) = asks (is_live_category rows id) (NoSuchCategory id) _ _ (asks (is_live_group rows into) (NoSuchGroup into) _ _ (own_name (get rows.categories id) into _ [] refl))
   judged_by (CategoryDelete id) = asks (is_live_category rows id) (NoSuchCategory id) _ [] refl
+  judged_by (CategoryDeleteTo id to) = hand_on_judged id to
   judged_by (PayeeAdd id name) = adds (is_payee rows) id _ [] (λ row. refl) ∙ ap first_fault (at_end (new (is_payee rows) id))
   judged_by (PayeeRename id name) = asks (is_live_payee rows id) (NoSuchPayee id) _ [] refl
   judged_by (PayeeDelete id) = asks (is_live_payee rows id) (NoSuchPayee id) _ [] refl
+  judged_by (PayeeMerge to ids) = merge_judged to ids
   judged_by (TxAdd id own date amount to of notes) = tx_judged id own date amount to of notes
   judged_by (Budget month id amount) =
       asks (is_month month) (BadMonth month) _ _ (asks (is_live_category rows id) (NoSuchCategory id) _ _ (asks (not (is_income_category rows id)) (IncomeCategory id) _ _
@@ -170,6 +232,11 @@ module _ (rows : Rows) where
   judged_by (Hold month (pos cents)) = asks (is_month month) (BadMonth month) _ _ (asks (amount_of (pos cents)) (BadAmount (pos cents)) _ [] refl)
   judged_by (Hold month (negsuc cents)) = asks (is_month month) (BadMonth month) _ _ refl
   judged_by (Move month from to amount) = move_judged month from to amount
+  judged_by (Track month id amount) =
+      asks (is_month month) (BadMonth month) _ _ (asks (is_live_category rows id) (NoSuchCategory id) _ _
+      (asks (amount_of amount) (BadAmount amount) _ _ (asks (name_at (budget_id id month)) (BadId (budget_id id month)) _ [] refl)))
+  judged_by (TrackCarryover month id carries) =
+      asks (is_month month) (BadMonth month) _ _ (asks (is_live_category rows id) (NoSuchCategory id) _ _ (asks (name_at (budget_id id month)) (BadId (budget_id id month)) _ [] refl))
   judged_by (Note id text) = asks (name_at id) (BadId id) _ [] refl
 
 pub judged : PlainEditsAreJudged

@@ -1,6 +1,6 @@
 -- Edits of transactions are refused with the first fault of what they ask for.
-use Rattle.std.proofs.Common.{◌≡◌, Bool, true, false, List, [], ◌∷◌, ◌++◌, Option, None, Some, Result, Ok, Err, refl, ◌∙◌}
-use Rattle.std.specs.Prelude.{◌-ℤ◌, unsigned_abs, nat_le, not, map as list_map, ok_or, if◌then◌else◌}
+use Rattle.std.proofs.Common.{◌≡◌, Bool, true, false, List, [], ◌∷◌, Option, None, Some, Result, Ok, refl}
+use Rattle.std.specs.Prelude.{◌-ℤ◌, unsigned_abs, nat_le, not, ok_or, if◌then◌else◌}
 use Rattle.std.specs.Option.{is_none, option_and_then}
 use Rattle.std.specs.Ordering.{int_eq}
 use lib.IntN.{ℤ, pos}
@@ -15,7 +15,7 @@ use Rattle.book_rows.specs.declared.fault.EditFault.{EditFault}
 use Rattle.book_rows.specs.declared.fault.EditFault.TheVariants.{NoSuchTransaction, NoSuchSchedule, NoSuchAccount, NoSuchCategory, BadDate, BadAmount, IsChild, IsTransferPart, SameAccount, SplitSum}
 use Rattle.book_rows.specs.Kinds.{is_day}
 use Rattle.book_rows.specs.Live.{is_live_tx, is_live_account, is_live_category, is_live_schedule}
-use Rattle.book_edits.specs.Faults.{◌>>=◌, Check, must, if_there}
+use Rattle.book_edits.specs.Faults.{◌>>=◌, must, if_there}
 use Rattle.book_edits.specs.Checks.{same_id, an_amount, live_category, live_payee}
 use Rattle.split_transfer.specs.declared.edit.PairEdit.{PairEdit}
 use Rattle.split_transfer.specs.declared.edit.PairEdit.TheVariants.{TxSet, TxDelete, Split, Transfer}
@@ -23,11 +23,11 @@ use Rattle.split_transfer.specs.declared.edit.SplitPart.{SplitPart}
 use Rattle.split_transfer.specs.declared.edit.TxChange.{TxChange}
 use Rattle.split_transfer.specs.declared.edit.TxChange.TheVariants.{Date, Amount, Account, Payee, Category, Notes, Cleared, Schedule}
 use Rattle.split_transfer.specs.Pairs.{only_where, partner_of, parts_sum}
-use Rattle.split_transfer.specs.Checks.{each, live_schedule, is_beside, takes_category, no_rest as no_rest_so, stays_even}
+use Rattle.split_transfer.specs.Checks.{live_schedule, is_beside, takes_category, no_rest as no_rest_so, stays_even}
 use Rattle.split_transfer.specs.Edits.{pair_writes}
 use Rattle.book_laws.specs.Asking.{unless, fault_of, first_fault, payee, category, amount_number}
 use Rattle.book_laws.specs.AskingPairs.{where_live, its_category, no_rest, even, asked_of, asked_for, PairEditsAreJudged}
-use Rattle.book_laws.proofs.Asked.{asks, maybe, payee_asked, category_asked}
+use Rattle.book_laws.proofs.Asked.{asks, maybe, all_asked, payee_asked, category_asked}
 
 -- what an edit finds, where it is live
 finds : (rows : Rows) (id : Text) (go : TxRow → Result (List Write) EditFault) (more : TxRow → List (Option EditFault)) → ((x : TxRow) → fault_of (go x) ≡ first_fault (more x)) → (o : Option TxRow)
@@ -38,17 +38,6 @@ finds rows id go more h (Some x) = by (is_live_tx rows x)
     by : (b : Bool) → fault_of (ok_or (if b then Some x else None) (NoSuchTransaction id) >>= go) ≡ first_fault (if b then more x else Some (NoSuchTransaction id) ∷ [])
     by true = h x
     by false = refl
-
--- a check of each
-all_asked : {X : Type 0} (check : X → Check) (told : X → Option EditFault) → ((x : X) (go : Result (List Write) EditFault) (others : List (Option EditFault)) → fault_of go ≡ first_fault others → fault_of (check x >>= λ _. go) ≡ first_fault (told x ∷ others))
-    → (xs : List X) (go : Result (List Write) EditFault) (others : List (Option EditFault)) → fault_of go ≡ first_fault others → fault_of (each check xs >>= λ _. go) ≡ first_fault (list_map told xs ++ others)
-all_asked check told same [] go others h = h
-all_asked check told same (x ∷ xs) go others h =
-    in_turn (check x) (each check xs) go ∙ same x (each check xs >>= λ _. go) (list_map told xs ++ others) (all_asked check told same xs go others h)
-  where
-    in_turn : (a b : Check) (c : Result (List Write) EditFault) → fault_of ((a >>= λ _. b) >>= λ _. c) ≡ fault_of (a >>= λ _. (b >>= λ _. c))
-    in_turn (Ok u) b c = refl
-    in_turn (Err f) b c = refl
 
 module _ (rows : Rows) where
   abbrev amount_of : ℤ → Bool

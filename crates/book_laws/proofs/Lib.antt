@@ -15,3 +15,14 @@ pub mod InOrder
 pub mod Wrong
 pub mod Standing
 pub mod Undone
+pub mod Each
+pub mod Handed
+pub mod Gained
+pub mod HandedOn
+pub mod Merged
+pub mod OneStep
+pub mod Columns
+pub mod Again
+pub mod AsBefore
+pub mod TakenBack
+pub mod Whole

@@ -1,6 +1,6 @@
 -- What plain edits change in the rows, and that they change nothing else.
 use Rattle.std.proofs.Common.{◌≡◌, ℕ, Bool, true, false, cond, List, [], ◌∷◌, ◌++◌, Option, None, Some, Ok, Err, refl, ap, sym, ◌∙◌, drop}
-use Rattle.std.specs.Prelude.{◌||◌, ◌+ℤ◌, ◌-ℤ◌, not, is_some, unwrap_or, map as list_map, if◌then◌else◌}
+use Rattle.std.specs.Prelude.{◌+ℤ◌, ◌-ℤ◌, not, is_some, unwrap_or, map as list_map, if◌then◌else◌}
 use Rattle.std.specs.Option.{option_map}
 use lib.IntN.{ℤ, pos}
 use Rattle.std.specs.FinMap.{get, insert, get-insert, same_map}
@@ -8,10 +8,11 @@ use Rattle.field_values.specs.declared.name.NameFault.{NameFault}
 use Rattle.field_values.specs.declared.value.Value.{Value}
 use Rattle.field_values.specs.declared.value.Value.TheVariants.{Number, Text as IsText}
 use Rattle.field_values.specs.Names.{FieldNames, names_fault}
-use Rattle.finite_sums.specs.Maps.{Text, Texts, text_cmp, some_and, value_or_zero, is_among}
+use Rattle.finite_sums.specs.Maps.{Text, Texts, some_and, value_or_zero}
 use Rattle.finite_sums.proofs.Texts.{text_total, text_same}
 use Rattle.finite_sums.proofs.MapSums.{among-keys_where}
-use Rattle.book_rows.specs.declared.column.Dataset.TheVariants.{Accounts, CategoryGroups, Categories, Payees, Transactions, ZeroBudgets, ZeroBudgetMonths, Notes}
+use Rattle.book_rows.specs.declared.column.Dataset.{Dataset}
+use Rattle.book_rows.specs.declared.column.Dataset.TheVariants.{Accounts, CategoryGroups, Categories, Payees, Transactions, ZeroBudgets, ZeroBudgetMonths, Notes, ReflectBudgets}
 use Rattle.book_rows.specs.declared.column.Column.{Column}
 use Rattle.book_rows.specs.declared.column.Column.TheVariants as of
 use Rattle.book_rows.specs.declared.rows.Rows.{Rows}
@@ -27,10 +28,10 @@ use Rattle.book_rows.specs.declared.write.WriteValue.TheVariants.{Plain}
 use Rattle.book_rows.specs.declared.write.Write.{Write}
 use Rattle.book_rows.specs.declared.fault.EditFault.{EditFault}
 use Rattle.book_rows.specs.declared.fault.EditFault.TheVariants.{BadDate, SameAccount}
-use Rattle.book_rows.specs.Columns.{column_name}
+use Rattle.book_rows.specs.Columns.{dataset_name, column_name}
 use Rattle.book_rows.specs.Ids.{budget_id, month_id}
 use Rattle.book_rows.specs.Kinds.{is_day, text_of}
-use Rattle.book_rows.specs.Rows.{with_field}
+use Rattle.book_rows.specs.Rows.{with_cell, with_field}
 use Rattle.book_rows.specs.Rules.{account_table, group_table, category_table, payee_table, tx_table, budget_table, month_table, note_table}
 use Rattle.book_rows.specs.Tables.{Table, blank_row, with_column}
 use Rattle.book_edits.specs.Faults.{if_there}
@@ -40,13 +41,14 @@ use Rattle.book_edits.specs.Writing.{flag, text_or_null, notes_value, id_value}
 use Rattle.book_edits.specs.Accounts.{is_account, is_payee, account_writes, account_add, account_rename, account_offbudget, account_reopen, account_close, payee_add, payee_rename, payee_delete}
 use Rattle.book_edits.specs.Categories.{is_group, is_category, takes_income, is_live_in, categories_of, category_deletion, placed_in, group_add, group_rename, group_delete, category_add, category_rename, category_move, category_delete}
 use Rattle.book_edits.specs.Transactions.{is_tx, tx_writes, tx_add, note}
-use Rattle.book_edits.specs.Budgets.{budgeted, row_made, budget_writes, two_amounts, may_move, budget, carryover, hold, move}
+use Rattle.book_edits.specs.Budgets.{budgeted, row_made, column_writes, budget_writes, track_writes, two_amounts, may_move, budget, carryover, hold, move, track, track_carryover}
 use Rattle.book_edits.proofs.Valid.{inside, passed, was_so}
 use Rattle.split_transfer.specs.After.{Ids, row_of, value_in, with_write, with_writes}
 use Rattle.split_transfer.proofs.After.{with_writes-append}
-use Rattle.split_transfer.proofs.Basics.{same_refl, same_is, not_same, is_other, not_true}
+use Rattle.split_transfer.proofs.Basics.{same_refl, not_same, is_other, not_true}
 use Rattle.book_laws.specs.Doing.{new_id}
-use Rattle.book_laws.specs.Leaving.{changed, budget_row, with_budget, without_group, notes_or_none, PlainEditsDoNoMore}
+use Rattle.book_laws.specs.Leaving.{changed, new_budget, budget_row, with_budget, with_tracked, without_group, notes_or_none, PlainEditsDoNoMore}
+use Rattle.book_laws.proofs.Each.{each_changed, get-each}
 use Rattle.book_laws.proofs.Done.{text_back, flag_back, given_is, into, cell, id_is, accounts_after}
 
 -- ---- a row that is written twice
@@ -76,40 +78,52 @@ notes_are (byte ∷ bytes) = refl
 fault_ok : (f : EditFault) (ws : List Write) → Err f ≡ Ok ws → ⊥
 fault_ok f ws h = cc
 
-module _ (ids : Ids) where
-  -- ---- what a category is given
+-- ---- what a category is given
 
-  module _ (r : Rows) (category : Text) (month : ℕ) (c : Column) (v : Value) (known : is_some (budget_table.kind c) ≡ true) where
-    abbrev key : Text
-    key = budget_id category month
+-- the datasets of what categories are given
+pub record IsOfBudgets (D : Dataset) (part : Rows → Texts BudgetRow) (put : Rows → Texts BudgetRow → Rows) : Type 0 where
+  pub cells : (id : Text) (c : Column) (v : Value) (r : Rows) → with_cell D id c v r ≡ put r (with_column budget_table id c v (part r))
+  pub has : (r : Rows) (m : Texts BudgetRow) → part (put r m) ≡ m
+  pub last : (r : Rows) (m n : Texts BudgetRow) → put (put r m) n ≡ put r n
 
-    abbrev at : BudgetRow → Rows
-    at b = record r { budgets = insert r.budgets key b }
+module _ (ids : Ids) (D : Dataset) (part : Rows → Texts BudgetRow) (put : Rows → Texts BudgetRow → Rows) (is : IsOfBudgets D part put)
+    (r : Rows) (category : Text) (month : ℕ) (c : Column) (v : Value) (known : is_some (budget_table.kind c) ≡ true) where
+  abbrev key : Text
+  key = budget_id category month
 
-    abbrev new : BudgetRow
-    new = record { id = key; month = pos month; category = Some category; amount = pos 0; carryover = false }
+  abbrev at : BudgetRow → Rows
+  at b = put r (insert (part r) key b)
 
-    step : (d : Column) (w : Value) (b : BudgetRow) → is_some (budget_table.kind d) ≡ true → with_write ids (at b) (into ZeroBudgets (Given key) d (Plain w)) ≡ at (budget_table.set d w b)
-    step d w b h = cell ids (at b) ZeroBudgets (Given key) d (Plain w) ∙ ap (λ (m : Texts BudgetRow). record r { budgets = m }) (one_more budget_table key d w r.budgets b h)
+  step : (d : Column) (w : Value) (b : BudgetRow) → is_some (budget_table.kind d) ≡ true → with_write ids (at b) (into D (Given key) d (Plain w)) ≡ at (budget_table.set d w b)
+  step d w b h =
+      cell ids (at b) D (Given key) d (Plain w) ∙ is.cells key d w (at b)
+      ∙ ap (λ (m : Texts BudgetRow). put (at b) (with_column budget_table key d w m)) (is.has r (insert (part r) key b))
+      ∙ is.last r (insert (part r) key b) (with_column budget_table key d w (insert (part r) key b))
+      ∙ ap (put r) (one_more budget_table key d w (part r) b h)
 
-    first : (d : Column) (w : Value) → is_some (budget_table.kind d) ≡ true → with_write ids r (into ZeroBudgets (Given key) d (Plain w)) ≡ at (budget_table.set d w (unwrap_or (get r.budgets key) (blank_row budget_table key)))
-    first d w h =
-        cell ids r ZeroBudgets (Given key) d (Plain w)
-        ∙ ap (λ b. record r { budgets = cond b (insert r.budgets key (budget_table.set d w (unwrap_or (get r.budgets key) (blank_row budget_table key)))) r.budgets }) h
+  first : (d : Column) (w : Value) → is_some (budget_table.kind d) ≡ true → with_write ids r (into D (Given key) d (Plain w)) ≡ at (budget_table.set d w (unwrap_or (get (part r) key) (blank_row budget_table key)))
+  first d w h =
+      cell ids r D (Given key) d (Plain w) ∙ is.cells key d w r
+      ∙ ap (λ b. put r (cond b (insert (part r) key (budget_table.set d w (unwrap_or (get (part r) key) (blank_row budget_table key)))) (part r))) h
 
-    by_row : (o : Option BudgetRow) → get r.budgets key ≡ o
-        → with_writes ids r ((if is_some o then [] else into ZeroBudgets (Given key) of.Month (Plain (Number (pos month))) ∷ into ZeroBudgets (Given key) of.Category (Plain (IsText category)) ∷ []) ++ into ZeroBudgets (Given key) c (Plain v) ∷ [])
-        ≡ at (budget_table.set c v (unwrap_or o new))
-    by_row (Some b) e = first c v known ∙ ap (λ o. at (budget_table.set c v (unwrap_or o (blank_row budget_table key)))) e
-    by_row None e =
-        let w : Write = into ZeroBudgets (Given key) of.Category (Plain (IsText category)) in
-        let last : Write = into ZeroBudgets (Given key) c (Plain v) in
-        ap (λ (s : Rows). with_writes ids s (w ∷ last ∷ [])) (first of.Month (Number (pos month)) refl ∙ ap (λ o. at (budget_table.set of.Month (Number (pos month)) (unwrap_or o (blank_row budget_table key)))) e)
-        ∙ ap (λ (s : Rows). with_writes ids s (last ∷ [])) (step of.Category (IsText category) (budget_table.set of.Month (Number (pos month)) (blank_row budget_table key)) refl)
-        ∙ step c v new known
+  by_row : (o : Option BudgetRow) → get (part r) key ≡ o → with_writes ids r (column_writes (is_some o) (dataset_name D) category month (column_name c) v) ≡ at (budget_table.set c v (unwrap_or o (new_budget category month)))
+  by_row (Some b) e = first c v known ∙ ap (λ o. at (budget_table.set c v (unwrap_or o (blank_row budget_table key)))) e
+  by_row None e =
+      let w : Write = into D (Given key) of.Category (Plain (IsText category)) in
+      let last : Write = into D (Given key) c (Plain v) in
+      ap (λ (s : Rows). with_writes ids s (w ∷ last ∷ [])) (first of.Month (Number (pos month)) refl ∙ ap (λ o. at (budget_table.set of.Month (Number (pos month)) (unwrap_or o (blank_row budget_table key)))) e)
+      ∙ ap (λ (s : Rows). with_writes ids s (last ∷ [])) (step of.Category (IsText category) (budget_table.set of.Month (Number (pos month)) (blank_row budget_table key)) refl)
+      ∙ step c v (new_budget category month) known
 
-    budget_cell : with_writes ids r (budget_writes r category month (column_name c) v) ≡ with_budget r category month (budget_table.set c v)
-    budget_cell = by_row (get r.budgets key) refl
+  row_cell : with_writes ids r (column_writes (is_some (get (part r) key)) (dataset_name D) category month (column_name c) v) ≡ at (budget_table.set c v (unwrap_or (get (part r) key) (new_budget category month)))
+  row_cell = by_row (get (part r) key) refl
+
+module _ (ids : Ids) (r : Rows) (category : Text) (month : ℕ) (c : Column) (v : Value) (known : is_some (budget_table.kind c) ≡ true) where
+  pub budget_cell : with_writes ids r (budget_writes r category month (column_name c) v) ≡ with_budget r category month (budget_table.set c v)
+  budget_cell = row_cell ids ZeroBudgets (λ s. s.budgets) (λ s m. record s { budgets = m }) (record { cells = λ id c v s. refl; has = λ s m. refl; last = λ s m n. refl }) r category month c v known
+
+  tracked_cell : with_writes ids r (track_writes r category month (column_name c) v) ≡ with_tracked r category month (budget_table.set c v)
+  tracked_cell = row_cell ids ReflectBudgets (λ s. s.tracked) (λ s m. record s { tracked = m }) (record { cells = λ id c v s. refl; has = λ s m. refl; last = λ s m n. refl }) r category month c v known
 
 -- the amount of a row, or 0 where it is not there, is that of the row or of another one, with the amount 0, in its place
 pub given_as : (o : Option BudgetRow) (other : BudgetRow) → other.amount ≡ pos 0 → value_or_zero (λ b. b.amount) o ≡ (unwrap_or o other).amount
@@ -229,30 +243,13 @@ module _ (ids : Ids) (r : Rows) (ws : List Write) where
   blank k = blank_row category_table k
 
   abbrev deleted : List Text → Texts CategoryRow → Texts CategoryRow
-  deleted [] m = m
-  deleted (k ∷ ks) m = deleted ks (insert m k (dead (unwrap_or (get m k) (blank k))))
+  deleted = each_changed blank dead
 
   deletions : (ks : List Text) (s : Rows) → with_writes ids s (list_map category_deletion ks) ≡ record s { categories = deleted ks s.categories }
   deletions [] s = refl
   deletions (k ∷ ks) s =
       let t : Rows = record s { categories = insert s.categories k (dead (unwrap_or (get s.categories k) (blank k))) } in
       ap (λ (x : Rows). with_writes ids x (list_map category_deletion ks)) (cell ids s Categories (Given k) of.Tombstone (Plain (flag true))) ∙ deletions ks t
-
-  get-deleted : (ks : List Text) (m : Texts CategoryRow) (q : Text) → get (deleted ks m) q ≡ cond (is_among text_cmp ks q) (Some (dead (unwrap_or (get m q) (blank q)))) (get m q)
-  get-deleted [] m q = refl
-  get-deleted (k ∷ ks) m q =
-      get-deleted ks (insert m k (dead (unwrap_or (get m k) (blank k)))) q
-      ∙ ap (λ o. cond (is_among text_cmp ks q) (Some (dead (unwrap_or o (blank q)))) o) (get-insert text_total m k (dead (unwrap_or (get m k) (blank k))) q)
-      ∙ by (same_id q k) refl (is_among text_cmp ks q)
-    where
-      x : Text → CategoryRow
-      x t = dead (unwrap_or (get m t) (blank t))
-
-      by : (a : Bool) → same_id q k ≡ a → (b : Bool)
-          → cond b (Some (dead (unwrap_or (cond a (Some (x k)) (get m q)) (blank q)))) (cond a (Some (x k)) (get m q)) ≡ cond (a || b) (Some (x q)) (get m q)
-      by true e true = ap (λ t. Some (x t)) (sym (same_is q k e))
-      by true e false = ap (λ t. Some (x t)) (sym (same_is q k e))
-      by false e b = refl
 
   last : (p : CategoryRow → Bool) (o : Option CategoryRow) (b : CategoryRow) → cond (some_and p o) (Some (dead (unwrap_or o b))) o ≡ option_map (λ c. cond (p c) (dead c) c) o
   last p None b = refl
@@ -274,7 +271,7 @@ module _ (ids : Ids) (r : Rows) (ws : List Write) where
         made (list_map category_deletion ks ++ w ∷ []) _ (inside _ _ p.2)
             (with_writes-append ids r (list_map category_deletion ks) (w ∷ [])
             ∙ ap (λ (s : Rows). with_write ids s w) (deletions ks r) ∙ cell ids mid CategoryGroups (Given id) of.Tombstone (Plain (flag true))),
-        λ q. get-deleted ks r.categories q
+        λ q. get-each blank dead (λ c. refl) ks r.categories q
             ∙ ap (λ b. cond b (Some (dead (unwrap_or (get r.categories q) (blank q)))) (get r.categories q)) (among-keys_where text_total text_same (is_live_in r id) r.categories q)
             ∙ last (is_live_in r id) (get r.categories q) (blank q),
       )
@@ -419,6 +416,24 @@ module _ (ids : Ids) (r : Rows) (ws : List Write) where
       let b = passed (a_held amount) _ _ a.2 in
       made (into ZeroBudgetMonths (Given (month_id month)) of.Buffered (Plain (Number amount)) ∷ []) _ (inside _ _ b.2) (cell ids r ZeroBudgetMonths (Given (month_id month)) of.Buffered (Plain (Number amount)))
 
+  -- ---- the tracking budget
+
+  tracked_so : (month : ℕ) (category : Text) (amount : ℤ) → track r month category amount ≡ Ok ws → with_writes ids r ws ≡ with_tracked r category month (λ b. record b { amount = amount })
+  tracked_so month category amount h =
+      let a = passed (a_month month) _ _ h in
+      let b = passed (live_category r category) _ _ a.2 in
+      let d = passed (an_amount amount) _ _ b.2 in
+      let e = passed (a_name (budget_id category month)) _ _ d.2 in
+      made (track_writes r category month (column_name of.Amount) (Number amount)) _ (inside _ _ e.2) (tracked_cell ids r category month of.Amount (Number amount) refl)
+
+  tracked_carries : (month : ℕ) (category : Text) (carries : Bool) → track_carryover r month category carries ≡ Ok ws → with_writes ids r ws ≡ with_tracked r category month (λ b. record b { carryover = carries })
+  tracked_carries month category carries h =
+      let a = passed (a_month month) _ _ h in
+      let b = passed (live_category r category) _ _ a.2 in
+      let e = passed (a_name (budget_id category month)) _ _ b.2 in
+      made (track_writes r category month (column_name of.Carryover) (flag carries)) _ (inside _ _ e.2)
+      (tracked_cell ids r category month of.Carryover (flag carries) refl ∙ ap (λ t. with_tracked r category month (λ b. record b { carryover = t })) (flag_back carries))
+
   -- ---- a move
 
   module _ (month : ℕ) (from to : Text) (amount : ℤ) (apart : same_id from to ≡ false) where
@@ -437,10 +452,10 @@ module _ (ids : Ids) (r : Rows) (ws : List Write) where
         ∙ ap (λ b. cond b (Some (record (budget_row r from month) { amount = less })) (get r.budgets to_key)) (two_keys month from to apart)
 
     was : budgeted r to month ≡ (budget_row mid to month).amount
-    was = ap (value_or_zero (λ (b : BudgetRow). b.amount)) (sym same_there) ∙ given_as (get mid.budgets to_key) (record { id = to_key; month = pos month; category = Some to; amount = pos 0; carryover = false }) refl
+    was = ap (value_or_zero (λ (b : BudgetRow). b.amount)) (sym same_there) ∙ given_as (get mid.budgets to_key) (new_budget to month) refl
 
     was_from : budgeted r from month ≡ (budget_row r from month).amount
-    was_from = given_as (get r.budgets (budget_id from month)) (record { id = budget_id from month; month = pos month; category = Some from; amount = pos 0; carryover = false }) refl
+    was_from = given_as (get r.budgets (budget_id from month)) (new_budget from month) refl
 
     row_same : row_made r to month ≡ row_made mid to month
     row_same =
@@ -497,4 +512,6 @@ nothing_more ids rows ws = record {
   carryover = carried_so ids rows ws;
   hold = held_so ids rows ws;
   move = moved_so ids rows ws;
+  track = tracked_so ids rows ws;
+  track_carryover = tracked_carries ids rows ws;
 }

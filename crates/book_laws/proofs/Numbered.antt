@@ -12,7 +12,7 @@ use Rattle.finite_sums.proofs.Texts.{text_total, text_same}
 use Rattle.finite_sums.proofs.MapSums.{among-keys_where, distinct-keys_where}
 use Rattle.book_rows.specs.declared.rows.Rows.{Rows}
 use Rattle.book_rows.specs.declared.rows.TxRow.{TxRow}
-use Rattle.book_rows.specs.Live.{is_counted}
+use Rattle.book_rows.specs.Live.{is_counted, category_of}
 use Rattle.book_rows.specs.Months.{is_month, month_of_row}
 use Rattle.book_rows.specs.Parts.{is_text}
 use Rattle.book_rows.proofs.Balances.{total_of-keys_where}
@@ -74,13 +74,13 @@ module _ (rows : Rows) (c : Text) (month : ℕ) where
   counts_so : (x : TxRow) → counts x ≡ true → CountsIn rows c month x
   counts_so x h =
       let a = and_parts (is_counted rows x) (is_of rows c month x) h in
-      let b = and_parts (is_text c x.category) (some_and (λ m. m == month) (month_of_row x)) a.1 in
-      record { counts = a.0; category = text_is c x.category b.0; dated = month_so month (month_of_row x) b.1 }
+      let b = and_parts (is_text c (category_of rows x)) (some_and (λ m. m == month) (month_of_row x)) a.1 in
+      record { counts = a.0; category = text_is c (category_of rows x) b.0; dated = month_so month (month_of_row x) b.1 }
 
   so_counts : (x : TxRow) → CountsIn rows c month x → counts x ≡ true
   so_counts x h =
       and_from (is_counted rows x) (is_of rows c month x) h.counts
-      (and_from (is_text c x.category) (some_and (λ m. m == month) (month_of_row x)) (is_the_text c x.category h.category) (so_month month (month_of_row x) h.dated))
+      (and_from (is_text c (category_of rows x)) (some_and (λ m. m == month) (month_of_row x)) (is_the_text c (category_of rows x) h.category) (so_month month (month_of_row x) h.dated))
 
   abbrev those : List Text
   those = keys_where counts (map.entries rows.txs)

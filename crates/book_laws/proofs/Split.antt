@@ -14,14 +14,14 @@ use Rattle.book_rows.specs.declared.rows.TxRow.{TxRow}
 use Rattle.book_rows.specs.declared.write.Write.{Write}
 use Rattle.book_rows.specs.Kinds.{is_day, text_of, day_of}
 use Rattle.book_rows.specs.Parts.{is_text}
-use Rattle.book_edits.specs.Faults.{if_there}
+use Rattle.book_edits.specs.Faults.{if_there, each}
 use Rattle.book_edits.specs.Checks.{same_id, an_amount, live_category}
 use Rattle.book_edits.specs.Writing.{flag, text_or_null}
 use Rattle.book_edits.proofs.Valid.{inside, passed, was_so}
 use Rattle.book_rows.specs.declared.fault.EditFault.TheVariants.{IsChild as FaultOfChild}
 use Rattle.split_transfer.specs.declared.edit.SplitPart.{SplitPart}
 use Rattle.split_transfer.specs.Pairs.{is_part, parts_of}
-use Rattle.split_transfer.specs.Checks.{each, live_tx, no_child, no_pair, no_rest}
+use Rattle.split_transfer.specs.Checks.{live_tx, no_child, no_pair, no_rest}
 use Rattle.split_transfer.specs.Splits.{part_writes, parts_writes, split_writes}
 use Rattle.split_transfer.specs.Writing.{day_or_null}
 use Rattle.split_transfer.specs.After.{Ids, with_writes, makes}

@@ -13,7 +13,7 @@ use Rattle.book_rows.specs.declared.fault.EditFault.TheVariants.{NameTaken, NoSu
 use Rattle.book_rows.specs.Live.{is_live_tx, is_live_category}
 use Rattle.book_rows.specs.Parts.{is_text}
 use Rattle.book_edits.specs.Faults.{◌>>=◌, must}
-use Rattle.book_edits.specs.Checks.{nobody}
+use Rattle.book_edits.specs.Checks.{nobody, same_flag}
 use Rattle.book_edits.specs.Laws.{IsLeast}
 use Rattle.book_edits.specs.Writing.{text_or_null}
 use Rattle.book_edits.proofs.Told.{free_is, taken_is}
@@ -21,7 +21,7 @@ use Rattle.book_edits.proofs.Valid.{passed, was_so}
 use Rattle.split_transfer.specs.declared.edit.PairEdit.TheVariants.{TxSet}
 use Rattle.split_transfer.specs.declared.edit.TxChange.TheVariants.{Category}
 use Rattle.split_transfer.specs.Pairs.{only_where, partner_of}
-use Rattle.split_transfer.specs.Checks.{live_tx, is_off, same_flag, is_beside, takes_category}
+use Rattle.split_transfer.specs.Checks.{live_tx, is_off, is_beside, takes_category}
 use Rattle.split_transfer.specs.Writing.{on_each}
 use Rattle.split_transfer.specs.Edits.{pair_writes}
 use Rattle.split_transfer.specs.Right.{ArePair}

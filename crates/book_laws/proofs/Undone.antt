@@ -1,80 +1,33 @@
 -- Which rows are there, and what an undo leaves of those that an edit made.
-use Rattle.std.proofs.Common.{◌≡◌, Bool, true, false, List, [], ◌∷◌, Option, Some, None, refl, sym, ap, ◌∙◌, map as list_map}
-use Rattle.std.specs.Prelude.{◌&&◌, ◌||◌, is_some, unwrap_or, if◌then◌else◌, codes}
+use Rattle.std.proofs.Common.{◌≡◌, Bool, true, false, List, Option, Some, None, refl, sym, ap, ◌∙◌, map as list_map}
+use Rattle.std.specs.Prelude.{◌&&◌, is_some, unwrap_or, if◌then◌else◌, codes}
 use lib.IntN.{pos}
-use Rattle.std.specs.List.{list_any}
 use Rattle.std.specs.FinMap.{get}
 use Rattle.field_values.specs.declared.value.Value.{Value}
 use Rattle.field_values.specs.declared.value.Value.TheVariants.{Null, Number}
 use Rattle.field_values.specs.Names.{FieldNames, field_of}
 use Rattle.finite_sums.specs.Maps.{Text, Texts, some_and}
 use Rattle.book_rows.specs.declared.column.Column.{Column}
-use Rattle.book_rows.specs.declared.column.Column.TheVariants.{Acct, Date, Amount, Category, Description, Notes, Name, Tombstone, SortOrder, Cleared, Reconciled, Note, IsParent, IsChild, ParentId, TransferredId, Schedule, ImportedDescription, FinancialId, CatGroup, IsIncome, Hidden, Offbudget, Closed, TransferAcct, Month, Carryover, Buffered, Stage, ConditionsOp, Conditions, Actions, Rule, NextDate, Completed, PostsTransaction}
+use Rattle.book_rows.specs.declared.column.Column.TheVariants.{Tombstone}
 use Rattle.book_rows.specs.declared.column.Dataset.{Dataset}
 use Rattle.book_rows.specs.declared.column.Dataset.TheVariants.{Accounts, CategoryGroups, Categories, Payees, Transactions, Rules, Schedules}
 use Rattle.book_rows.specs.declared.rows.Rows.{Rows}
 use Rattle.book_rows.specs.Kinds.{flag_of}
-use Rattle.book_rows.specs.Columns.{same_text, dataset_name, column_name, all_columns, dataset_of, later_dataset_of, column_of, second_column_of, third_column_of, fourth_column_of, fifth_column_of, sixth_column_of}
+use Rattle.book_rows.specs.Columns.{same_text, dataset_name, column_name, all_columns, dataset_of, later_dataset_of, column_of, second_column_of, third_column_of}
 use Rattle.book_rows.specs.Tables.{Table, has_column}
 use Rattle.book_rows.specs.Rules.{account_table, group_table, category_table, payee_table, tx_table, rule_table, schedule_table}
-use Rattle.book_rows.specs.Rows.{Values, values_at, AreTableOf, AreRowsOf, dataset_kind, known_kind}
-use Rattle.book_rows.proofs.Naming.{dataset_named, some_column}
-use Rattle.edit_history.specs.Undo.{has_row, entry_over, tombstone_of, undo_values}
+use Rattle.book_rows.specs.Rows.{Values, values_at, AreTableOf, AreRowsOf, dataset_kind, known_kind, has_row}
+use Rattle.book_rows.proofs.Naming.{dataset_named, column_found, some_column}
+use Rattle.edit_history.specs.Undo.{entry_over, tombstone_of, undo_values}
 use Rattle.edit_history.specs.Laws.{with_values, MakesRow}
-use Rattle.edit_history.proofs.Basics.{bool_cases, both, both_parts, true_false}
+use Rattle.edit_history.proofs.Basics.{both, both_parts, true_false}
 use Rattle.edit_history.proofs.Rows.{row_of}
 use Rattle.edit_history.proofs.UndoLaw.{entries_undo}
 use Rattle.book_laws.specs.Undone.{HasKnownValue, AreGone, MadeRowsAreGone, RowsAreUndone}
+use Rattle.book_laws.proofs.Again.{one_of, the_value}
+use Rattle.book_laws.proofs.AsBefore.{all_again, all_as_before}
 
 -- ---- rows that are there
-
-one_of : {X : Type 0} (p : X → Bool) (xs : List X) → list_any p xs ≡ true → (x : X) × (p x ≡ true)
-one_of p [] h = true_false false h refl
-one_of p (x ∷ xs) h = bool_cases (p x) (λ t. (x, t)) (λ f. one_of p xs (ap (λ b. b || list_any p xs) (sym f) ∙ h))
-
-the_value : {X : Type 0} (o : Option X) → is_some o ≡ true → (x : X) × (o ≡ Some x)
-the_value None h = true_false false h refl
-the_value (Some x) h = (x, refl)
-
--- the names of datasets and columns are read back
-column_back : (c : Column) → column_of (column_name c) ≡ Some c
-unfolding same_text column_of second_column_of third_column_of fourth_column_of fifth_column_of sixth_column_of
-column_back Acct = refl
-column_back Date = refl
-column_back Amount = refl
-column_back Category = refl
-column_back Description = refl
-column_back Notes = refl
-column_back Name = refl
-column_back Tombstone = refl
-column_back SortOrder = refl
-column_back Cleared = refl
-column_back Reconciled = refl
-column_back Note = refl
-column_back IsParent = refl
-column_back IsChild = refl
-column_back ParentId = refl
-column_back TransferredId = refl
-column_back Schedule = refl
-column_back ImportedDescription = refl
-column_back FinancialId = refl
-column_back CatGroup = refl
-column_back IsIncome = refl
-column_back Hidden = refl
-column_back Offbudget = refl
-column_back Closed = refl
-column_back TransferAcct = refl
-column_back Month = refl
-column_back Carryover = refl
-column_back Buffered = refl
-column_back Stage = refl
-column_back ConditionsOp = refl
-column_back Conditions = refl
-column_back Actions = refl
-column_back Rule = refl
-column_back NextDate = refl
-column_back Completed = refl
-column_back PostsTransaction = refl
 
 there_so : (values : Values) (f : FieldNames) → has_row values f ≡ true → HasKnownValue values f
 there_so values f h = by (dataset_of f.dataset) refl
@@ -91,7 +44,7 @@ there_so values f h = by (dataset_of f.dataset) refl
         record {
           column = column_name got.0;
           kind = kind.0;
-          known = ap (λ o. known_kind o (column_of (column_name got.0))) is ∙ ap (known_kind (Some d)) (column_back got.0) ∙ kind.1;
+          known = ap (λ o. known_kind o (column_of (column_name got.0))) is ∙ ap (known_kind (Some d)) (column_found got.0) ∙ kind.1;
           value = value.0;
           has = ap (λ (a : Text). values (field_of a f.row (column_name got.0))) name ∙ value.1;
         }
@@ -159,4 +112,4 @@ module _ (values : Values) (ws : List (FieldNames × Value)) where
       }
 
 pub rows_undone : RowsAreUndone
-rows_undone = record { there = λ values f. (there_so values f, so_there values f); gone = all_gone }
+rows_undone = record { there = λ values f. (there_so values f, so_there values f); gone = all_gone; again = all_again; as_before = all_as_before }

@@ -25,8 +25,9 @@ abbrev pub new_id : Ids → Option Text → Text
 new_id ids None = ids 0
 new_id ids (Some id) = id
 
--- what plain edits do that are accepted, but for those that set a field, move an amount or note a text, of which Leaving says it. A row of
--- which nothing was there before is live
+-- what plain edits do that are accepted, but for those that set a field, move an amount, note a text or are of the tracking budget, of which
+-- Leaving says it, and those that hand on a category or merge payees, which HandingOn and Merging tell. A row of which nothing was there
+-- before is live
 pub record PlainEditsDo (ids : Ids) (rows : Rows) (ws : List Write) : Type 0 where
   -- an account has its name, and stands in the budget or outside, and its payee stands for it
   pub account : (id : Option Text) (name : Text) (off : Bool) → account_add rows id name off ≡ Ok ws

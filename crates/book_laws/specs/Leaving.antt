@@ -19,7 +19,7 @@ use Rattle.book_edits.specs.Edits.{set_writes}
 use Rattle.book_edits.specs.Accounts.{account_add, account_rename, account_offbudget, account_reopen, account_close, payee_add, payee_rename, payee_delete}
 use Rattle.book_edits.specs.Categories.{group_add, group_rename, group_delete, category_add, category_rename, category_move, category_delete}
 use Rattle.book_edits.specs.Transactions.{tx_add, note}
-use Rattle.book_edits.specs.Budgets.{budget, carryover, hold, move}
+use Rattle.book_edits.specs.Budgets.{budget, carryover, hold, move, track, track_carryover}
 use Rattle.split_transfer.specs.After.{Ids, with_writes}
 use Rattle.book_laws.specs.Doing.{new_id}
 
@@ -27,13 +27,24 @@ use Rattle.book_laws.specs.Doing.{new_id}
 abbrev pub changed : {Row : Type 0} → Table Row → Texts Row → Text → (Row → Row) → Texts Row
 changed table rows id change = map.insert rows id (change (unwrap_or (map.get rows id) (blank_row table id)))
 
--- what a category is given in a month: the row, or a new one that says of what it is
+-- a new row of what a category is given in a month, which says of what it is
+abbrev pub new_budget : Text → ℕ → BudgetRow
+new_budget category month = record { id = budget_id category month; month = pos month; category = Some category; amount = pos 0; carryover = false }
+
+-- what a category is given in a month: the row, or a new one
 abbrev pub budget_row : Rows → Text → ℕ → BudgetRow
-budget_row rows category month = unwrap_or (map.get rows.budgets (budget_id category month)) (record { id = budget_id category month; month = pos month; category = Some category; amount = pos 0; carryover = false })
+budget_row rows category month = unwrap_or (map.get rows.budgets (budget_id category month)) (new_budget category month)
 
 -- that row is changed, and no other
 abbrev pub with_budget : Rows → Text → ℕ → (BudgetRow → BudgetRow) → Rows
 with_budget rows category month change = record rows { budgets = map.insert rows.budgets (budget_id category month) (change (budget_row rows category month)) }
+
+-- the same of the tracking budget
+abbrev pub tracked_row : Rows → Text → ℕ → BudgetRow
+tracked_row rows category month = unwrap_or (map.get rows.tracked (budget_id category month)) (new_budget category month)
+
+abbrev pub with_tracked : Rows → Text → ℕ → (BudgetRow → BudgetRow) → Rows
+with_tracked rows category month change = record rows { tracked = map.insert rows.tracked (budget_id category month) (change (tracked_row rows category month)) }
 
 -- a live category of the group is deleted, and any other one stays as it is
 abbrev pub without_group : Rows → Text → CategoryRow → CategoryRow
@@ -85,3 +96,6 @@ pub record PlainEditsDoNoMore (ids : Ids) (rows : Rows) (ws : List Write) : Type
   -- what the one category has less the other one has more
   pub move : (month : ℕ) (from to : Text) (amount : ℤ) → move rows month from to amount ≡ Ok ws
       → with_writes ids rows ws ≡ with_budget (with_budget rows from month (λ b. record b { amount = b.amount -ℤ amount })) to month (λ b. record b { amount = b.amount +ℤ amount })
+  -- what it is given in the tracking budget, and whether it carries over there
+  pub track : (month : ℕ) (category : Text) (amount : ℤ) → track rows month category amount ≡ Ok ws → with_writes ids rows ws ≡ with_tracked rows category month (λ b. record b { amount = amount })
+  pub track_carryover : (month : ℕ) (category : Text) (flag : Bool) → track_carryover rows month category flag ≡ Ok ws → with_writes ids rows ws ≡ with_tracked rows category month (λ b. record b { carryover = flag })

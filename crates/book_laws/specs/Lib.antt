@@ -13,3 +13,7 @@ pub mod Ordered
 pub mod Wrong
 pub mod Standing
 pub mod Undone
+pub mod Mapping
+pub mod HandingOn
+pub mod Merging
+pub mod TakingBack

@@ -12,7 +12,7 @@ use Rattle.envelope_cells.specs.declared.name.CellKind.{CellKind}
 use Rattle.envelope_cells.specs.declared.name.CellKind.TheVariants.{TotalIncome, FromLastMonth, AvailableFunds, LastMonthOverspent, TotalBudgeted, Buffered, ToBudget, TotalSpent, TotalLeftover, GroupSum, GroupBudget, GroupLeftover, Sum, Budget as OfBudget, Carryover, Leftover}
 use Rattle.book_rows.specs.declared.rows.Rows.{Rows}
 use Rattle.book_rows.specs.declared.rows.TxRow.{TxRow}
-use Rattle.book_rows.specs.Live.{is_counted}
+use Rattle.book_rows.specs.Live.{is_counted, category_of}
 use Rattle.book_rows.specs.Months.{is_month, month_of_row}
 use Rattle.envelope_cells.specs.BudgetOf.{budget_of}
 
@@ -25,10 +25,10 @@ pub record MonthsAreNumbered : Type 0 where
   pub number : (m : ℕ) → month_number (month_at m) ≡ m
   pub month : (month : ℕ) → is_month month ≡ true → month_at (month_number month) ≡ month
 
--- a transaction counts in a category and in a month YYYYMM
+-- a transaction counts in a category, to which the one in its column resolves, and in a month YYYYMM
 pub record CountsIn (rows : Rows) (c : Text) (month : ℕ) (x : TxRow) : Type 0 where
   pub counts : is_counted rows x ≡ true
-  pub category : x.category ≡ Some c
+  pub category : category_of rows x ≡ Some c
   pub dated : month_of_row x ≡ Some month
 
 -- these are the transactions that count in a category and in a month, each once

@@ -7,6 +7,9 @@ ghost use Rattle.book_rows.specs.declared.rows.TxRow.{TxRow};
 ghost use Rattle.book_rows.specs.declared.write.Write.{Write};
 ghost use Rattle.split_transfer.specs.After.{Ids};
 ghost use Rattle.book_laws.specs.Books.{BalancesAreTold, KeptRowsAreTold, MonthsAreNamed, TransactionsAreListed, ValuesAreRead};
+ghost use Rattle.book_laws.specs.HandingOn.{CategoriesAreHandedOn, GainsAreTold};
+ghost use Rattle.book_laws.specs.Mapping.{OneStepIsTaken};
+ghost use Rattle.book_laws.specs.Merging.{PayeesAreMerged};
 ghost use Rattle.book_laws.specs.Moving.{TransfersMove};
 ghost use Rattle.book_laws.specs.Splitting.{SplitsMakeParts};
 ghost use Rattle.book_laws.specs.Doing.{ChangesDo, PlainEditsDo};
@@ -19,6 +22,7 @@ ghost use Rattle.envelope_cells.specs.Budget.{Budget};
 ghost use Rattle.book_laws.specs.Ordered.{SheetsAreInOrder};
 ghost use Rattle.book_laws.specs.Showing.{EditsShowOnSheets};
 ghost use Rattle.book_laws.specs.Standing.{TransfersAreOfAccounts};
+ghost use Rattle.book_laws.specs.TakingBack.{MappingsAreTakenBack};
 ghost use Rattle.book_laws.specs.Undone.{RowsAreUndone};
 ghost use Rattle.book_laws.specs.Wrong.{BrokenIsTold};
 ghost use Rattle.book_laws.specs.Sheets.{CellsAddUp, MonthsAreNumbered, SumsAreOfTransactions};
@@ -40,7 +44,8 @@ pub fn kept_rows_are_told()
     ensures { KeptRowsAreTold }
 {}
 
-/// A law: the parts of a transaction and the transactions of an account are those that say so, dead or alive, in the order of their ids.
+/// A law: the parts of a transaction, the transactions of an account, and those that have a category in their column, are those that say so,
+/// dead or alive, in the order of their ids.
 pub fn transactions_are_listed()
     ensures { (rows : Rows) → TransactionsAreListed rows }
 {}
@@ -106,7 +111,8 @@ pub fn plain_edits_are_judged()
 {}
 
 /// A law: a plain edit that is accepted does what it is for: the row that it is about has then what the edit gives it, where empty
-/// notes are none. What an edit does that sets a field, moves an amount or notes a text, `plain_edits_do_no_more` says.
+/// notes are none. What an edit does that sets a field, moves an amount, notes a text or is of the tracking budget, `plain_edits_do_no_more`
+/// says, and what one does that hands a category on or merges payees, `categories_are_handed_on` and `payees_are_merged`.
 pub fn plain_edits_do()
     ensures { (ids : Ids) (rows : Rows) (ws : List Write) → PlainEditsDo ids rows ws }
 {}
@@ -147,7 +153,41 @@ pub fn wrong_ones_are_told()
 {}
 
 /// A law: an entry tells a row as there exactly where a column of it that a book knows has a value, and each row that a book lacked before
-/// an edit, had after it, and can be deleted, is deleted after the undo of the edit.
+/// an edit, had after it, and can be deleted, is deleted after the undo of the edit. Each row that was there before it is as it was, and rows
+/// that can't be deleted say what they said; so each transaction is of the category and the payee that it was of, and categories are given
+/// what they were. Where the edit makes no row that can be deleted, each sheet is what it was.
 pub fn rows_are_undone()
     ensures { RowsAreUndone }
+{}
+
+/// A law: an id stands for the target of its own row of the mappings, whatever the row of the target says; so two ids that are mapped to
+/// each other are exchanged.
+pub fn one_step_is_taken()
+    ensures { OneStepIsTaken }
+{}
+
+/// A law: where a category is deleted and handed on to another one, each transaction that was of it is of the other one, and no other
+/// transaction changes its category. In each month the other one has what both had together, of transactions and of what expense
+/// categories are given, and each cell of every other category tells what it told; so what came in, went out and was given stays, over all live categories,
+/// and what is still to budget together with what is left in them. The category isn't live any more, and nothing else changes.
+pub fn categories_are_handed_on()
+    ensures { CategoriesAreHandedOn }
+{}
+
+/// A law: what a category leaves to another one where it is deleted are, month by month in their order, the months of the calendar in which
+/// an expense category is given more or less than nothing, and in each what both are given.
+pub fn gains_are_told()
+    ensures { (rows : Rows) (id to : Text) → GainsAreTold rows id to }
+{}
+
+/// A law: where payees become another one, each transaction that was of one of them is of the other one, and no other transaction changes
+/// its payee, nor does any row of a transaction change. They aren't live any more.
+pub fn payees_are_merged()
+    ensures { PayeesAreMerged }
+{}
+
+/// A law: the undo of a category's deletion that handed it on, and that of a merge of payees, leave no trace: each transaction is of the
+/// category and of the payee that it was of, and each sheet is what it was.
+pub fn mappings_are_taken_back()
+    ensures { MappingsAreTakenBack }
 {}

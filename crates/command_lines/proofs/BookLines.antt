@@ -2,10 +2,10 @@
 use Rattle.std.proofs.Common.{◌≡◌, ℕ, List, [], ◌∷◌, ◌⊎◌, refl}
 use Rattle.std.specs.Prelude.{codes}
 use Rattle.device_core.specs.declared.edit.Edit.TheVariants.{Book}
-use Rattle.book_edits.specs.declared.edit.BookEdit.TheVariants.{Budget, Carryover, Hold, Move}
+use Rattle.book_edits.specs.declared.edit.BookEdit.TheVariants.{Budget, Carryover, Hold, Move, Track, TrackCarryover}
 use Rattle.command_lines.specs.declared.command.Command.TheVariants.{Cell, Sheet, Edit}
 use Rattle.command_lines.specs.Forms.{misfit, no_more, word, amount_of, flag_of, month_of, amount_word, flag_word}
-use Rattle.command_lines.specs.Commands.{balance_words, register_words, cell_words, sheet_words, book_lines, words_of_book_lines, words_of_pair_lines, budget_words, carryover_words, hold_words, move_amount_words, month_lines, words_of_month_lines}
+use Rattle.command_lines.specs.Commands.{balance_words, register_words, cell_words, sheet_words, book_lines, words_of_book_lines, words_of_pair_lines, budget_words, carryover_words, hold_words, move_amount_words, track_words, track_carryover_words, month_lines, words_of_month_lines}
 use Rattle.command_lines.proofs.Amounts.{amount_written}
 use Rattle.command_lines.proofs.FormTexts.{flag_written, month_written}
 use Rattle.command_lines.proofs.Opening.{Opens, open_end, open_word, open_amount, open_flag, open_month}
@@ -82,8 +82,24 @@ move_amount_tells = λ month_t.
     tells_form (month_of month_t) (codes "move" ∷ month_t ∷ []) month_t month_of (λ month. word (λ from. word (λ to. amount_word (λ amount. no_more (Edit (Book (Move month from to amount))))))) refl (λ month month_read. λ from. λ to. λ amount_t.
     tells_form (amount_of amount_t) (codes "move" ∷ month_t ∷ from ∷ to ∷ amount_t ∷ []) amount_t amount_of (λ amount. no_more (Edit (Book (Move month from to amount)))) refl (λ amount amount_read. record { same = λ i. codes "move" ∷ (month_written month_t month month_read).0 i ∷ from ∷ to ∷ (amount_written amount_t amount amount_read).1 i ∷ []; valid = tt; can = ((month_written month_t month month_read).1, (amount_written amount_t amount amount_read).0) }))
 
+track_opens : Opens track_words
+track_opens = open_month _ (λ month. open_word _ (λ category. open_amount _ (λ amount. open_end _)))
+
+track_tells : Tells (codes "track" ∷ []) track_words
+track_tells = λ month_t.
+    tells_form (month_of month_t) (codes "track" ∷ month_t ∷ []) month_t month_of (λ month. word (λ category. amount_word (λ amount. no_more (Edit (Book (Track month category amount)))))) refl (λ month month_read. λ category. λ amount_t.
+    tells_form (amount_of amount_t) (codes "track" ∷ month_t ∷ category ∷ amount_t ∷ []) amount_t amount_of (λ amount. no_more (Edit (Book (Track month category amount)))) refl (λ amount amount_read. record { same = λ i. codes "track" ∷ (month_written month_t month month_read).0 i ∷ category ∷ (amount_written amount_t amount amount_read).1 i ∷ []; valid = tt; can = ((month_written month_t month month_read).1, (amount_written amount_t amount amount_read).0) }))
+
+track_carryover_opens : Opens track_carryover_words
+track_carryover_opens = open_month _ (λ month. open_word _ (λ category. open_flag _ (λ carries. open_end _)))
+
+track_carryover_tells : Tells (codes "track-carryover" ∷ []) track_carryover_words
+track_carryover_tells = λ month_t.
+    tells_form (month_of month_t) (codes "track-carryover" ∷ month_t ∷ []) month_t month_of (λ month. word (λ category. flag_word (λ carries. no_more (Edit (Book (TrackCarryover month category carries)))))) refl (λ month month_read. λ category. λ carries_t.
+    tells_form (flag_of carries_t) (codes "track-carryover" ∷ month_t ∷ category ∷ carries_t ∷ []) carries_t flag_of (λ carries. no_more (Edit (Book (TrackCarryover month category carries)))) refl (λ carries carries_read. record { same = λ i. codes "track-carryover" ∷ (month_written month_t month month_read).0 i ∷ category ∷ (flag_written carries_t carries carries_read) i ∷ []; valid = tt; can = (month_written month_t month month_read).1 }))
+
 month_lines_are : AreKnown month_lines
-month_lines_are = (record { good = refl; plain = refl; form = tt; goes = budget_opens.1; tells = budget_tells }, (record { good = refl; plain = refl; form = tt; goes = carryover_opens.1; tells = carryover_tells }, (record { good = refl; plain = refl; form = tt; goes = hold_opens.1; tells = hold_tells }, (record { good = refl; plain = refl; form = tt; goes = move_amount_opens.1; tells = move_amount_tells }, tt))))
+month_lines_are = (record { good = refl; plain = refl; form = tt; goes = budget_opens.1; tells = budget_tells }, (record { good = refl; plain = refl; form = tt; goes = carryover_opens.1; tells = carryover_tells }, (record { good = refl; plain = refl; form = tt; goes = hold_opens.1; tells = hold_tells }, (record { good = refl; plain = refl; form = tt; goes = move_amount_opens.1; tells = move_amount_tells }, (record { good = refl; plain = refl; form = tt; goes = track_opens.1; tells = track_tells }, (record { good = refl; plain = refl; form = tt; goes = track_carryover_opens.1; tells = track_carryover_tells }, tt))))))
 
 pub month_lines_known : (name : List ℕ) → (words_of_month_lines name ≡ misfit) ⊎ IsKnown name (words_of_month_lines name)
 unfolding words_of_month_lines

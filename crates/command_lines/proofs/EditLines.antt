@@ -2,13 +2,13 @@
 use Rattle.std.proofs.Common.{◌≡◌, ℕ, List, [], ◌∷◌, ◌⊎◌, refl}
 use Rattle.std.specs.Prelude.{codes}
 use Rattle.device_core.specs.declared.edit.Edit.TheVariants.{Book}
-use Rattle.book_edits.specs.declared.edit.BookEdit.TheVariants.{AccountAdd, GroupAdd, CategoryAdd, PayeeAdd, TxAdd, AccountOffbudget}
+use Rattle.book_edits.specs.declared.edit.BookEdit.TheVariants.{AccountAdd, GroupAdd, CategoryAdd, PayeeAdd, TxAdd, AccountOffbudget, PayeeMerge}
 use Rattle.command_lines.specs.declared.command.Command.TheVariants.{Edit}
-use Rattle.command_lines.specs.Forms.{misfit, no_more, word, amount_of, flag_of, date_of, amount_word, flag_word, date_word, id_word, id_of}
-use Rattle.command_lines.specs.Commands.{account_add_words, group_add_words, category_add_words, payee_add_words, tx_add_words, add_lines, words_of_add_lines, account_reopen_words, account_close_words, account_offbudget_words, group_delete_words, category_delete_words, payee_delete_words, state_lines, words_of_state_lines, account_rename_words, group_rename_words, category_rename_words, payee_rename_words, category_move_words, note_words, row_lines, words_of_row_lines, words_of_month_lines}
+use Rattle.command_lines.specs.Forms.{misfit, no_more, word, some_texts, amount_of, flag_of, date_of, amount_word, flag_word, date_word, id_word, id_of}
+use Rattle.command_lines.specs.Commands.{edit, account_add_words, group_add_words, category_add_words, payee_add_words, tx_add_words, add_lines, words_of_add_lines, account_reopen_words, account_close_words, account_offbudget_words, group_delete_words, category_delete_words, payee_delete_words, payee_merge_words, state_lines, words_of_state_lines, account_rename_words, group_rename_words, category_rename_words, payee_rename_words, category_move_words, note_words, row_lines, words_of_row_lines, words_of_month_lines}
 use Rattle.command_lines.proofs.Amounts.{amount_written, id_told}
 use Rattle.command_lines.proofs.FormTexts.{flag_written, date_written}
-use Rattle.command_lines.proofs.Opening.{Opens, open_end, open_word, open_id, open_amount, open_flag, open_date}
+use Rattle.command_lines.proofs.Opening.{Opens, can_end, open_end, open_word, open_more, open_id, open_amount, open_flag, open_date}
 use Rattle.command_lines.proofs.Telling.{Tells, tells_form}
 use Rattle.command_lines.proofs.Known.{IsKnown, AreKnown, known_in}
 use Rattle.command_lines.proofs.BookLines.{month_lines_known}
@@ -63,7 +63,7 @@ pub add_lines_known : (name : List ℕ) → (words_of_add_lines name ≡ misfit)
 unfolding words_of_add_lines
 add_lines_known name = known_in add_lines name (words_of_month_lines name) add_lines_are (month_lines_known name)
 
--- ---- the lines that open, close or delete a row
+-- ---- the lines that open, close or delete rows
 
 account_reopen_opens : Opens account_reopen_words
 account_reopen_opens = open_word _ (λ id. open_end _)
@@ -91,10 +91,10 @@ group_delete_tells : Tells (codes "group-delete" ∷ []) group_delete_words
 group_delete_tells = λ id. record { same = refl; valid = tt; can = tt }
 
 category_delete_opens : Opens category_delete_words
-category_delete_opens = open_word _ (λ id. open_end _)
+category_delete_opens = open_word _ (λ id. open_more _ _ (λ to. open_end _))
 
 category_delete_tells : Tells (codes "category-delete" ∷ []) category_delete_words
-category_delete_tells = λ id. record { same = refl; valid = tt; can = tt }
+category_delete_tells = λ id. (record { same = refl; valid = tt; can = tt }, λ to. record { same = refl; valid = tt; can = tt })
 
 payee_delete_opens : Opens payee_delete_words
 payee_delete_opens = open_word _ (λ id. open_end _)
@@ -102,8 +102,14 @@ payee_delete_opens = open_word _ (λ id. open_end _)
 payee_delete_tells : Tells (codes "payee-delete" ∷ []) payee_delete_words
 payee_delete_tells = λ id. record { same = refl; valid = tt; can = tt }
 
+payee_merge_opens : Opens payee_merge_words
+payee_merge_opens = open_word _ (λ to. (can_end (some_texts [] (λ ids. edit (PayeeMerge to ids))) tt tt, tt))
+
+payee_merge_tells : Tells (codes "payee-merge" ∷ []) payee_merge_words
+payee_merge_tells = λ to ids some. record { same = refl; valid = tt; can = some }
+
 state_lines_are : AreKnown state_lines
-state_lines_are = (record { good = refl; plain = refl; form = tt; goes = account_reopen_opens.1; tells = account_reopen_tells }, (record { good = refl; plain = refl; form = tt; goes = account_close_opens.1; tells = account_close_tells }, (record { good = refl; plain = refl; form = tt; goes = account_offbudget_opens.1; tells = account_offbudget_tells }, (record { good = refl; plain = refl; form = tt; goes = group_delete_opens.1; tells = group_delete_tells }, (record { good = refl; plain = refl; form = tt; goes = category_delete_opens.1; tells = category_delete_tells }, (record { good = refl; plain = refl; form = tt; goes = payee_delete_opens.1; tells = payee_delete_tells }, tt))))))
+state_lines_are = (record { good = refl; plain = refl; form = tt; goes = account_reopen_opens.1; tells = account_reopen_tells }, (record { good = refl; plain = refl; form = tt; goes = account_close_opens.1; tells = account_close_tells }, (record { good = refl; plain = refl; form = tt; goes = account_offbudget_opens.1; tells = account_offbudget_tells }, (record { good = refl; plain = refl; form = tt; goes = group_delete_opens.1; tells = group_delete_tells }, (record { good = refl; plain = refl; form = tt; goes = category_delete_opens.1; tells = category_delete_tells }, (record { good = refl; plain = refl; form = tt; goes = payee_delete_opens.1; tells = payee_delete_tells }, (record { good = refl; plain = refl; form = tt; goes = payee_merge_opens.1; tells = payee_merge_tells }, tt)))))))
 
 pub state_lines_known : (name : List ℕ) → (words_of_state_lines name ≡ misfit) ⊎ IsKnown name (words_of_state_lines name)
 unfolding words_of_state_lines

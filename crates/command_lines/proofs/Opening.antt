@@ -75,6 +75,9 @@ open_word next h =
     let first = (h []).0 in
     let end : CanEnd (word next) = ([] ∷ first.0, first.1, first.2) in (end, (end, λ text. (h text).1))
 
+pub open_more : (c : Command) (next : List ℕ → Wanted) → ((text : List ℕ) → Opens (next text)) → Opens (may_end c next)
+open_more c next h = (([], c, refl), λ text. (h text).1)
+
 on_if : (t : Bool) (wanted : Wanted) → GoesOn wanted → GoesOn (if t then wanted else misfit)
 on_if true wanted h = h
 on_if false wanted h = tt

@@ -1,7 +1,7 @@
--- The texts of a line that repeat, one after the other.
+-- The words of a line that repeat, one after the other, and those that may be left out.
 use Rattle.std.proofs.Common.{◌≡◌, ◌≢◌, ℕ, List, [], ◌∷◌, ◌++◌, Ok, refl}
 use Rattle.command_lines.specs.declared.command.Command.{Command}
-use Rattle.command_lines.specs.Forms.{Wanted, word, some_texts, command_of}
+use Rattle.command_lines.specs.Forms.{Wanted, word, may_end, some_texts, command_of}
 
 -- where texts are wanted, the next word is one; behind others there may be none
 abbrev pub next_text : List (List ℕ) → (List (List ℕ) → Command) → List ℕ → Wanted
@@ -20,3 +20,8 @@ no_text_left (text ∷ texts) made last some = refl
 pub is_some : (texts : List (List ℕ)) (text : List ℕ) → texts ++ text ∷ [] ≢ []
 is_some [] text = λ none. cc
 is_some (t ∷ texts) text = λ none. cc
+
+-- where the words may end, and do not, a word is wanted
+pub more_left : (c : Command) (next : List ℕ → Wanted) (last : ℕ) (words : List (List ℕ)) → words ≢ [] → command_of (may_end c next) last words ≡ command_of (word next) last words
+more_left c next last [] more = absurd (more refl)
+more_left c next last (w ∷ ws) more = refl

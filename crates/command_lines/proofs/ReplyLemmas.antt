@@ -20,7 +20,7 @@ use Rattle.minute_trie.specs.Held.{Held, after, or_zero}
 use Rattle.minute_trie.specs.Trie.{trie_of}
 use Rattle.minute_trie.specs.Names.{child_name, hash_name}
 use Rattle.minute_trie.specs.Json.{hash_text, key_text, object_text, child_text, members_text, trie_text}
-use Rattle.book_rows.specs.declared.fault.EditFault.TheVariants.{BadId, IdTaken, NoSuchAccount, NoSuchGroup, NoSuchCategory, NoSuchPayee, NoSuchTransaction, BadDate, BadAmount, BadMonth, SplitSum, IsChild, IsTransferPart, SameAccount, ClosedAccount, IncomeCategory, NameTaken, TooManyWrites, BadRule, NoSuchSchedule, BadRecur, ScheduleDone, BadStatement, NothingToUndo, NothingToRedo, NoMemory as EditNoMemory}
+use Rattle.book_rows.specs.declared.fault.EditFault.TheVariants.{BadId, IdTaken, NoSuchAccount, NoSuchGroup, NoSuchCategory, NoSuchPayee, NoSuchTransaction, BadDate, BadAmount, BadMonth, SplitSum, IsChild, IsTransferPart, SameAccount, ClosedAccount, IncomeCategory, NameTaken, TooManyWrites, BadRule, NoSuchSchedule, BadRecur, ScheduleDone, BadStatement, NothingToUndo, NothingToRedo, CategoryType, TransferPayee, NoMemory as EditNoMemory}
 use Rattle.device_core.specs.declared.edit.LineRefusal.{LineRefusal}
 use Rattle.device_core.specs.declared.edit.LineRefusal.TheVariants.{Edit as OfEdit, Clock as OfClock, NoMemory}
 use Rattle.kept_messages.specs.Pairs.{pairs_of}
@@ -227,6 +227,8 @@ refusal_if (OfEdit (ScheduleDone id)) = code (codes "schedule-done") refl
 refusal_if (OfEdit (BadStatement row column)) = code (codes "bad-statement") refl
 refusal_if (OfEdit NothingToUndo) = code (codes "nothing-to-undo") refl
 refusal_if (OfEdit NothingToRedo) = code (codes "nothing-to-redo") refl
+refusal_if (OfEdit (CategoryType id)) = code (codes "category-type") refl
+refusal_if (OfEdit (TransferPayee id)) = code (codes "transfer-payee") refl
 refusal_if (OfEdit EditNoMemory) = tt
 refusal_if (OfClock fault) = clock_is fault
 refusal_if NoMemory = tt

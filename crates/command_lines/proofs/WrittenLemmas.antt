@@ -14,7 +14,7 @@ use Rattle.field_merge.specs.declared.message.Message.{Message}
 use Rattle.field_merge.specs.Lines.{parts}
 use Rattle.field_merge.specs.Messages.{IsMessage, message_of, message_texts}
 use Rattle.device_core.specs.declared.edit.Edit.TheVariants.{Book, Pair, Rule, Schedule as OfSchedule, Import}
-use Rattle.book_edits.specs.declared.edit.BookEdit.TheVariants.{Set, AccountAdd, AccountRename, AccountOffbudget, AccountReopen, AccountClose, GroupAdd, GroupRename, GroupDelete, CategoryAdd, CategoryRename, CategoryMove, CategoryDelete, PayeeAdd, PayeeRename, PayeeDelete, TxAdd, Budget, Carryover, Hold, Move, Note}
+use Rattle.book_edits.specs.declared.edit.BookEdit.TheVariants.{Set, AccountAdd, AccountRename, AccountOffbudget, AccountReopen, AccountClose, GroupAdd, GroupRename, GroupDelete, CategoryAdd, CategoryRename, CategoryMove, CategoryDelete, CategoryDeleteTo, PayeeAdd, PayeeRename, PayeeDelete, PayeeMerge, TxAdd, Budget, Carryover, Hold, Move, Track, TrackCarryover, Note}
 use Rattle.command_lines.specs.declared.command.Command.{Command}
 use Rattle.command_lines.specs.declared.command.Command.TheVariants.{Edit, Undo, Redo, Receive, Fields, Messages, Value, Trie, Balance, Register, Cell, Sheet, Broken, ScheduleStatus, Sync}
 use Rattle.std.specs.Fmt.{signed_decimal}
@@ -27,6 +27,7 @@ use Rattle.command_lines.proofs.FormTexts.{flag_back, date_back, month_back}
 use Rattle.command_lines.proofs.FormLemmas.{Makes}
 use Rattle.command_lines.proofs.LineBack.{makes_form, line_back}
 use Rattle.command_lines.proofs.PairsBack.{pairs_back}
+use Rattle.command_lines.proofs.RepeatLemmas.{texts_make}
 use Rattle.command_lines.proofs.RulesBack.{rules_back, schedules_back}
 
 -- ---- a word of a form
@@ -85,8 +86,12 @@ words_back (Edit (Book (GroupDelete id))) is can =
     line_back (codes "group-delete") (id ∷ []) (Edit (Book (GroupDelete id))) refl refl
 words_back (Edit (Book (CategoryDelete id))) is can =
     line_back (codes "category-delete") (id ∷ []) (Edit (Book (CategoryDelete id))) refl refl
+words_back (Edit (Book (CategoryDeleteTo id to))) is can =
+    line_back (codes "category-delete") (id ∷ to ∷ []) (Edit (Book (CategoryDeleteTo id to))) refl refl
 words_back (Edit (Book (PayeeDelete id))) is can =
     line_back (codes "payee-delete") (id ∷ []) (Edit (Book (PayeeDelete id))) refl refl
+words_back (Edit (Book (PayeeMerge to ids))) is can =
+    line_back (codes "payee-merge") (to ∷ ids) (Edit (Book (PayeeMerge to ids))) refl (texts_make ids [] (λ ids. Edit (Book (PayeeMerge to ids))) can)
 words_back (Edit (Book (AccountAdd id name off))) is can =
     line_back (codes "account-add") (id_text id ∷ name ∷ flag_text off ∷ []) (Edit (Book (AccountAdd id name off))) refl (makes_form id_of (λ id. word (λ name. flag_word (λ off. no_more (Edit (Book (AccountAdd id name off)))))) id (id_text id) (name ∷ flag_text off ∷ []) (Edit (Book (AccountAdd id name off))) (id_of_back id can) (makes_form flag_of (λ off. no_more (Edit (Book (AccountAdd id name off)))) off (flag_text off) [] (Edit (Book (AccountAdd id name off))) (flag_back off) refl))
 words_back (Edit (Book (GroupAdd id name income))) is can =
@@ -105,6 +110,10 @@ words_back (Edit (Book (Hold month amount))) is can =
     line_back (codes "hold") (month_text month ∷ signed_decimal amount ∷ []) (Edit (Book (Hold month amount))) refl (makes_form month_of (λ month. amount_word (λ amount. no_more (Edit (Book (Hold month amount))))) month (month_text month) (signed_decimal amount ∷ []) (Edit (Book (Hold month amount))) (month_back month can.0) (makes_form amount_of (λ amount. no_more (Edit (Book (Hold month amount)))) amount (signed_decimal amount) [] (Edit (Book (Hold month amount))) (amount_back amount can.1) refl))
 words_back (Edit (Book (Move month from to amount))) is can =
     line_back (codes "move") (month_text month ∷ from ∷ to ∷ signed_decimal amount ∷ []) (Edit (Book (Move month from to amount))) refl (makes_form month_of (λ month. word (λ from. word (λ to. amount_word (λ amount. no_more (Edit (Book (Move month from to amount))))))) month (month_text month) (from ∷ to ∷ signed_decimal amount ∷ []) (Edit (Book (Move month from to amount))) (month_back month can.0) (makes_form amount_of (λ amount. no_more (Edit (Book (Move month from to amount)))) amount (signed_decimal amount) [] (Edit (Book (Move month from to amount))) (amount_back amount can.1) refl))
+words_back (Edit (Book (Track month category amount))) is can =
+    line_back (codes "track") (month_text month ∷ category ∷ signed_decimal amount ∷ []) (Edit (Book (Track month category amount))) refl (makes_form month_of (λ month. word (λ category. amount_word (λ amount. no_more (Edit (Book (Track month category amount)))))) month (month_text month) (category ∷ signed_decimal amount ∷ []) (Edit (Book (Track month category amount))) (month_back month can.0) (makes_form amount_of (λ amount. no_more (Edit (Book (Track month category amount)))) amount (signed_decimal amount) [] (Edit (Book (Track month category amount))) (amount_back amount can.1) refl))
+words_back (Edit (Book (TrackCarryover month category carries))) is can =
+    line_back (codes "track-carryover") (month_text month ∷ category ∷ flag_text carries ∷ []) (Edit (Book (TrackCarryover month category carries))) refl (makes_form month_of (λ month. word (λ category. flag_word (λ carries. no_more (Edit (Book (TrackCarryover month category carries)))))) month (month_text month) (category ∷ flag_text carries ∷ []) (Edit (Book (TrackCarryover month category carries))) (month_back month can) (makes_form flag_of (λ carries. no_more (Edit (Book (TrackCarryover month category carries)))) carries (flag_text carries) [] (Edit (Book (TrackCarryover month category carries))) (flag_back carries) refl))
 words_back (Balance account) is can =
     line_back (codes "balance") (account ∷ []) (Balance account) refl refl
 words_back (Register account) is can =

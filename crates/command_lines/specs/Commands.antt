@@ -8,7 +8,7 @@ use Rattle.field_merge.specs.Messages.{IsMessage, message_of}
 use Rattle.device_core.specs.declared.edit.Edit.TheVariants.{Book, Pair, Rule, Schedule as OfSchedule, Import}
 use Rattle.device_core.specs.Edits.{IsEdit}
 use Rattle.book_edits.specs.declared.edit.BookEdit.{BookEdit}
-use Rattle.book_edits.specs.declared.edit.BookEdit.TheVariants.{Set, AccountAdd, AccountRename, AccountOffbudget, AccountReopen, AccountClose, GroupAdd, GroupRename, GroupDelete, CategoryAdd, CategoryRename, CategoryMove, CategoryDelete, PayeeAdd, PayeeRename, PayeeDelete, TxAdd, Budget, Carryover, Hold, Move, Note}
+use Rattle.book_edits.specs.declared.edit.BookEdit.TheVariants.{Set, AccountAdd, AccountRename, AccountOffbudget, AccountReopen, AccountClose, GroupAdd, GroupRename, GroupDelete, CategoryAdd, CategoryRename, CategoryMove, CategoryDelete, CategoryDeleteTo, PayeeAdd, PayeeRename, PayeeDelete, PayeeMerge, TxAdd, Budget, Carryover, Hold, Move, Track, TrackCarryover, Note}
 use Rattle.split_transfer.specs.declared.edit.PairEdit.{PairEdit}
 use Rattle.split_transfer.specs.declared.edit.PairEdit.TheVariants.{TxSet, TxDelete, Split, Transfer}
 use Rattle.split_transfer.specs.declared.edit.TxChange.{TxChange}
@@ -22,7 +22,7 @@ use Rattle.command_lines.specs.declared.command.Command.{Command}
 use Rattle.command_lines.specs.declared.command.Command.TheVariants.{Edit, Undo, Redo, Receive, Fields, Messages, Value, Trie, Balance, Register, Cell, Sheet, Broken, ScheduleStatus, Sync}
 use Rattle.command_lines.specs.declared.command.CommandFault.{CommandFault}
 use Rattle.command_lines.specs.declared.command.CommandFault.TheVariants.{BadCommand, NoMemory}
-use Rattle.command_lines.specs.Forms.{Share, Wanted, word, some_texts, some_shares, no_more, misfit, stamp_word, name_word, amount_word, flag_word, date_word, month_word, id_word, stage_word, op_word, command_of}
+use Rattle.command_lines.specs.Forms.{Share, Wanted, word, may_end, some_texts, some_shares, no_more, misfit, stamp_word, name_word, amount_word, flag_word, date_word, month_word, id_word, stage_word, op_word, command_of}
 
 -- an edit of the books
 abbrev pub edit : BookEdit → Command
@@ -86,11 +86,16 @@ account_offbudget_words = word (λ id. flag_word (λ off. no_more (edit (Account
 abbrev pub group_delete_words : Wanted
 group_delete_words = word (λ id. no_more (edit (GroupDelete id)))
 
+-- `category-delete`: a category, which is deleted, or is handed on where another one stands behind it
 abbrev pub category_delete_words : Wanted
-category_delete_words = word (λ id. no_more (edit (CategoryDelete id)))
+category_delete_words = word (λ id. may_end (edit (CategoryDelete id)) (λ to. no_more (edit (CategoryDeleteTo id to))))
 
 abbrev pub payee_delete_words : Wanted
 payee_delete_words = word (λ id. no_more (edit (PayeeDelete id)))
+
+-- `payee-merge`: the payee that stays, and those that become it, one or more
+abbrev pub payee_merge_words : Wanted
+payee_merge_words = word (λ to. some_texts [] (λ ids. edit (PayeeMerge to ids)))
 
 -- the lines that add a row: an id or a hyphen for a new one, and what the row is to have
 abbrev pub account_add_words : Wanted
@@ -120,6 +125,13 @@ hold_words = month_word (λ month. amount_word (λ amount. no_more (edit (Hold m
 
 abbrev pub move_amount_words : Wanted
 move_amount_words = month_word (λ month. word (λ from. word (λ to. amount_word (λ amount. no_more (edit (Move month from to amount))))))
+
+-- the same of the tracking budget: a month, a category, and what it is given or whether it carries over
+abbrev pub track_words : Wanted
+track_words = month_word (λ month. word (λ category. amount_word (λ amount. no_more (edit (Track month category amount)))))
+
+abbrev pub track_carryover_words : Wanted
+track_carryover_words = month_word (λ month. word (λ category. flag_word (λ carries. no_more (edit (TrackCarryover month category carries)))))
 
 -- the lines that ask of the books: an account; or a month, and the name of a cell
 abbrev pub balance_words : Wanted
@@ -267,7 +279,7 @@ row_lines =
     ∷ (codes "note", note_words)
     ∷ []
 
--- the lines that open, close or delete a row
+-- the lines that open, close or delete rows
 abbrev pub state_lines : List LineForm
 state_lines =
     (codes "account-reopen", account_reopen_words)
@@ -276,6 +288,7 @@ state_lines =
     ∷ (codes "group-delete", group_delete_words)
     ∷ (codes "category-delete", category_delete_words)
     ∷ (codes "payee-delete", payee_delete_words)
+    ∷ (codes "payee-merge", payee_merge_words)
     ∷ []
 
 -- the lines that add a row
@@ -295,6 +308,8 @@ month_lines =
     ∷ (codes "carryover", carryover_words)
     ∷ (codes "hold", hold_words)
     ∷ (codes "move", move_amount_words)
+    ∷ (codes "track", track_words)
+    ∷ (codes "track-carryover", track_carryover_words)
     ∷ []
 
 -- the lines that ask of the books

@@ -2,7 +2,7 @@
 use Rattle.std.specs.Prelude.{List, ℕ, [], ◌∷◌, ◌++◌, codes, Option, None, Some}
 use Rattle.std.specs.Fmt.{decimal, signed_decimal}
 use Rattle.book_rows.specs.declared.fault.EditFault.{EditFault}
-use Rattle.book_rows.specs.declared.fault.EditFault.TheVariants.{BadId, IdTaken, NoSuchAccount, NoSuchGroup, NoSuchCategory, NoSuchPayee, NoSuchTransaction, BadDate, BadAmount, BadMonth, SplitSum, IsChild, IsTransferPart, SameAccount, ClosedAccount, IncomeCategory, NameTaken, TooManyWrites, BadRule, NoSuchSchedule, BadRecur, ScheduleDone, BadStatement, NothingToUndo, NothingToRedo, NoMemory}
+use Rattle.book_rows.specs.declared.fault.EditFault.TheVariants.{BadId, IdTaken, NoSuchAccount, NoSuchGroup, NoSuchCategory, NoSuchPayee, NoSuchTransaction, BadDate, BadAmount, BadMonth, SplitSum, IsChild, IsTransferPart, SameAccount, ClosedAccount, IncomeCategory, NameTaken, TooManyWrites, BadRule, NoSuchSchedule, BadRecur, ScheduleDone, BadStatement, NothingToUndo, NothingToRedo, CategoryType, TransferPayee, NoMemory}
 use Rattle.book_rows.specs.declared.fault.RulePart.{RulePart}
 use Rattle.book_rows.specs.declared.fault.RulePart.TheVariants.{Id, Conditions, Actions}
 use Rattle.book_rows.specs.declared.fault.RecurPart.{RecurPart}
@@ -78,4 +78,6 @@ refused_edit (ScheduleDone id) = Some (Refused 22 (codes "schedule-done") id)
 refused_edit (BadStatement row column) = Some (Refused 23 (codes "bad-statement") (decimal row ++ 32 ∷ decimal column))
 refused_edit NothingToUndo = Some (Refused 24 (codes "nothing-to-undo") [])
 refused_edit NothingToRedo = Some (Refused 25 (codes "nothing-to-redo") [])
+refused_edit (CategoryType id) = Some (Refused 31 (codes "category-type") id)
+refused_edit (TransferPayee id) = Some (Refused 32 (codes "transfer-payee") id)
 refused_edit NoMemory = None

@@ -8,7 +8,7 @@ use Rattle.field_merge.specs.Lines.{reading}
 use Rattle.field_merge.specs.Messages.{message_texts, line_of_texts}
 use Rattle.device_core.specs.declared.edit.Edit.TheVariants.{Book, Pair, Rule, Schedule as OfSchedule, Import}
 use Rattle.book_edits.specs.declared.edit.BookEdit.{BookEdit}
-use Rattle.book_edits.specs.declared.edit.BookEdit.TheVariants.{Set, AccountAdd, AccountRename, AccountOffbudget, AccountReopen, AccountClose, GroupAdd, GroupRename, GroupDelete, CategoryAdd, CategoryRename, CategoryMove, CategoryDelete, PayeeAdd, PayeeRename, PayeeDelete, TxAdd, Budget, Carryover, Hold, Move, Note}
+use Rattle.book_edits.specs.declared.edit.BookEdit.TheVariants.{Set, AccountAdd, AccountRename, AccountOffbudget, AccountReopen, AccountClose, GroupAdd, GroupRename, GroupDelete, CategoryAdd, CategoryRename, CategoryMove, CategoryDelete, CategoryDeleteTo, PayeeAdd, PayeeRename, PayeeDelete, PayeeMerge, TxAdd, Budget, Carryover, Hold, Move, Track, TrackCarryover, Note}
 use Rattle.split_transfer.specs.declared.edit.PairEdit.{PairEdit}
 use Rattle.split_transfer.specs.declared.edit.PairEdit.TheVariants.{TxSet, TxDelete, Split, Transfer}
 use Rattle.split_transfer.specs.declared.edit.TxChange.{TxChange}
@@ -56,15 +56,19 @@ edit_texts (CategoryAdd id group name) = codes "category-add" ∷ id_text id ∷
 edit_texts (CategoryRename id name) = codes "category-rename" ∷ id ∷ name ∷ []
 edit_texts (CategoryMove id group) = codes "category-move" ∷ id ∷ group ∷ []
 edit_texts (CategoryDelete id) = codes "category-delete" ∷ id ∷ []
+edit_texts (CategoryDeleteTo id to) = codes "category-delete" ∷ id ∷ to ∷ []
 edit_texts (PayeeAdd id name) = codes "payee-add" ∷ id_text id ∷ name ∷ []
 edit_texts (PayeeRename id name) = codes "payee-rename" ∷ id ∷ name ∷ []
 edit_texts (PayeeDelete id) = codes "payee-delete" ∷ id ∷ []
+edit_texts (PayeeMerge to ids) = codes "payee-merge" ∷ to ∷ ids
 edit_texts (TxAdd id account date amount payee category notes) =
     codes "tx-add" ∷ id_text id ∷ account ∷ date_text date ∷ signed_decimal amount ∷ id_text payee ∷ id_text category ∷ notes ∷ []
 edit_texts (Budget month category amount) = codes "budget" ∷ month_text month ∷ category ∷ signed_decimal amount ∷ []
 edit_texts (Carryover month category carries) = codes "carryover" ∷ month_text month ∷ category ∷ flag_text carries ∷ []
 edit_texts (Hold month amount) = codes "hold" ∷ month_text month ∷ signed_decimal amount ∷ []
 edit_texts (Move month from to amount) = codes "move" ∷ month_text month ∷ from ∷ to ∷ signed_decimal amount ∷ []
+edit_texts (Track month category amount) = codes "track" ∷ month_text month ∷ category ∷ signed_decimal amount ∷ []
+edit_texts (TrackCarryover month category carries) = codes "track-carryover" ∷ month_text month ∷ category ∷ flag_text carries ∷ []
 edit_texts (Note id text) = codes "note" ∷ id ∷ text ∷ []
 
 -- what is changed of a transaction, and what it gets
@@ -119,17 +123,20 @@ HasSix n = n < 1_000_000
 abbrev pub Has64Bits : ℤ → Type 0
 Has64Bits n = is_amount n ≡ true
 
--- the words of an edit's line can write what it holds
+-- the words of an edit's line can write what it holds. A payee, or several, are merged
 abbrev pub CanWriteEdit : BookEdit → Type 0
 CanWriteEdit (AccountAdd id name off) = IsGiven id
 CanWriteEdit (GroupAdd id name income) = IsGiven id
 CanWriteEdit (CategoryAdd id group name) = IsGiven id
 CanWriteEdit (PayeeAdd id name) = IsGiven id
+CanWriteEdit (PayeeMerge to ids) = ids ≢ []
 CanWriteEdit (TxAdd id account date amount payee category notes) = IsGiven id × HasEight date × Has64Bits amount × IsGiven payee × IsGiven category
 CanWriteEdit (Budget month category amount) = HasSix month × Has64Bits amount
 CanWriteEdit (Carryover month category carries) = HasSix month
 CanWriteEdit (Hold month amount) = HasSix month × Has64Bits amount
 CanWriteEdit (Move month from to amount) = HasSix month × Has64Bits amount
+CanWriteEdit (Track month category amount) = HasSix month × Has64Bits amount
+CanWriteEdit (TrackCarryover month category carries) = HasSix month
 CanWriteEdit other = Unit {0}
 
 abbrev pub CanWriteChange : TxChange → Type 0

@@ -1,5 +1,5 @@
 //! The answers of the lines that only read.
-ghost use Rattle.std.specs.Prelude.{◌≡◌, ◌≢◌, ◌<◌, ◌≤◌, OnOk, IfOk, map, false};
+ghost use Rattle.std.specs.Prelude.{◌≡◌, ◌≢◌, OnOk, IfOk, map, false};
 ghost use Rattle.std.specs.Option.{option_copied};
 ghost use Rattle.field_values.specs.Names.{field_of};
 ghost use Rattle.field_values.specs.Value.{value_text, IsValue};
@@ -20,10 +20,8 @@ use crate::text_lines::lines_in;
 use book_rows::Book;
 use device_core::Device;
 use field_merge::{Log, Message, message_lines, push_escaped, write_line};
-use field_values::{Field, Items, NameFault, NoMemory, Steps, Txt, Value};
+use field_values::{Field, Items, NameFault, NoMemory, Txt, Value};
 use std::alloc::Global;
-use std::marker::Brand;
-use std::sync::ledger::{Blank, Ledger};
 
 /// The lines of messages.
 fn lines_of(alloc: Global, messages: &[Message]) -> Result<Items<Txt>, NoMemory>
@@ -119,38 +117,20 @@ fn trie_line(device: &Device) -> Result<Txt, NoMemory>
 }
 
 /// What the books, which are the rows that the values of the fields make, answer to a line that asks of them.
-fn book_reply_over<G: Ledger>(
-    alloc: Global,
-    book: &Book,
-    command: &Command,
-    blank: Blank,
-) -> Result<Reply, NoMemory>
-    requires name { blank.name ≡ G.name }
-    requires parts { blank.parts ≡ G.parts }
-    requires some { 1 ≤ G.parts }
-    requires live { book.now.spent ≡ false }
-    requires asks { AsksBooks command.now }
-    ensures { IfOk result (λ r. r ≡ book_answer book.now.rows command.now) }
-{
-    let mut steps = Steps::<G>::new(blank);
-    match command {
-        Command::Balance { account } => balance_reply(alloc, book, account),
-        Command::Register { account } => register_reply(alloc, book, account, &mut steps),
-        Command::Cell { month, name } => cell_reply(alloc, book, *month, name, &mut steps),
-        Command::Sheet { month } => sheet_reply(alloc, book, *month, &mut steps),
-        Command::Broken => broken_reply(alloc, book),
-        Command::ScheduleStatus { id, day } => status_reply(alloc, book, id, *day),
-        _ => unreachable!(),
-    }
-}
-
-/// The reply to a line that asks of the books.
 fn book_reply(alloc: Global, book: &Book, command: &Command) -> Result<Reply, NoMemory>
     requires live { book.now.spent ≡ false }
     requires asks { AsksBooks command.now }
     ensures { IfOk result (λ r. r ≡ book_answer book.now.rows command.now) }
 {
-    book_reply_over::<Brand>(alloc, book, command, Blank::new(1))
+    match command {
+        Command::Balance { account } => balance_reply(alloc, book, account),
+        Command::Register { account } => register_reply(alloc, book, account),
+        Command::Cell { month, name } => cell_reply(alloc, book, *month, name),
+        Command::Sheet { month } => sheet_reply(alloc, book, *month),
+        Command::Broken => broken_reply(alloc, book),
+        Command::ScheduleStatus { id, day } => status_reply(alloc, book, id, *day),
+        _ => unreachable!(),
+    }
 }
 
 /// What a device's books answer to a line that asks of them.

@@ -15,11 +15,10 @@ use crate::reply::{Reply, faulty_reply, one_line};
 use crate::text_lines::lines_in;
 use book_rows::{Book, is_month};
 use envelope_cells::{Cell, CellName, sheet, sheets_tell_cells};
-use field_values::{Items, NoMemory, Steps, Txt};
+use field_values::{Items, NoMemory, Txt};
 use itoa::Buffer;
 use split_transfer::broken;
 use std::alloc::Global;
-use std::sync::ledger::Ledger;
 
 /// Whether an account is there and was not deleted.
 fn is_live(book: &Book, account: &Txt) -> bool
@@ -52,36 +51,26 @@ pub(crate) fn balance_reply(alloc: Global, book: &Book, account: &Txt) -> Result
 }
 
 /// The reply to `register`: the live transactions of a live account.
-pub(crate) fn register_reply<G: Ledger>(
-    alloc: Global,
-    book: &Book,
-    account: &Txt,
-    steps: &mut Steps<G>,
-) -> Result<Reply, NoMemory>
+pub(crate) fn register_reply(alloc: Global, book: &Book, account: &Txt) -> Result<Reply, NoMemory>
     requires live { book.now.spent ≡ false }
     ensures { IfOk result (λ r. r ≡ register_answer book.now.rows account.now) }
 {
     if !is_live(book, account) {
         return no_account(alloc, account);
     }
-    let lines = register_lines(alloc, book, account, steps)?;
+    let lines = register_lines(alloc, book, account)?;
     Ok(Reply::Done { lines })
 }
 
 /// What a cell tells.
-fn cell_value<G: Ledger>(
-    alloc: Global,
-    book: &Book,
-    name: &CellName,
-    steps: &mut Steps<G>,
-) -> Result<Option<i128>, NoMemory>
+fn cell_value(alloc: Global, book: &Book, name: &CellName) -> Result<Option<i128>, NoMemory>
     requires live { book.now.spent ≡ false }
     requires month { IsTrue (is_month name.now.month) }
     ensures { IfOk result (λ value. value ≡ cell_of (budget_of book.now.rows) name.now) }
 {
     // What a sheet tells of a cell of its month is what the cell tells.
     sheets_tell_cells();
-    let sheet = sheet(alloc, book, name.month, steps)?;
+    let sheet = sheet(alloc, book, name.month)?;
     Ok(sheet.cell(name))
 }
 
@@ -105,27 +94,21 @@ fn told_reply(alloc: Global, name: &CellName, value: Option<i128>) -> Result<Rep
 }
 
 /// The reply that tells of a cell of a month, or that there is no such group or category.
-fn named_reply<G: Ledger>(
-    alloc: Global,
-    book: &Book,
-    name: &CellName,
-    steps: &mut Steps<G>,
-) -> Result<Reply, NoMemory>
+fn named_reply(alloc: Global, book: &Book, name: &CellName) -> Result<Reply, NoMemory>
     requires live { book.now.spent ≡ false }
     requires month { IsTrue (is_month name.now.month) }
     ensures { IfOk result (λ r. r ≡ told_cell name.now (cell_of (budget_of book.now.rows) name.now)) }
 {
-    let value = cell_value(alloc, book, name, steps)?;
+    let value = cell_value(alloc, book, name)?;
     told_reply(alloc, name, value)
 }
 
 /// The reply to `cell`: what a cell of a month tells. The month is judged first, then the name.
-pub(crate) fn cell_reply<G: Ledger>(
+pub(crate) fn cell_reply(
     alloc: Global,
     book: &Book,
     month: u32,
     name: &Txt,
-    steps: &mut Steps<G>,
 ) -> Result<Reply, NoMemory>
     requires live { book.now.spent ≡ false }
     ensures { IfOk result (λ r. r ≡ cell_answer book.now.rows month name.now) }
@@ -134,7 +117,7 @@ pub(crate) fn cell_reply<G: Ledger>(
         return bad_month(alloc, month);
     }
     match cell_named(alloc, month, name)? {
-        Some(name) => named_reply(alloc, book, &name, steps),
+        Some(name) => named_reply(alloc, book, &name),
         None => faulty_reply(alloc, 2),
     }
 }
@@ -164,19 +147,14 @@ fn cell_lines(alloc: Global, cells: &[Cell]) -> Result<Items<Txt>, NoMemory>
 }
 
 /// The reply to `sheet`: all cells of a month.
-pub(crate) fn sheet_reply<G: Ledger>(
-    alloc: Global,
-    book: &Book,
-    month: u32,
-    steps: &mut Steps<G>,
-) -> Result<Reply, NoMemory>
+pub(crate) fn sheet_reply(alloc: Global, book: &Book, month: u32) -> Result<Reply, NoMemory>
     requires live { book.now.spent ≡ false }
     ensures { IfOk result (λ r. r ≡ sheet_answer book.now.rows month) }
 {
     if !is_month(month) {
         return bad_month(alloc, month);
     }
-    let sheet = sheet(alloc, book, month, steps)?;
+    let sheet = sheet(alloc, book, month)?;
     let lines = cell_lines(alloc, sheet.cells.as_slice())?;
     Ok(Reply::Done { lines })
 }

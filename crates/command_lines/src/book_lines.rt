@@ -1,6 +1,6 @@
 //! The lines that budget a month, and those that ask of the books.
 ghost use Rattle.std.specs.Prelude.{◌≡◌, IfOk, IfErr};
-ghost use Rattle.command_lines.specs.Commands.{budget_words, carryover_words, hold_words, move_amount_words, balance_words, register_words, cell_words, sheet_words, broken_words, words_of_month_lines, words_of_book_lines, IsRead, IsCommand};
+ghost use Rattle.command_lines.specs.Commands.{budget_words, carryover_words, hold_words, move_amount_words, track_words, track_carryover_words, balance_words, register_words, cell_words, sheet_words, broken_words, words_of_month_lines, words_of_book_lines, IsRead, IsCommand};
 ghost use Rattle.command_lines.specs.Unread.{command_of_unread, IsFaultOf};
 
 use crate::command::{Command, CommandFault};
@@ -71,6 +71,40 @@ fn move_amount(alloc: Global, words: &mut Words<'_>) -> Result<Command, CommandF
         from,
         to,
         amount,
+    })))
+}
+
+/// The words behind `track`: a month, a category and an amount.
+fn track(alloc: Global, words: &mut Words<'_>) -> Result<Command, CommandFault>
+    ensures read { IsRead (command_of_unread track_words words.old) result }
+    ensures valid { IfOk result IsCommand }
+    ensures memory { IfErr result (IsFaultOf track_words words.old) }
+{
+    let month = words.month(alloc)?;
+    let category = words.text(alloc)?;
+    let amount = words.amount(alloc)?;
+    words.end()?;
+    Ok(Command::Edit(Edit::Book(BookEdit::Track {
+        month,
+        category,
+        amount,
+    })))
+}
+
+/// The words behind `track-carryover`: a month, a category, and whether it carries over.
+fn track_carryover(alloc: Global, words: &mut Words<'_>) -> Result<Command, CommandFault>
+    ensures read { IsRead (command_of_unread track_carryover_words words.old) result }
+    ensures valid { IfOk result IsCommand }
+    ensures memory { IfErr result (IsFaultOf track_carryover_words words.old) }
+{
+    let month = words.month(alloc)?;
+    let category = words.text(alloc)?;
+    let carries = words.flag(alloc)?;
+    words.end()?;
+    Ok(Command::Edit(Edit::Book(BookEdit::TrackCarryover {
+        month,
+        category,
+        flag: carries,
     })))
 }
 
@@ -146,6 +180,8 @@ pub(crate) fn month_line(
         "carryover" => carryover(alloc, words),
         "hold" => hold(alloc, words),
         "move" => move_amount(alloc, words),
+        "track" => track(alloc, words),
+        "track-carryover" => track_carryover(alloc, words),
         _ => book_line(alloc, name, words),
     }
 }

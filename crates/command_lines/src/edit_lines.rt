@@ -1,12 +1,14 @@
 //! The lines that edit the rows of the books.
 ghost use Rattle.std.specs.Prelude.{◌≡◌, IfOk, IfErr};
-ghost use Rattle.command_lines.specs.Commands.{account_rename_words, group_rename_words, category_rename_words, payee_rename_words, category_move_words, note_words, account_reopen_words, account_close_words, account_offbudget_words, group_delete_words, category_delete_words, payee_delete_words, account_add_words, group_add_words, category_add_words, payee_add_words, tx_add_words, words_of_row_lines, words_of_state_lines, words_of_add_lines, IsRead, IsCommand};
+ghost use Rattle.command_lines.specs.Commands.{account_rename_words, group_rename_words, category_rename_words, payee_rename_words, category_move_words, note_words, account_reopen_words, account_close_words, account_offbudget_words, group_delete_words, category_delete_words, payee_delete_words, payee_merge_words, account_add_words, group_add_words, category_add_words, payee_add_words, tx_add_words, words_of_row_lines, words_of_state_lines, words_of_add_lines, IsRead, IsCommand};
 ghost use Rattle.command_lines.specs.Unread.{command_of_unread, IsFaultOf};
 
 use crate::book_lines::month_line;
 use crate::command::{Command, CommandFault};
+use crate::rule_lines::ids;
 use crate::words::Words;
 use device_core::{BookEdit, Edit};
+use field_values::Items;
 use std::alloc::Global;
 
 /// The words behind `account-rename`: an account and its new name.
@@ -126,15 +128,19 @@ fn group_delete(alloc: Global, words: &mut Words<'_>) -> Result<Command, Command
     Ok(Command::Edit(Edit::Book(BookEdit::GroupDelete { id })))
 }
 
-/// The words behind `category-delete`: a category.
+/// The words behind `category-delete`: a category; and one to which it is handed on, if there is one.
 fn category_delete(alloc: Global, words: &mut Words<'_>) -> Result<Command, CommandFault>
     ensures read { IsRead (command_of_unread category_delete_words words.old) result }
     ensures valid { IfOk result IsCommand }
     ensures memory { IfErr result (IsFaultOf category_delete_words words.old) }
 {
     let id = words.text(alloc)?;
+    if words.is_done() {
+        return Ok(Command::Edit(Edit::Book(BookEdit::CategoryDelete { id })));
+    }
+    let to = words.text(alloc)?;
     words.end()?;
-    Ok(Command::Edit(Edit::Book(BookEdit::CategoryDelete { id })))
+    Ok(Command::Edit(Edit::Book(BookEdit::CategoryDeleteTo { id, to })))
 }
 
 /// The words behind `payee-delete`: a payee.
@@ -146,6 +152,20 @@ fn payee_delete(alloc: Global, words: &mut Words<'_>) -> Result<Command, Command
     let id = words.text(alloc)?;
     words.end()?;
     Ok(Command::Edit(Edit::Book(BookEdit::PayeeDelete { id })))
+}
+
+/// The words behind `payee-merge`: the payee that stays, and those that become it, one or more.
+fn payee_merge(alloc: Global, words: &mut Words<'_>) -> Result<Command, CommandFault>
+    ensures read { IsRead (command_of_unread payee_merge_words words.old) result }
+    ensures valid { IfOk result IsCommand }
+    ensures memory { IfErr result (IsFaultOf payee_merge_words words.old) }
+{
+    let to = words.text(alloc)?;
+    let ids = ids(alloc, words)?;
+    Ok(Command::Edit(Edit::Book(BookEdit::PayeeMerge {
+        to,
+        ids: Items::new(ids),
+    })))
 }
 
 /// The words behind `account-add`: an id or none, a name, and whether the account stands outside the budget.
@@ -251,7 +271,7 @@ pub(crate) fn row_line(
     }
 }
 
-/// The words behind a name that may be one of the lines that open, close or delete a row.
+/// The words behind a name that may be one of the lines that open, close or delete rows.
 #[tactic(auto, unfolding(crate::specs::Commands::words_of_state_lines))]
 pub(crate) fn state_line(
     alloc: Global,
@@ -270,6 +290,7 @@ pub(crate) fn state_line(
         "group-delete" => group_delete(alloc, words),
         "category-delete" => category_delete(alloc, words),
         "payee-delete" => payee_delete(alloc, words),
+        "payee-merge" => payee_merge(alloc, words),
         _ => add_line(alloc, name, words),
     }
 }

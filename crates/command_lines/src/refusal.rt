@@ -165,6 +165,8 @@ pub(crate) fn edit_refusal(alloc: Global, fault: &EditFault) -> Result<Reply, No
         EditFault::BadStatement { row, column } => bad_statement(alloc, *row, *column),
         EditFault::NothingToUndo => alone(alloc, 24, "nothing-to-undo"),
         EditFault::NothingToRedo => alone(alloc, 25, "nothing-to-redo"),
+        EditFault::CategoryType { id } => with_id(alloc, 31, "category-type", id),
+        EditFault::TransferPayee { id } => with_id(alloc, 32, "transfer-payee", id),
         EditFault::NoMemory => Err(NoMemory),
     }
 }

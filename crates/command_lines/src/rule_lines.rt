@@ -61,7 +61,7 @@ fn push_id(alloc: Global, words: &mut Words<'_>, ids: &mut Vec<Txt>) -> Result<(
 }
 
 /// The ids of a line, one or more, to its end.
-fn ids(alloc: Global, words: &mut Words<'_>) -> Result<Vec<Txt>, CommandFault>
+pub(crate) fn ids(alloc: Global, words: &mut Words<'_>) -> Result<Vec<Txt>, CommandFault>
     ensures ok { IfOk result (λ ids. (made : List (List ℕ) → Command) → command_of_unread (some_texts [] made) words.old ≡ Ok (made ids.items)) }
     ensures err { IfErr result (λ fault. (made : List (List ℕ) → Command) → IsCommandFault (command_of_unread (some_texts [] made) words.old) fault) }
     ensures memory { IfErr result (λ fault. fault ≡ CommandFault.NoMemory → HasText words.old.words) }

@@ -15,7 +15,7 @@ use Rattle.field_merge.specs.Messages.{AreMessages}
 use Rattle.device_core.specs.Books.{rows_of}
 use Rattle.device_core.proofs.RowsNamed.{rows_named}
 use Rattle.device_core.proofs.RowsDated.{rows_dated}
-use Rattle.book_edits.specs.declared.edit.BookEdit.TheVariants.{Set, AccountAdd, AccountRename, AccountOffbudget, AccountReopen, AccountClose, GroupAdd, GroupRename, GroupDelete, CategoryAdd, CategoryRename, CategoryMove, CategoryDelete, PayeeAdd, PayeeRename, PayeeDelete, TxAdd, Budget, Carryover, Hold, Move, Note}
+use Rattle.book_edits.specs.declared.edit.BookEdit.TheVariants.{Set, AccountAdd, AccountRename, AccountOffbudget, AccountReopen, AccountClose, GroupAdd, GroupRename, GroupDelete, CategoryAdd, CategoryRename, CategoryMove, CategoryDelete, CategoryDeleteTo, PayeeAdd, PayeeRename, PayeeDelete, PayeeMerge, TxAdd, Budget, Carryover, Hold, Move, Track, TrackCarryover, Note}
 use Rattle.device_core.specs.declared.edit.Edit.{Edit}
 use Rattle.device_core.specs.declared.edit.Edit.TheVariants.{Book, Pair, Rule, Schedule, Import}
 use Rattle.device_core.specs.Edits.{writes_of, IsEdit, MayWantMemory}
@@ -35,14 +35,18 @@ made_may rows (Book (CategoryAdd id group name)) ws made = tt
 made_may rows (Book (CategoryRename id name)) ws made = tt
 made_may rows (Book (CategoryMove id group)) ws made = tt
 made_may rows (Book (CategoryDelete id)) ws made = tt
+made_may rows (Book (CategoryDeleteTo id to)) ws made = tt
 made_may rows (Book (PayeeAdd id name)) ws made = tt
 made_may rows (Book (PayeeRename id name)) ws made = tt
 made_may rows (Book (PayeeDelete id)) ws made = tt
+made_may rows (Book (PayeeMerge to ids)) ws made = tt
 made_may rows (Book (TxAdd id account date amount payee category notes)) ws made = tt
 made_may rows (Book (Budget month category amount)) ws made = tt
 made_may rows (Book (Carryover month category carries)) ws made = tt
 made_may rows (Book (Hold month amount)) ws made = tt
 made_may rows (Book (Move month from to amount)) ws made = tt
+made_may rows (Book (Track month category amount)) ws made = tt
+made_may rows (Book (TrackCarryover month category carries)) ws made = tt
 made_may rows (Book (Note id text)) ws made = tt
 made_may rows (Pair edit) ws made = tt
 made_may rows (Rule edit) ws made = tt

@@ -5,7 +5,6 @@ ghost use Rattle.book_rows.specs.declared.fault.EditFault.TheVariants.{NoMemory 
 ghost use Rattle.book_edits.specs.Faults.{IsEditFault};
 ghost use Rattle.device_core.specs.Edits.{writes_of, IsEdit, MayWantMemory, RefusesId};
 
-use crate::copies::{copy_pair, copy_rule, copy_schedule};
 use bank_import::{ImportEdit, import_writes};
 use book_edits::{BookEdit, writes};
 use book_rows::{Book, EditFault, Write};
@@ -63,10 +62,10 @@ impl Edit {
         ensures { IfOk result (λ edit. edit ≡ self.now) }
     {
         match self {
-            Edit::Book(edit) => Ok(Edit::Book(edit.copy()?)),
-            Edit::Pair(edit) => Ok(Edit::Pair(copy_pair(alloc, edit)?)),
-            Edit::Rule(edit) => Ok(Edit::Rule(copy_rule(alloc, edit)?)),
-            Edit::Schedule(edit) => Ok(Edit::Schedule(copy_schedule(edit)?)),
+            Edit::Book(edit) => Ok(Edit::Book(edit.copy(alloc)?)),
+            Edit::Pair(edit) => Ok(Edit::Pair(edit.copy(alloc)?)),
+            Edit::Rule(edit) => Ok(Edit::Rule(edit.copy(alloc)?)),
+            Edit::Schedule(edit) => Ok(Edit::Schedule(edit.copy()?)),
             Edit::Import(edit) => Ok(Edit::Import(edit.copy()?)),
         }
     }

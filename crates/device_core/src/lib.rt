@@ -2,7 +2,6 @@
 //! messages that are not kept yet.
 #![tactic(auto)]
 
-mod copies;
 mod device;
 mod edit;
 mod known;

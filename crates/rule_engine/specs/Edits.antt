@@ -1,5 +1,5 @@
 -- The writes of an edit of rules, or of transactions by rules, or its first refusal.
-use Rattle.std.specs.Prelude.{Bool, true, false, not, List, [], ◌∷◌, ◌++◌, flat_map, Option, None, Some, is_some, Result, Ok, Err, if◌then◌else◌, codes}
+use Rattle.std.specs.Prelude.{Bool, true, false, List, [], ◌∷◌, ◌++◌, flat_map, Option, None, Some, is_some, Result, Ok, Err, if◌then◌else◌, codes}
 use Rattle.std.specs.FinMap as map
 use Rattle.field_values.specs.declared.value.Value.{Value}
 use Rattle.field_values.specs.declared.value.Value.TheVariants.{Null, Text as IsText}

@@ -1,6 +1,10 @@
 //! Edits of rules, and of transactions by rules.
+ghost use Rattle.std.specs.Prelude.{◌≡◌, IfOk};
+
 use crate::rule::{RuleOp, Stage};
-use field_values::{Items, Txt};
+use book_rows::copied;
+use field_values::{Items, NoMemory, Txt};
+use std::alloc::Global;
 
 /// An edit of the rules of a book, or of transactions by its rules.
 #[derive(Debug, Drop)]
@@ -22,4 +26,31 @@ pub enum RuleEdit {
     RulesRun {
         ids: Items<Txt>,
     },
+}
+
+impl RuleEdit {
+    /// An equal edit.
+    pub fn copy(&self, alloc: Global) -> Result<RuleEdit, NoMemory>
+        ensures { IfOk result (λ edit. edit ≡ self.now) }
+    {
+        match self {
+            RuleEdit::RuleAdd {
+                id,
+                stage,
+                op,
+                conditions,
+                actions,
+            } => Ok(RuleEdit::RuleAdd {
+                id: copied(id)?,
+                stage: *stage,
+                op: *op,
+                conditions: conditions.copy()?,
+                actions: actions.copy()?,
+            }),
+            RuleEdit::RuleDelete { id } => Ok(RuleEdit::RuleDelete { id: id.copy()? }),
+            RuleEdit::RulesRun { ids } => Ok(RuleEdit::RulesRun {
+                ids: ids.copy(alloc)?,
+            }),
+        }
+    }
 }

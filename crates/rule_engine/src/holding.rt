@@ -61,7 +61,7 @@ fn mapped<'a>(book: &'a Book, field: CondField, id: &'a Txt) -> &'a Txt
 
 /// Whether a test of ids holds: each id of the value is taken for what it stands for.
 fn id_holds(book: &Book, field: CondField, op: CondOp, value: &CondValue, id: Option<&Txt>) -> bool
-    ensures { result ≡ id_holds op (with_ids (mapped_by book.now.rows field) value.now) (option_copied id) }
+    ensures { result ≡ id_holds op (with_ids (mapped_by book.now.rows field) value.now) (option_copied id.entry) }
 {
     match op {
         CondOp::Is => is_id(book, field, value, id),
@@ -73,7 +73,7 @@ fn id_holds(book: &Book, field: CondField, op: CondOp, value: &CondValue, id: Op
 }
 
 fn is_id(book: &Book, field: CondField, value: &CondValue, id: Option<&Txt>) -> bool
-    ensures { result ≡ is_id (with_ids (mapped_by book.now.rows field) value.now) (option_copied id) }
+    ensures { result ≡ is_id (with_ids (mapped_by book.now.rows field) value.now) (option_copied id.entry) }
 {
     match (value, id) {
         (CondValue::Null, None) => true,
@@ -83,7 +83,7 @@ fn is_id(book: &Book, field: CondField, value: &CondValue, id: Option<&Txt>) -> 
 }
 
 fn is_one_id(book: &Book, field: CondField, value: &CondValue, id: Option<&Txt>) -> bool
-    ensures { result ≡ is_one_id (with_ids (mapped_by book.now.rows field) value.now) (option_copied id) }
+    ensures { result ≡ is_one_id (with_ids (mapped_by book.now.rows field) value.now) (option_copied id.entry) }
 {
     match (value, id) {
         (CondValue::Texts(texts), Some(id)) => {

@@ -1,5 +1,9 @@
 //! What a rule says.
-use field_values::{Items, Txt};
+ghost use Rattle.std.specs.Prelude.{◌≡◌, IfOk};
+
+use book_rows::copied;
+use field_values::{Copied, Items, NoMemory, Txt};
+use std::alloc::Global;
 
 /// The column of a transaction that a condition tests.
 #[derive(Clone, Copy, Debug, PartialEq, Eq)]
@@ -73,6 +77,27 @@ pub enum CondValue {
     Flag(bool),
 }
 
+impl CondValue {
+    /// An equal value.
+    pub fn copy(&self, alloc: Global) -> Result<CondValue, NoMemory>
+        ensures { IfOk result (λ value. value ≡ self.now) }
+    {
+        match self {
+            CondValue::Null => Ok(CondValue::Null),
+            CondValue::Text(text) => Ok(CondValue::Text(text.copy()?)),
+            CondValue::Texts(texts) => Ok(CondValue::Texts(texts.copy(alloc)?)),
+            CondValue::Number(number) => Ok(CondValue::Number(*number)),
+            CondValue::Between { num1, num2 } => Ok(CondValue::Between {
+                num1: *num1,
+                num2: *num2,
+            }),
+            CondValue::Date(day) => Ok(CondValue::Date(*day)),
+            CondValue::Recurrence => Ok(CondValue::Recurrence),
+            CondValue::Flag(flag) => Ok(CondValue::Flag(*flag)),
+        }
+    }
+}
+
 /// A test of one column of a transaction.
 #[derive(Debug, Drop)]
 pub struct Condition {
@@ -82,6 +107,19 @@ pub struct Condition {
     pub op: CondOp,
     /// What the test compares with.
     pub value: CondValue,
+}
+
+impl Condition {
+    /// An equal condition.
+    pub fn copy(&self, alloc: Global) -> Result<Condition, NoMemory>
+        ensures { IfOk result (λ condition. condition ≡ self.now) }
+    {
+        Ok(Condition {
+            field: self.field,
+            op: self.op,
+            value: self.value.copy(alloc)?,
+        })
+    }
 }
 
 /// A change of one column of a transaction.
@@ -102,6 +140,29 @@ pub enum Action {
     AppendNotes(Txt),
     /// Gives it a schedule, live or not.
     LinkSchedule(Txt),
+}
+
+impl Action {
+    /// An equal action.
+    pub fn copy(&self) -> Result<Action, NoMemory>
+        ensures { IfOk result (λ action. action ≡ self.now) }
+    {
+        match self {
+            Action::SetDescription(payee) => Ok(Action::SetDescription(copied(payee)?)),
+            Action::SetCategory(category) => Ok(Action::SetCategory(copied(category)?)),
+            Action::SetNotes(text) => Ok(Action::SetNotes(text.copy()?)),
+            Action::SetCleared(set) => Ok(Action::SetCleared(*set)),
+            Action::PrependNotes(text) => Ok(Action::PrependNotes(text.copy()?)),
+            Action::AppendNotes(text) => Ok(Action::AppendNotes(text.copy()?)),
+            Action::LinkSchedule(id) => Ok(Action::LinkSchedule(id.copy()?)),
+        }
+    }
+}
+
+impl Copied for Action {
+    fn copied(&self) -> Result<Action, NoMemory> {
+        self.copy()
+    }
 }
 
 /// When a rule runs.
@@ -137,4 +198,30 @@ pub struct Rule {
     pub conditions: Items<Condition>,
     /// What is changed, in order.
     pub actions: Items<Action>,
+}
+
+impl Rule {
+    /// An equal rule.
+    pub fn copy(&self, alloc: Global) -> Result<Rule, NoMemory>
+        ensures { IfOk result (λ rule. rule ≡ self.now) }
+    {
+        Ok(Rule {
+            id: self.id.copy()?,
+            stage: self.stage,
+            op: self.op,
+            conditions: copied_conditions(alloc, self.conditions.as_slice())?,
+            actions: self.actions.copy(alloc)?,
+        })
+    }
+}
+
+/// Equal conditions.
+fn copied_conditions(alloc: Global, conditions: &[Condition]) -> Result<Items<Condition>, NoMemory>
+    ensures { IfOk result (λ copies. copies ≡ conditions.now) }
+{
+    let mut copies = Vec::with_capacity(alloc, conditions.len())?;
+    for condition in conditions {
+        copies.push(condition.copy(alloc)?)?;
+    }
+    Ok(Items::new(copies))
 }

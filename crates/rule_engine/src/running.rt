@@ -1,6 +1,7 @@
 //! Rules run one after the other.
-ghost use Rattle.std.specs.Prelude.{◌≡◌, IfOk};
+ghost use Rattle.std.specs.Prelude.{◌≡◌, ◌↔◌, IfOk, IsTrue};
 ghost use Rattle.std.specs.List.{list_all, list_any, fold};
+ghost use Rattle.book_rows.specs.declared.fault.EditFault.TheVariants.{NoMemory as IsNoMemory};
 ghost use Rattle.book_rows.specs.declared.rows.TxRow.{TxRow};
 ghost use Rattle.rule_engine.specs.declared.rule.Action.{Action};
 ghost use Rattle.rule_engine.specs.Conditions.{holds_in};
@@ -101,6 +102,16 @@ pub fn run_rules(alloc: Global, book: &Book, rules: &[Rule], row: TxRow) -> Resu
     Ok(now)
 }
 
+/// Whether memory ran out.
+fn is_no_memory(fault: &EditFault) -> bool
+    ensures { IsTrue result ↔ (fault.now ≡ IsNoMemory) }
+{
+    match fault {
+        EditFault::NoMemory => true,
+        _ => false,
+    }
+}
+
 /// The rule of a row, where it was not deleted and can be read.
 fn read_live(alloc: Global, id: &Txt, row: &RuleRow) -> Result<Option<Rule>, NoMemory>
     ensures { IfOk result (λ o. o ≡ read_live (id.now, row.now)) }
@@ -110,8 +121,13 @@ fn read_live(alloc: Global, id: &Txt, row: &RuleRow) -> Result<Option<Rule>, NoM
     }
     match read_rule(alloc, id, row) {
         Ok(rule) => Ok(Some(rule)),
-        Err(EditFault::NoMemory) => Err(NoMemory),
-        Err(_) => Ok(None),
+        Err(fault) => {
+            if is_no_memory(&fault) {
+                Err(NoMemory)
+            } else {
+                Ok(None)
+            }
+        }
     }
 }
 

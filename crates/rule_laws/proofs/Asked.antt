@@ -25,10 +25,9 @@ use Rattle.book_rows.specs.declared.fault.RulePart.TheVariants.{Id, Conditions, 
 use Rattle.book_rows.specs.declared.fault.RecurPart.{RecurPart}
 use Rattle.book_rows.specs.declared.fault.RecurPart.TheVariants.{Object, Start, Frequency, Interval, Patterns, SkipWeekend, WeekendSolveMode, EndMode, EndOccurrences, EndDate, Rule}
 use Rattle.book_rows.specs.Live.{is_live_account, is_live_payee, is_live_rule, is_alive}
-use Rattle.book_edits.specs.Faults.{◌>>=◌, Check, must}
+use Rattle.book_edits.specs.Faults.{◌>>=◌, Check, must, each}
 use Rattle.book_edits.specs.Checks.{may_be_chosen, given_row, new_row, live_payee}
 use Rattle.book_edits.proofs.Valid.{inside}
-use Rattle.split_transfer.specs.Checks.{each}
 use Rattle.rule_engine.specs.declared.edit.RuleEdit.{RuleEdit}
 use Rattle.rule_engine.specs.declared.edit.RuleEdit.TheVariants.{RuleAdd, RuleDelete, RulesRun}
 use Rattle.rule_engine.specs.Reading.{entries_of, first_bad, unless_bad, all_read, in_array, read_part, condition_of, action_of}

@@ -1,6 +1,7 @@
 pub mod RawDays
 pub mod Cutting
 pub mod TestLaws
+pub mod StandingFor
 pub mod StageLaws
 pub mod RunLaws
 pub mod Written

@@ -14,12 +14,11 @@ use Rattle.book_rows.specs.declared.write.Write.{Write}
 use Rattle.book_rows.specs.declared.fault.EditFault.TheVariants.{NoSuchTransaction}
 use Rattle.book_rows.specs.Kinds.{text_of, flag_of}
 use Rattle.book_rows.specs.Live.{is_live_tx, is_live_payee, is_live_category, is_alive}
-use Rattle.book_edits.specs.Faults.{◌>>=◌, Check, must}
-use Rattle.book_edits.specs.Checks.{same_id}
+use Rattle.book_edits.specs.Faults.{◌>>=◌, Check, must, each}
+use Rattle.book_edits.specs.Checks.{same_id, distinct}
 use Rattle.book_edits.specs.Writing.{flag, text_or_null}
 use Rattle.book_edits.proofs.Valid.{inside, passed, was_so}
 use Rattle.split_transfer.specs.Pairs.{live_row}
-use Rattle.split_transfer.specs.Checks.{each}
 use Rattle.split_transfer.specs.After.{Ids, with_writes}
 use Rattle.split_transfer.specs.Writing.{tx_write}
 use Rattle.split_transfer.proofs.Basics.{bool_cases, or_left, or_right, either, true_false, some_is, none_some, same_refl, same_is, not_same, is_other, holds_some}
@@ -30,7 +29,7 @@ use Rattle.rule_engine.specs.declared.rule.Action.TheVariants.{SetDescription, S
 use Rattle.rule_engine.specs.declared.rule.Rule.{Rule}
 use Rattle.rule_engine.specs.Conditions.{same_flag}
 use Rattle.rule_engine.specs.Running.{if_given, takes_none, acted, applied, fires, run, rules_of}
-use Rattle.rule_engine.specs.Edits.{same_text, changed, changes_of, changes, distinct, rules_run}
+use Rattle.rule_engine.specs.Edits.{same_text, changed, changes_of, changes, rules_run}
 use Rattle.rule_laws.specs.Making.{with_changed, changing, IsChange, IdsAreTakenOnce, RulesMakeRows}
 
 -- ---- the columns that rules change
@@ -62,7 +61,7 @@ fold_keeps f h (a ∷ xs) x = both_keep x (f x a) (fold f (f x a) xs) (h x a) (f
 
 applied_keeps : (rows : Rows) (x : TxRow) (r : Rule) → applied rows x r ≡ with_changed x (applied rows x r)
 unfolding applied
-applied_keeps rows x r = by (fires r x)
+applied_keeps rows x r = by (fires rows r x)
   where
     by : (b : Bool) → cond b (fold (acted rows) x r.actions) x ≡ with_changed x (cond b (fold (acted rows) x r.actions) x)
     by true = fold_keeps (acted rows) (acted_keeps rows) r.actions x

@@ -14,6 +14,7 @@ use Rattle.std.proofs.lemmas.Slice.Eq.{bytes_eq-Decides}
 use Rattle.caseless.specs.Caseless.{default_case_fold, IsDefaultMatch}
 use Rattle.jiff_core.specs.Calendar.{days_from_civil}
 use Rattle.finite_sums.specs.Maps.{Text}
+use Rattle.book_rows.specs.declared.rows.Rows.{Rows}
 use Rattle.book_rows.specs.declared.rows.TxRow.{TxRow}
 use Rattle.book_rows.specs.Kinds.{is_day}
 use Rattle.rule_engine.specs.declared.rule.CondField.{CondField}
@@ -23,7 +24,7 @@ use Rattle.rule_engine.specs.declared.rule.CondValue.{CondValue}
 use Rattle.rule_engine.specs.declared.rule.CondValue.TheVariants.{Null, Text as OneText, Texts, Number, Between, Date as Day, Recurrence, Flag}
 use Rattle.rule_engine.specs.declared.rule.Condition.{Condition}
 use Rattle.rule_engine.specs.Days.{day_number, are_within}
-use Rattle.rule_engine.specs.Conditions.{id_holds, is_same_text, folded, text_holds, number_holds, amount_holds, day_holds, same_flag, flag_holds, holds, holds_by}
+use Rattle.rule_engine.specs.Conditions.{id_holds, is_same_text, folded, text_holds, number_holds, amount_holds, day_holds, same_flag, flag_holds, holds, holds_by, resolved_row, resolved_value, holds_in}
 use Rattle.rule_laws.specs.Comparing.{IdsAreCompared, TextsAreTested, AmountsAreCompared, DaysAreCompared, ColumnsAreTested, ConditionsAreTold}
 use Rattle.rule_engine.proofs.Parts.{has_part-Decides}
 
@@ -51,21 +52,21 @@ so_any p ts t c h = list_any_at p ts c.0 t c.1 (ap p c.2 ∙ h)
 same_bytes : (a b : Text) → (bytes_eq a b ≡ true) ↔ (a ≡ b)
 same_bytes a b = let d = bytes_eq-Decides a b in (λ h. d.0 h, λ h. d.1 h)
 
-none_some : {X : Type 0} (x : X) → None ≡ Some x → ⊥
+pub none_some : {X : Type 0} (x : X) → None ≡ Some x → ⊥
 none_some x h = cc
 
 some_is : (a b : Text) → Some a ≡ Some b → a ≡ b
 some_is a b h = cc
 
-id_is : (t : Text) (id : Option Text) → (id_holds Is (OneText t) id ≡ true) ↔ (id ≡ Some t)
+pub id_is : (t : Text) (id : Option Text) → (id_holds Is (OneText t) id ≡ true) ↔ (id ≡ Some t)
 id_is t None = (λ h. cc, λ h. absurd (none_some t h))
 id_is t (Some own) = (λ h. ap (λ (q : Text). Some q) ((same_bytes own t).0 h), λ h. (same_bytes own t).1 (some_is own t h))
 
-id_none : (id : Option Text) → (id_holds Is Null id ≡ true) ↔ (id ≡ None)
+pub id_none : (id : Option Text) → (id_holds Is Null id ≡ true) ↔ (id ≡ None)
 id_none None = (λ h. refl, λ h. refl)
 id_none (Some own) = (λ h. cc, λ h. absurd (none_some own (sym h)))
 
-id_one : (ts : List Text) (id : Option Text) → (id_holds OneOf (Texts ts) id ≡ true) ↔ ((t : Text) × Contains ts t × (id ≡ Some t))
+pub id_one : (ts : List Text) (id : Option Text) → (id_holds OneOf (Texts ts) id ≡ true) ↔ ((t : Text) × Contains ts t × (id ≡ Some t))
 id_one ts None = (λ h. cc, λ h. absurd (none_some h.0 h.2))
 id_one ts (Some own) = (
   λ h. let found = any_so (bytes_eq own) ts h in (found.0, found.1, ap (λ (q : Text). Some q) ((same_bytes own found.0).0 found.2)),
@@ -294,9 +295,9 @@ flag_is other value set = (λ h. cc, λ h. let no = h.0 in cc)
 
 -- ---- columns
 
-columns_tested : (c : Condition) (x : TxRow) → ColumnsAreTested c x
-unfolding holds
-columns_tested c x = record {
+columns_tested : (rows : Rows) (c : Condition) (x : TxRow) → ColumnsAreTested rows c x
+unfolding holds holds_in
+columns_tested rows c x = record {
   account = by;
   payee = by;
   category = by;
@@ -307,8 +308,8 @@ columns_tested c x = record {
   cleared = by;
 }
   where
-    by : {f : CondField} → c.field ≡ f → holds_by c.field c.op c.value x ≡ holds_by f c.op c.value x
-    by is = ap (λ f. holds_by f c.op c.value x) is
+    by : {f : CondField} → c.field ≡ f → holds_by c.field c.op (resolved_value rows c.field c.value) (resolved_row rows x) ≡ holds_by f c.op (resolved_value rows f c.value) (resolved_row rows x)
+    by is = ap (λ f. holds_by f c.op (resolved_value rows f c.value) (resolved_row rows x)) is
 
 pub conditions_told : ConditionsAreTold
 conditions_told = record { ids = ids_compared; texts = texts_tested; amounts = amounts_compared; days = days_compared; flags = flag_is; columns = columns_tested }

@@ -5,8 +5,10 @@ use Rattle.std.specs.Str.Iter.{HasSubslice}
 use Rattle.caseless.specs.Caseless.{default_case_fold, IsDefaultMatch}
 use Rattle.jiff_core.specs.Calendar.{days_from_civil}
 use Rattle.finite_sums.specs.Maps.{Text}
+use Rattle.book_rows.specs.declared.rows.Rows.{Rows}
 use Rattle.book_rows.specs.declared.rows.TxRow.{TxRow}
 use Rattle.book_rows.specs.Kinds.{is_day}
+use Rattle.book_rows.specs.Live.{mapped_category, mapped_payee, category_of, payee_of}
 use Rattle.rule_engine.specs.declared.rule.CondField.TheVariants.{Acct, Description, Category, ImportedDescription, Notes, Amount, Date, Cleared}
 use Rattle.rule_engine.specs.declared.rule.CondOp.{CondOp}
 use Rattle.rule_engine.specs.declared.rule.CondOp.TheVariants.{Is, IsNot, OneOf, NotOneOf, Contains as HasPart, DoesNotContain, IsApprox, IsBetween, Gt, Gte, Lt, Lte}
@@ -14,7 +16,7 @@ use Rattle.rule_engine.specs.declared.rule.CondValue.{CondValue}
 use Rattle.rule_engine.specs.declared.rule.CondValue.TheVariants.{Null, Text as OneText, Texts, Number, Between, Date as Day, Recurrence, Flag}
 use Rattle.rule_engine.specs.declared.rule.Condition.{Condition}
 use Rattle.rule_engine.specs.Days.{day_number}
-use Rattle.rule_engine.specs.Conditions.{id_holds, text_holds, number_holds, amount_holds, day_holds, flag_holds, or_empty, holds}
+use Rattle.rule_engine.specs.Conditions.{id_holds, text_holds, number_holds, amount_holds, day_holds, flag_holds, or_empty, with_ids, holds_in}
 
 -- how ids are compared
 pub record IdsAreCompared : Type 0 where
@@ -93,18 +95,18 @@ abbrev pub FlagsAreCompared : Type 0
 FlagsAreCompared = (op : CondOp) (value : CondValue) (set : Bool) → (flag_holds op value set ≡ true) ↔ ((op ≡ Is) × (value ≡ Flag set))
 
 -- which column of a transaction a condition tests
-pub record ColumnsAreTested (c : Condition) (x : TxRow) : Type 0 where
-  -- ids: of the account, the payee and the category
-  pub account : c.field ≡ Acct → holds x c ≡ id_holds c.op c.value x.acct
-  pub payee : c.field ≡ Description → holds x c ≡ id_holds c.op c.value x.description
-  pub category : c.field ≡ Category → holds x c ≡ id_holds c.op c.value x.category
+pub record ColumnsAreTested (rows : Rows) (c : Condition) (x : TxRow) : Type 0 where
+  -- ids: of the account, and of what the payee and the category stand for, by what the ids of the condition stand for
+  pub account : c.field ≡ Acct → holds_in rows x c ≡ id_holds c.op c.value x.acct
+  pub payee : c.field ≡ Description → holds_in rows x c ≡ id_holds c.op (with_ids (mapped_payee rows) c.value) (payee_of rows x)
+  pub category : c.field ≡ Category → holds_in rows x c ≡ id_holds c.op (with_ids (mapped_category rows) c.value) (category_of rows x)
   -- texts: the payee as the statement has it, and the notes
-  pub imported : c.field ≡ ImportedDescription → holds x c ≡ text_holds c.op c.value (or_empty x.imported_description)
-  pub notes : c.field ≡ Notes → holds x c ≡ text_holds c.op c.value (or_empty x.notes)
+  pub imported : c.field ≡ ImportedDescription → holds_in rows x c ≡ text_holds c.op c.value (or_empty x.imported_description)
+  pub notes : c.field ≡ Notes → holds_in rows x c ≡ text_holds c.op c.value (or_empty x.notes)
   -- the amount, the day and the flag
-  pub amount : c.field ≡ Amount → holds x c ≡ amount_holds c.op c.value x.amount
-  pub day : c.field ≡ Date → holds x c ≡ day_holds c.op c.value x.date
-  pub cleared : c.field ≡ Cleared → holds x c ≡ flag_holds c.op c.value x.cleared
+  pub amount : c.field ≡ Amount → holds_in rows x c ≡ amount_holds c.op c.value x.amount
+  pub day : c.field ≡ Date → holds_in rows x c ≡ day_holds c.op c.value x.date
+  pub cleared : c.field ≡ Cleared → holds_in rows x c ≡ flag_holds c.op c.value x.cleared
 
 -- what the tests of conditions say
 pub record ConditionsAreTold : Type 0 where
@@ -113,4 +115,4 @@ pub record ConditionsAreTold : Type 0 where
   pub amounts : AmountsAreCompared
   pub days : DaysAreCompared
   pub flags : FlagsAreCompared
-  pub columns : (c : Condition) (x : TxRow) → ColumnsAreTested c x
+  pub columns : (rows : Rows) (c : Condition) (x : TxRow) → ColumnsAreTested rows c x

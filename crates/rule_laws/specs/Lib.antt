@@ -1,5 +1,6 @@
 pub mod Recurring
 pub mod Comparing
+pub mod StandingFor
 pub mod Making
 pub mod Scheduling
 pub mod Acting

@@ -14,6 +14,7 @@ use Rattle.book_rows.specs.declared.fault.EditFault.TheVariants.{NoSuchTransacti
 use Rattle.book_rows.specs.declared.fault.RulePart.TheVariants.{Conditions, Actions}
 use Rattle.book_rows.specs.Kinds.{text_of}
 use Rattle.book_rows.specs.Live.{is_alive}
+use Rattle.book_edits.specs.Checks.{distinct}
 use Rattle.book_edits.specs.Writing.{flag, text_or_null}
 use Rattle.split_transfer.specs.After.{Ids, with_writes}
 use Rattle.split_transfer.specs.Writing.{tx_write}
@@ -24,7 +25,7 @@ use Rattle.rule_engine.specs.declared.rule.Stage.TheVariants.{Pre, Plain, Post}
 use Rattle.rule_engine.specs.Reading.{read_part, condition_of, action_of, read_rule}
 use Rattle.rule_engine.specs.Running.{run, rules_of}
 use Rattle.rule_engine.specs.Scores.{score, rank_cmp}
-use Rattle.rule_engine.specs.Edits.{stage_value, op_text, rule_add, rule_delete, distinct, rules_run}
+use Rattle.rule_engine.specs.Edits.{stage_value, op_text, rule_add, rule_delete, rules_run}
 
 -- rules of the first stage come before those of none, and those of the last stage behind both
 abbrev pub ComesBefore : Stage → Stage → Type 0

@@ -7,6 +7,7 @@ ghost use Rattle.split_transfer.specs.After.{Ids};
 ghost use Rattle.schedules.specs.Days.{Said};
 ghost use Rattle.rule_laws.specs.Recurring.{DaysMove, EndsCut, MiddlesAreRounded, RawDaysAreTold};
 ghost use Rattle.rule_laws.specs.Comparing.{ConditionsAreTold};
+ghost use Rattle.rule_laws.specs.StandingFor.{IdsStandForOthers};
 ghost use Rattle.rule_laws.specs.Making.{IdsAreTakenOnce, RuleEditsDo, RulesMakeRows, RulesReadBack, StagesComeInTurn};
 ghost use Rattle.rule_laws.specs.Scheduling.{ScheduleEditsDo};
 ghost use Rattle.rule_laws.specs.Acting.{ActionsAreTold};
@@ -51,6 +52,13 @@ pub fn schedule_edits_do()
 /// A law: which column of a transaction a condition tests, and what the tests say of ids, texts, amounts, days and flags.
 pub fn conditions_are_told()
     ensures { ConditionsAreTold }
+{}
+
+/// A law: a condition on the payee or the category of a transaction holds just where what its own id stands for is what an id of the
+/// condition stands for. So payees that stand for the same one are the same to conditions and rules, and others are not: after a merge a
+/// rule that names any of them fires on the transactions of them all. Where each stands for itself, the columns are tested as they are.
+pub fn ids_stand_for_others()
+    ensures { IdsStandForOthers }
 {}
 
 /// A law: what each action makes of a transaction. A payee or a category that isn't live changes nothing, nor does a category where the

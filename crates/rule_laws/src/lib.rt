@@ -8,8 +8,8 @@ mod laws;
 
 pub use laws::{
     actions_are_told, conditions_are_told, days_are_written, days_move, ends_cut,
-    ids_are_taken_once, middles_are_rounded, raw_days_are_told, recurrences_read_back,
-    rule_edits_are_judged, rule_edits_do, rule_parts_are_read, rules_make_rows, rules_read_back,
-    schedule_edits_are_judged, schedule_edits_do, schedules_read_back, scores_are_told,
-    stages_come_in_turn, terms_are_told,
+    ids_are_taken_once, ids_stand_for_others, middles_are_rounded, raw_days_are_told,
+    recurrences_read_back, rule_edits_are_judged, rule_edits_do, rule_parts_are_read,
+    rules_are_read_alike, rules_make_rows, rules_read_back, schedule_edits_are_judged,
+    schedule_edits_do, schedules_read_back, scores_are_told, stages_come_in_turn, terms_are_told,
 };

@@ -11,6 +11,8 @@ mod checks;
 #[cfg(test)]
 mod conditions;
 #[cfg(test)]
+mod mappings;
+#[cfg(test)]
 mod pairs;
 #[cfg(test)]
 mod reads;

@@ -1,6 +1,6 @@
 -- Months and years without an end go on.
-use Rattle.std.proofs.Common.{◌≡◌, ◌≢◌, ℕ, ◌+◌, ◌-◌, ◌*◌, ◌/◌, ◌%◌, ◌<◌, ◌≤◌, Bool, true, false, cond, ◌==◌, List, [], ◌∷◌, length, inl, inr, Some, pos, refl, sym, ap, ◌∙◌, subst, arith}
-use Rattle.std.specs.List.{Contains, list_any}
+use Rattle.std.proofs.Common.{◌≡◌, ◌≢◌, ℕ, ◌+◌, ◌-◌, ◌*◌, ◌/◌, ◌%◌, ◌<◌, ◌≤◌, Bool, true, false, ◌==◌, List, [], length, inl, inr, Some, pos, refl, sym, ap, ◌∙◌, subst, arith}
+use Rattle.std.specs.List.{Contains}
 use Rattle.std.specs.Int.{div_ceil}
 use Rattle.std.proofs.lemmas.Bool.{eq-eqb, eqb-true}
 use Rattle.std.proofs.lemmas.List.Folds.{list_any_at}
@@ -11,9 +11,9 @@ use Rattle.schedules.specs.declared.recurrence.Pattern.{Pattern}
 use Rattle.schedules.specs.declared.recurrence.Pattern.TheVariants.{Place, Last}
 use Rattle.schedules.specs.declared.recurrence.Ending.TheVariants.{Never}
 use Rattle.schedules.specs.Months.{month_length, month_start, month_day}
-use Rattle.schedules.specs.Days.{Said, Places, places, is_multiple, is_month_step, is_raw, is_raw_by, falls_on, falls_by, is_at, moved, next_from}
+use Rattle.schedules.specs.Days.{Said, Places, is_multiple, is_month_step, is_raw, falls_on, is_at, moved, next_from}
 use Rattle.schedules.specs.Laws.{Occurs, StepsByMonths, HasMeantDay, MonthsHaveDays, MonthsGoOn}
-use Rattle.schedules.proofs.Calendar.{by_lt, length_bounds, start_next, start_before, start_end, month_within, placed, day_of, month_rises}
+use Rattle.schedules.proofs.Calendar.{length_bounds, start_next, start_before, start_end, month_within, placed, day_of, month_rises}
 use Rattle.schedules.proofs.Falling.{at_place, falls_by_none, falls_by_some, is_step_of}
 use Rattle.schedules.proofs.Frequencies.{year_is}
 use Rattle.schedules.proofs.Moving.{moved_near, moved_low}

@@ -18,7 +18,7 @@ returns c =
     let xs = map (λ (d : Draft). d.row) ds in
     let all = new_names ds in
     let names : c.in_ok-names.names ≡ all = c.in_ok-names.ensures in
-    let facts : c.as_slice.result.now ≡ map facts_of xs = c.as_slice.ensures.value ∙ c.in_ok-facts.ensures in
+    let facts : c.as_slice.result.now ≡ map (facts_of rows) xs = c.as_slice.ensures.value ∙ c.in_ok-facts.ensures in
     let found : c.as_slice-3.result.now ≡ matched rows account xs =
     c.as_slice-3.ensures.value ∙ c.in_ok-found.ensures.found ∙ ap (λ (fs : List Facts). matched_among (candidates rows account) fs) facts in
     let payees : c.in_ok-writes.writes.items ≡ payee_writes 0 all = c.in_ok-writes.ensures ∙ ap (λ (ns : List Text). payee_writes 0 ns) (c.as_slice-2.ensures ∙ names) in

@@ -1,6 +1,5 @@
-use Rattle.std.proofs.Common.{◌≡◌, ◌++◌, map}
-use Rattle.command_lines.specs.Register.{register_lines}
 use Rattle.command_lines.proofs.register.register_lines.Given as goal
 
-abbrev pub invariant-loop-line : goal.invariant-loop-line
-invariant-loop-line g l = l.lines.items ++ map (λ e. e.1) l.line-iterator ≡ register_lines l.book.rows l.account
+-- the counter's ledger is the blank one's
+abbrev pub ghosts-placed_lines : goal.ghosts-placed_lines
+ghosts-placed_lines a = record { name = a.blank.name; parts = a.blank.parts }
