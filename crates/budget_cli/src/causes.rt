@@ -100,7 +100,10 @@ pub fn store_text(rt: &HostRuntime, path: &str, cause: OpeningCause) -> &'static
     match cause {
         OpeningCause::NotOpened => path_text(rt, path),
         OpeningCause::InUse => "another run is on it",
-        OpeningCause::OtherTables => "it has tables that can't be read",
+        OpeningCause::NoStore => match begins_as_store(rt, path) {
+            Ok(true) => "it has tables that can't be read",
+            _ => "it is no SQLite file",
+        },
         OpeningCause::Damaged => match begins_as_store(rt, path) {
             Ok(false) => "it is no SQLite file",
             _ => "it is damaged",

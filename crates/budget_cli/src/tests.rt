@@ -253,8 +253,13 @@ fn causes_are_told(rt: HostRuntime) -> Result<(), Fail> {
         ),
         ("a", OpeningCause::InUse, "another run is on it"),
         (
-            "a",
-            OpeningCause::OtherTables,
+            "budget_cli_causes/text",
+            OpeningCause::NoStore,
+            "it is no SQLite file",
+        ),
+        (
+            "budget_cli_causes/store",
+            OpeningCause::NoStore,
             "it has tables that can't be read",
         ),
         ("a", OpeningCause::NoRoom, "there is no room"),

@@ -14,7 +14,7 @@ use Rattle.sqlite_keeper.specs.declared.keeper.AdoptFault.TheVariants as adopt
 use Rattle.sqlite.specs.declared.error.ErrorCode.TheVariants.{OutOfMemory, CannotOpen, DatabaseBusy, NotADatabase, DatabaseCorrupt, DiskFull}
 use Rattle.sqlite.specs.declared.error.Error.{Error}
 use Rattle.sqlite.specs.declared.error.Error.TheVariants.{SqliteFailure}
-use Rattle.sqlite_keeper.specs.declared.taking.OpeningCause.TheVariants.{NotOpened, InUse, OtherTables, Damaged, NoRoom, Failed}
+use Rattle.sqlite_keeper.specs.declared.taking.OpeningCause.TheVariants.{NotOpened, InUse, NoStore, Damaged, NoRoom, Failed}
 use Rattle.sqlite_keeper.specs.declared.taking.StoreFault.{StoreFault}
 use Rattle.sqlite_keeper.specs.declared.taking.StoreFault.TheVariants.{Unopened, Version, NoMemory}
 
@@ -68,7 +68,7 @@ abbrev pub opening_fault : Error → StoreFault
 opening_fault (SqliteFailure OutOfMemory) = NoMemory
 opening_fault (SqliteFailure CannotOpen) = Unopened NotOpened
 opening_fault (SqliteFailure DatabaseBusy) = Unopened InUse
-opening_fault (SqliteFailure NotADatabase) = Unopened OtherTables
+opening_fault (SqliteFailure NotADatabase) = Unopened NoStore
 opening_fault (SqliteFailure DatabaseCorrupt) = Unopened Damaged
 opening_fault (SqliteFailure DiskFull) = Unopened NoRoom
 opening_fault _ = Unopened Failed

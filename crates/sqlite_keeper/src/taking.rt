@@ -27,9 +27,9 @@ pub enum OpeningCause {
     NotOpened,
     /// Another run, or another program, is on it.
     InUse,
-    /// It is an SQLite file with tables of a kind that is not read.
-    OtherTables,
-    /// It is no SQLite file, or one that is damaged.
+    /// It is no SQLite file, or one with tables of a kind that is not read.
+    NoStore,
+    /// It is an SQLite file that is damaged.
     Damaged,
     /// There is no room for what is to be written.
     NoRoom,
@@ -62,7 +62,7 @@ pub fn opening_fault(error: &Error) -> StoreFault
         Error::SqliteFailure(ErrorCode::OutOfMemory) => return StoreFault::NoMemory,
         Error::SqliteFailure(ErrorCode::CannotOpen) => OpeningCause::NotOpened,
         Error::SqliteFailure(ErrorCode::DatabaseBusy) => OpeningCause::InUse,
-        Error::SqliteFailure(ErrorCode::NotADatabase) => OpeningCause::OtherTables,
+        Error::SqliteFailure(ErrorCode::NotADatabase) => OpeningCause::NoStore,
         Error::SqliteFailure(ErrorCode::DatabaseCorrupt) => OpeningCause::Damaged,
         Error::SqliteFailure(ErrorCode::DiskFull) => OpeningCause::NoRoom,
         _ => OpeningCause::Failed,
@@ -145,12 +145,15 @@ fn missing_log(rt: &HostRuntime, path: &str) -> Option<String> {
     }
 }
 
-/// Lets go of the files of a store that was not taken. A log that was made beside it, and in which nothing stands, is taken away
-/// while they are locked.
+/// A log of fewer bytes has no page: 32 of its head, 24 of the head of a page, and 512 of the smallest page.
+const FIRST_PAGE: u64 = 568;
+
+/// Lets go of the files of a store that was not taken. A log that was made beside it, and that has no page, is taken away while they
+/// are locked.
 fn let_go(rt: &HostRuntime, files: Files<File>, made: Option<String>) {
     if let Some(log) = made {
         if let Ok(found) = fs::symlink_metadata(rt, log.as_str()) {
-            if found.is_file() && found.len() == 0 {
+            if found.is_file() && found.len() < FIRST_PAGE {
                 let _ = fs::remove_file(rt, log.as_str());
             }
         }

@@ -71,7 +71,7 @@ fn refused_files_are_left_alone(rt: HostRuntime) -> Result<(), Fail> {
     assert_eq!(rt; opened(&rt, REFUSED, "")?.as_str(), "unopened NotOpened");
     assert_eq!(rt;
         opened_text(&rt, "this is no store")?.as_str(),
-        "unopened Damaged"
+        "unopened NoStore"
     );
     assert_eq!(rt; fs::read_to_string(&rt, TEXT)?.as_str(), "this is no store");
     assert!(rt; !fs::exists(&rt, LOG)?);

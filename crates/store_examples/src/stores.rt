@@ -42,7 +42,7 @@ fn failures_are_told(rt: HostRuntime) -> Result<(), Fail> {
     let rows = [
         (ErrorCode::CannotOpen, "unopened NotOpened"),
         (ErrorCode::DatabaseBusy, "unopened InUse"),
-        (ErrorCode::NotADatabase, "unopened OtherTables"),
+        (ErrorCode::NotADatabase, "unopened NoStore"),
         (ErrorCode::DatabaseCorrupt, "unopened Damaged"),
         (ErrorCode::DiskFull, "unopened NoRoom"),
         (ErrorCode::SystemIoFailure, "unopened Failed"),
