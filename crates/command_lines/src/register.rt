@@ -45,7 +45,7 @@ fn push_amount(text: &mut String, amount: i64) -> Result<(), NoMemory>
 
 /// Puts a TAB and an id, escaped, or a hyphen for none, behind a text.
 fn push_id(text: &mut String, id: Option<&Txt>) -> Result<(), NoMemory>
-    ensures { OnOk result (string_bytes text.new ≡ string_bytes text.old ++ 9 ∷ shown_id (option_copied id)) }
+    ensures { OnOk result (string_bytes text.new ≡ string_bytes text.old ++ 9 ∷ shown_id (option_copied id.entry)) }
 {
     text.push('\t')?;
     match id {
