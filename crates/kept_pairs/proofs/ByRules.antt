@@ -10,12 +10,11 @@ use Rattle.book_rows.specs.declared.fault.RulePart.TheVariants.{Id, Conditions, 
 use Rattle.book_rows.specs.declared.fault.EditFault.TheVariants.{BadRule, NoSuchTransaction}
 use Rattle.book_rows.specs.Columns.{column_name}
 use Rattle.book_rows.specs.Live.{is_live_rule, is_alive}
-use Rattle.book_edits.specs.Faults.{must}
-use Rattle.book_edits.specs.Checks.{new_row}
+use Rattle.book_edits.specs.Faults.{must, each}
+use Rattle.book_edits.specs.Checks.{new_row, distinct}
 use Rattle.book_edits.specs.Writing.{flag, text_or_null}
 use Rattle.book_edits.proofs.Valid.{inside, passed}
 use Rattle.split_transfer.specs.Pairs.{live_row}
-use Rattle.split_transfer.specs.Checks.{each}
 use Rattle.split_transfer.specs.After.{Ids}
 use Rattle.split_transfer.proofs.Columns.{TxColumn, Description, Category, Notes, Cleared, Schedule}
 use Rattle.split_transfer.proofs.Elsewhere.{IsOther}
@@ -26,7 +25,7 @@ use Rattle.rule_engine.specs.declared.rule.RuleOp.{RuleOp}
 use Rattle.rule_engine.specs.Conditions.{same_flag}
 use Rattle.rule_engine.specs.Reading.{read_part, condition_of, action_of}
 use Rattle.rule_engine.specs.Running.{run, rules_of}
-use Rattle.rule_engine.specs.Edits.{is_rule, readable, rule_add, rule_delete, same_text, changed_text, changed_flag, changed, changes_of, changes, distinct, rules_run}
+use Rattle.rule_engine.specs.Edits.{is_rule, readable, rule_add, rule_delete, same_text, changed_text, changed_flag, changed, changes_of, changes, rules_run}
 use Rattle.kept_pairs.specs.Kept.{RulesKeepPairsAndSplits}
 use Rattle.kept_pairs.proofs.Harmless.{IsPlain, IsHarmless, AreHarmless, elsewhere, harmless_stays_right}
 use Rattle.kept_pairs.proofs.Written.{rules, payee, category, notes, cleared, schedule, into, tx_plain, both, unless, each_of}

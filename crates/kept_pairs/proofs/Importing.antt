@@ -33,13 +33,14 @@ use Rattle.bank_import.specs.Edits.{missing, payee_by, payee_value, takes_none, 
 use Rattle.bank_import.specs.Rest.{rows_in_drafts, drafts_in}
 use Rattle.bank_import.proofs.Runs.{law_of_matches}
 use Rattle.bank_import.proofs.Listed.{law_of_candidates}
+use Rattle.bank_import.proofs.Mapped.{map_at, at_map}
 use Rattle.bank_import.proofs.Blocks.{pick, plain, row_filled, filled_row, row_made, made_row}
 use Rattle.bank_import.proofs.Places.{makes-first, makes-append, AreApart, at_same, change_of, filling_change, owns, places, owns_len, places_rise, other_row, IsBegun, begun, own_row}
 use Rattle.bank_import.proofs.Datasets.{records_payees, payee_with, payees_only, payee_other, payee_made}
 use Rattle.bank_import.proofs.NewNames.{place_name, names_found, names_first}
 use Rattle.bank_import.proofs.Ruled.{Leaves, run_leaves}
 use Rattle.bank_import.proofs.Dated.{statement_dated}
-use Rattle.bank_import.proofs.Settled.{map_at, at_map, given, ds, ms, ws, mid, later, rest, later_is}
+use Rattle.bank_import.proofs.Settled.{given, ds, ms, ws, mid, later, rest, later_is}
 use Rattle.kept_pairs.specs.Imports.{said, by_rules, told, Wants, names, GetsPayee, filled, matches, AreImported, AreNewIds, ImportsWrite}
 use Rattle.kept_pairs.proofs.Judging.{reads, says}
 use Rattle.kept_pairs.proofs.Nothing.{writes_rest, records_both, payees_both}
@@ -192,7 +193,7 @@ module _ (ids : Ids) (rows : Rows) (account : Text) (es : List Entry) where
 
   found_is : found ≡ matches rows account es
   unfolding matched
-  found_is = ap (λ l. matched_among (candidates rows account) (list_map facts_of l)) (sym (rows_are rows account es))
+  found_is = ap (λ l. matched_among (candidates rows account) (list_map (facts_of rows) l)) (sym (rows_are rows account es))
 
   -- ---- lists side by side
 
@@ -202,14 +203,14 @@ module _ (ids : Ids) (rows : Rows) (account : Text) (es : List Entry) where
   drafts_len : length (ds ids rows account es) ≡ length es
   drafts_len = map_len (draft_of rows account) es
 
-  facts_at : (i : ℕ) (e : Entry) → slice_get es i ≡ Some e → slice_get (list_map facts_of (list_map (by_rules rows account) es)) i ≡ Some (facts_of (by_rules rows account e))
-  facts_at i e a = at_map facts_of (list_map (by_rules rows account) es) i (by_rules rows account e) (at_map (by_rules rows account) es i e a)
+  facts_at : (i : ℕ) (e : Entry) → slice_get es i ≡ Some e → slice_get (list_map (facts_of rows) (list_map (by_rules rows account) es)) i ≡ Some (facts_of rows (by_rules rows account e))
+  facts_at i e a = at_map (facts_of rows) (list_map (by_rules rows account) es) i (by_rules rows account e) (at_map (by_rules rows account) es i e a)
 
-  facts_len : length (list_map facts_of (list_map (by_rules rows account) es)) ≡ length es
-  facts_len = map_len facts_of (list_map (by_rules rows account) es) ∙ map_len (by_rules rows account) es
+  facts_len : length (list_map (facts_of rows) (list_map (by_rules rows account) es)) ≡ length es
+  facts_len = map_len (facts_of rows) (list_map (by_rules rows account) es) ∙ map_len (by_rules rows account) es
 
   found_len : length found ≡ length es
-  found_len = ap length found_is ∙ (law_of_matches (candidates rows account) (list_map facts_of (list_map (by_rules rows account) es))).len ∙ facts_len
+  found_len = ap length found_is ∙ (law_of_matches (candidates rows account) (list_map (facts_of rows) (list_map (by_rules rows account) es))).len ∙ facts_len
 
   own_len : length own_ids ≡ length es
   own_len = owns_len ids rows all_names (length all_names) (ds ids rows account es) found (found_len ∙ sym drafts_len) ∙ drafts_len
@@ -226,7 +227,7 @@ module _ (ids : Ids) (rows : Rows) (account : Text) (es : List Entry) where
   -- a transaction that is matched was there
   matched_at : (i : ℕ) (e : Entry) (o : Text) → slice_get es i ≡ Some e → slice_get found i ≡ Some (Some o) → (x : TxRow) × (get rows.txs o ≡ Some x)
   matched_at i e o a b =
-      let w = (law_of_matches (candidates rows account) (list_map facts_of (list_map (by_rules rows account) es))).match i (facts_of (by_rules rows account e)) o (facts_at i e a) (ap (λ l. slice_get l i) (sym found_is) ∙ b) in
+      let w = (law_of_matches (candidates rows account) (list_map (facts_of rows) (list_map (by_rules rows account) es))).match i (facts_of rows (by_rules rows account e)) o (facts_at i e a) (ap (λ l. slice_get l i) (sym found_is) ∙ b) in
       let t = (law_of_candidates.told rows account w.candidate).0 w.is_in in
       (t.0, (subst (λ (q : Text). IsWhole rows account q t.0) w.id t.1).there)
 
@@ -264,7 +265,7 @@ module _ (ids : Ids) (rows : Rows) (account : Text) (es : List Entry) where
 
         by : (e : Entry) → slice_get es i ≡ Some e → (f : Entry) → slice_get es j ≡ Some f → (m : Option Text) → slice_get found i ≡ Some m → (n : Option Text) → slice_get found j ≡ Some n → i ≡ j
         by e g f h (Some p) c (Some q) d =
-            (law_of_matches (candidates rows account) (list_map facts_of (list_map (by_rules rows account) es))).apart i j x (ap (λ l. slice_get l i) (sym found_is) ∙ to_own i p a c) (ap (λ l. slice_get l j) (sym found_is) ∙ to_own j q b d)
+            (law_of_matches (candidates rows account) (list_map (facts_of rows) (list_map (by_rules rows account) es))).apart i j x (ap (λ l. slice_get l i) (sym found_is) ∙ to_own i p a c) (ap (λ l. slice_get l j) (sym found_is) ∙ to_own j q b d)
         by e g f h (Some p) c None d = absurd (there i e p g a c (made_at j x (begun_at j None x d b)))
         by e g f h None c (Some q) d = absurd (there j f q h b d (made_at i x (begun_at i None x c a)))
         by e g f h None c None d =

@@ -8,8 +8,10 @@ use Rattle.std.proofs.lemmas.Int.{ints}
 use Rattle.std.proofs.lemmas.Bool.{and_parts, and_from, leb-true, le-leb, lt-ltb, le-ltb}
 use Rattle.std.proofs.lemmas.Bool.Decides.{Decides-int_eq}
 use Rattle.finite_sums.specs.Maps.{Text}
+use Rattle.book_rows.specs.declared.rows.Rows.{Rows}
 use Rattle.book_rows.specs.declared.rows.TxRow.{TxRow}
 use Rattle.book_rows.specs.Kinds.{is_day}
+use Rattle.book_rows.specs.Live.{payee_of}
 use Rattle.jiff_core.specs.Calendar.{days_from_civil}
 use Rattle.jiff_core.proofs.CalendarLemmas.{days_in_month_bounds}
 use Rattle.rule_engine.specs.Days.{day_number, numbered}
@@ -83,14 +85,14 @@ apart_is x y n w = ap (λ o. days_apart o (day_of y)) (so_day x w.first w.one w.
 so_week : (x y : TxRow) (n : ℕ) → AreApart x y n → n ≤ 7 → nat_le (days_apart (day_of x) (day_of y)) 7 ≡ true
 so_week x y n w h = ap (λ k. nat_le k 7) (apart_is x y n w) ∙ le-leb n 7 h
 
-near_so : (x y : TxRow) (id : Text) → is_near (facts_of x) (candidate_of id y) ≡ true → AreNear x y
-near_so x y id h =
+near_so : (rows : Rows) (x y : TxRow) (id : Text) → is_near (facts_of rows x) (candidate_of rows id y) ≡ true → AreNear x y
+near_so rows x y id h =
     let a = and_parts (int_eq x.amount y.amount && nat_le (days_apart (day_of x) (day_of y)) 7) (not (is_some x.financial_id && is_some y.financial_id)) h in
     let b = and_parts (int_eq x.amount y.amount) (nat_le (days_apart (day_of x) (day_of y)) 7) a.0 in
     record { amounts = (Decides-int_eq x.amount y.amount).0 b.0; days = week_so x y b.1; ids = both_so x.financial_id y.financial_id a.1 }
 
-so_near : (x y : TxRow) (id : Text) → AreNear x y → is_near (facts_of x) (candidate_of id y) ≡ true
-so_near x y id n =
+so_near : (rows : Rows) (x y : TxRow) (id : Text) → AreNear x y → is_near (facts_of rows x) (candidate_of rows id y) ≡ true
+so_near rows x y id n =
     and_from (int_eq x.amount y.amount && nat_le (days_apart (day_of x) (day_of y)) 7) (not (is_some x.financial_id && is_some y.financial_id))
     (and_from (int_eq x.amount y.amount) (nat_le (days_apart (day_of x) (day_of y)) 7) ((Decides-int_eq x.amount y.amount).1 n.amounts) (so_week x y n.days.0 n.days.1 n.days.2))
     (so_both x.financial_id y.financial_id n.ids)
@@ -139,8 +141,8 @@ is_false false never = refl
 not_same : (a b : Option Text) → (AreSame a b → ⊥) → are_same a b ≡ false
 not_same a b never = is_false (are_same a b) (λ h. never (same_so a b h))
 
-not_near : (x y : TxRow) (id : Text) → (AreNear x y → ⊥) → is_near (facts_of x) (candidate_of id y) ≡ false
-not_near x y id never = is_false (is_near (facts_of x) (candidate_of id y)) (λ h. never (near_so x y id h))
+not_near : (rows : Rows) (x y : TxRow) (id : Text) → (AreNear x y → ⊥) → is_near (facts_of rows x) (candidate_of rows id y) ≡ false
+not_near rows x y id never = is_false (is_near (facts_of rows x) (candidate_of rows id y)) (λ h. never (near_so rows x y id h))
 
 -- one record and one candidate: the first pass in which they agree decides
 module _ (a b d : _) (r : _) (c : _) where
@@ -192,62 +194,62 @@ unlike : (n p : Bool) → p ≡ false → (n && p) ≡ false
 unlike true p h = h
 unlike false p h = refl
 
-module _ (x y : TxRow) (id : Text) where
-  one_first : are_same x.financial_id y.financial_id ≡ true → taken_of id y x ≡ Some id ∷ []
+module _ (rows : Rows) (x y : TxRow) (id : Text) where
+  one_first : are_same x.financial_id y.financial_id ≡ true → taken_of rows id y x ≡ Some id ∷ []
   one_first e = search in_first
 
-  one_second : are_same x.financial_id y.financial_id ≡ false → (is_near (facts_of x) (candidate_of id y) && are_same x.description y.description) ≡ true → taken_of id y x ≡ Some id ∷ []
+  one_second : are_same x.financial_id y.financial_id ≡ false → (is_near (facts_of rows x) (candidate_of rows id y) && are_same (payee_of rows x) (payee_of rows y)) ≡ true → taken_of rows id y x ≡ Some id ∷ []
   one_second e f = search in_second
 
-  one_third : are_same x.financial_id y.financial_id ≡ false → (is_near (facts_of x) (candidate_of id y) && are_same x.description y.description) ≡ false → is_near (facts_of x) (candidate_of id y) ≡ true → taken_of id y x ≡ Some id ∷ []
+  one_third : are_same x.financial_id y.financial_id ≡ false → (is_near (facts_of rows x) (candidate_of rows id y) && are_same (payee_of rows x) (payee_of rows y)) ≡ false → is_near (facts_of rows x) (candidate_of rows id y) ≡ true → taken_of rows id y x ≡ Some id ∷ []
   one_third e f g = search in_third
 
-  one_none : are_same x.financial_id y.financial_id ≡ false → (is_near (facts_of x) (candidate_of id y) && are_same x.description y.description) ≡ false → is_near (facts_of x) (candidate_of id y) ≡ false → taken_of id y x ≡ None ∷ []
+  one_none : are_same x.financial_id y.financial_id ≡ false → (is_near (facts_of rows x) (candidate_of rows id y) && are_same (payee_of rows x) (payee_of rows y)) ≡ false → is_near (facts_of rows x) (candidate_of rows id y) ≡ false → taken_of rows id y x ≡ None ∷ []
   one_none e f g = search in_none
 
-  agrees : Agree x y → taken_of id y x ≡ Some id ∷ []
-  agrees a = elim a [ inl s ↦ one_first (so_same x.financial_id y.financial_id s) | inr n ↦ by (are_same x.financial_id y.financial_id) (are_same x.description y.description) refl refl (so_near x y id n) ]
+  agrees : Agree x y → taken_of rows id y x ≡ Some id ∷ []
+  agrees a = elim a [ inl s ↦ one_first (so_same x.financial_id y.financial_id s) | inr n ↦ by (are_same x.financial_id y.financial_id) (are_same (payee_of rows x) (payee_of rows y)) refl refl (so_near rows x y id n) ]
     where
-      by : (i p : Bool) → are_same x.financial_id y.financial_id ≡ i → are_same x.description y.description ≡ p → is_near (facts_of x) (candidate_of id y) ≡ true → taken_of id y x ≡ Some id ∷ []
+      by : (i p : Bool) → are_same x.financial_id y.financial_id ≡ i → are_same (payee_of rows x) (payee_of rows y) ≡ p → is_near (facts_of rows x) (candidate_of rows id y) ≡ true → taken_of rows id y x ≡ Some id ∷ []
       by true p e f g = one_first e
-      by false true e f g = one_second e (and_from (is_near (facts_of x) (candidate_of id y)) (are_same x.description y.description) g f)
-      by false false e f g = one_third e (unlike (is_near (facts_of x) (candidate_of id y)) (are_same x.description y.description) f) g
+      by false true e f g = one_second e (and_from (is_near (facts_of rows x) (candidate_of rows id y)) (are_same (payee_of rows x) (payee_of rows y)) g f)
+      by false false e f g = one_third e (unlike (is_near (facts_of rows x) (candidate_of rows id y)) (are_same (payee_of rows x) (payee_of rows y)) f) g
 
-  differs : (Agree x y → ⊥) → taken_of id y x ≡ None ∷ []
+  differs : (Agree x y → ⊥) → taken_of rows id y x ≡ None ∷ []
   differs never =
-      let n = not_near x y id (λ w. never (inr w)) in
-      one_none (not_same x.financial_id y.financial_id (λ s. never (inl s))) (ap (λ b. b && are_same x.description y.description) n) n
+      let n = not_near rows x y id (λ w. never (inr w)) in
+      one_none (not_same x.financial_id y.financial_id (λ s. never (inl s))) (ap (λ b. b && are_same (payee_of rows x) (payee_of rows y)) n) n
 
-module _ (x y z : TxRow) (a b : Text) where
-  by_id : AreSame x.financial_id y.financial_id → (AreSame x.financial_id z.financial_id → ⊥) → (taken_of_two a y b z x ≡ Some a ∷ []) × (taken_of_two b z a y x ≡ Some a ∷ [])
+module _ (rows : Rows) (x y z : TxRow) (a b : Text) where
+  by_id : AreSame x.financial_id y.financial_id → (AreSame x.financial_id z.financial_id → ⊥) → (taken_of_two rows a y b z x ≡ Some a ∷ []) × (taken_of_two rows b z a y x ≡ Some a ∷ [])
   by_id s never =
       let e : are_same x.financial_id y.financial_id ≡ true = so_same x.financial_id y.financial_id s in
       let f : are_same x.financial_id z.financial_id ≡ false = not_same x.financial_id z.financial_id never in
       (search first_pass, search first_pass_back)
 
-  by_payee : (AreSame x.financial_id y.financial_id → ⊥) → (AreSame x.financial_id z.financial_id → ⊥) → AreNear x y → AreSame x.description y.description → (AreSame x.description z.description → ⊥)
-      → (taken_of_two a y b z x ≡ Some a ∷ []) × (taken_of_two b z a y x ≡ Some a ∷ [])
+  by_payee : (AreSame x.financial_id y.financial_id → ⊥) → (AreSame x.financial_id z.financial_id → ⊥) → AreNear x y → AreSame (payee_of rows x) (payee_of rows y) → (AreSame (payee_of rows x) (payee_of rows z) → ⊥)
+      → (taken_of_two rows a y b z x ≡ Some a ∷ []) × (taken_of_two rows b z a y x ≡ Some a ∷ [])
   by_payee first second near payee other =
       let e : are_same x.financial_id y.financial_id ≡ false = not_same x.financial_id y.financial_id first in
       let f : are_same x.financial_id z.financial_id ≡ false = not_same x.financial_id z.financial_id second in
-      let g : (is_near (facts_of x) (candidate_of a y) && are_same x.description y.description) ≡ true = and_from (is_near (facts_of x) (candidate_of a y)) (are_same x.description y.description) (so_near x y a near) (so_same x.description y.description payee) in
-      let h : (is_near (facts_of x) (candidate_of b z) && are_same x.description z.description) ≡ false = unlike (is_near (facts_of x) (candidate_of b z)) (are_same x.description z.description) (not_same x.description z.description other) in
+      let g : (is_near (facts_of rows x) (candidate_of rows a y) && are_same (payee_of rows x) (payee_of rows y)) ≡ true = and_from (is_near (facts_of rows x) (candidate_of rows a y)) (are_same (payee_of rows x) (payee_of rows y)) (so_near rows x y a near) (so_same (payee_of rows x) (payee_of rows y) payee) in
+      let h : (is_near (facts_of rows x) (candidate_of rows b z) && are_same (payee_of rows x) (payee_of rows z)) ≡ false = unlike (is_near (facts_of rows x) (candidate_of rows b z)) (are_same (payee_of rows x) (payee_of rows z)) (not_same (payee_of rows x) (payee_of rows z) other) in
       (search second_pass, search second_pass_back)
 
-  nearest : (m n : ℕ) → (AreSame x.financial_id y.financial_id → ⊥) → (AreSame x.financial_id z.financial_id → ⊥) → AreNear x y → AreNear x z → (AreSame x.description y.description → ⊥) → (AreSame x.description z.description → ⊥)
-      → AreApart x y m → AreApart x z n → m < n → (taken_of_two a y b z x ≡ Some a ∷ []) × (taken_of_two b z a y x ≡ Some a ∷ [])
+  nearest : (m n : ℕ) → (AreSame x.financial_id y.financial_id → ⊥) → (AreSame x.financial_id z.financial_id → ⊥) → AreNear x y → AreNear x z → (AreSame (payee_of rows x) (payee_of rows y) → ⊥) → (AreSame (payee_of rows x) (payee_of rows z) → ⊥)
+      → AreApart x y m → AreApart x z n → m < n → (taken_of_two rows a y b z x ≡ Some a ∷ []) × (taken_of_two rows b z a y x ≡ Some a ∷ [])
   nearest m n first second near further one other s t less =
       let e : are_same x.financial_id y.financial_id ≡ false = not_same x.financial_id y.financial_id first in
       let f : are_same x.financial_id z.financial_id ≡ false = not_same x.financial_id z.financial_id second in
-      let p : (is_near (facts_of x) (candidate_of a y) && are_same x.description y.description) ≡ false = unlike (is_near (facts_of x) (candidate_of a y)) (are_same x.description y.description) (not_same x.description y.description one) in
-      let q : (is_near (facts_of x) (candidate_of b z) && are_same x.description z.description) ≡ false = unlike (is_near (facts_of x) (candidate_of b z)) (are_same x.description z.description) (not_same x.description z.description other) in
-      let g : is_near (facts_of x) (candidate_of a y) ≡ true = so_near x y a near in
-      let h : is_near (facts_of x) (candidate_of b z) ≡ true = so_near x z b further in
+      let p : (is_near (facts_of rows x) (candidate_of rows a y) && are_same (payee_of rows x) (payee_of rows y)) ≡ false = unlike (is_near (facts_of rows x) (candidate_of rows a y)) (are_same (payee_of rows x) (payee_of rows y)) (not_same (payee_of rows x) (payee_of rows y) one) in
+      let q : (is_near (facts_of rows x) (candidate_of rows b z) && are_same (payee_of rows x) (payee_of rows z)) ≡ false = unlike (is_near (facts_of rows x) (candidate_of rows b z)) (are_same (payee_of rows x) (payee_of rows z)) (not_same (payee_of rows x) (payee_of rows z) other) in
+      let g : is_near (facts_of rows x) (candidate_of rows a y) ≡ true = so_near rows x y a near in
+      let h : is_near (facts_of rows x) (candidate_of rows b z) ≡ true = so_near rows x z b further in
       let down : nat_lt (days_apart (day_of x) (day_of z)) (days_apart (day_of x) (day_of y)) ≡ false = ap₂ nat_lt (apart_is x z n t) (apart_is x y m s) ∙ le-ltb n m (omega (arith, less)) in
       let up : nat_lt (days_apart (day_of x) (day_of y)) (days_apart (day_of x) (day_of z)) ≡ true = ap₂ nat_lt (apart_is x y m s) (apart_is x z n t) ∙ lt-ltb m n less in
       (search third_nearer, search third_nearer_back)
 
-  dated : (m : ℕ) → AreSame x.financial_id y.financial_id → AreSame x.financial_id z.financial_id → AreApart x y m → z.date ≡ None → (taken_of_two a y b z x ≡ Some a ∷ []) × (taken_of_two b z a y x ≡ Some a ∷ [])
+  dated : (m : ℕ) → AreSame x.financial_id y.financial_id → AreSame x.financial_id z.financial_id → AreApart x y m → z.date ≡ None → (taken_of_two rows a y b z x ≡ Some a ∷ []) × (taken_of_two rows b z a y x ≡ Some a ∷ [])
   dated m s t w none =
       let e : are_same x.financial_id y.financial_id ≡ true = so_same x.financial_id y.financial_id s in
       let f : are_same x.financial_id z.financial_id ≡ true = so_same x.financial_id z.financial_id t in
@@ -257,12 +259,12 @@ module _ (x y z : TxRow) (a b : Text) where
       let up : nat_lt (days_apart (day_of x) (day_of y)) (days_apart (day_of x) (day_of z)) ≡ true = ap₂ nat_lt (apart_is x y m w) v ∙ lt-ltb m 4_294_967_296 k in
       (search first_nearer, search first_nearer_back)
 
-pub near_told : NearnessIsTold
-near_told = record {
-  agrees = agrees;
-  differs = differs;
-  by_id = by_id;
-  by_payee = by_payee;
-  nearest = nearest;
-  dated = dated;
+pub near_told : (rows : Rows) → NearnessIsTold rows
+near_told rows = record {
+  agrees = agrees rows;
+  differs = differs rows;
+  by_id = by_id rows;
+  by_payee = by_payee rows;
+  nearest = nearest rows;
+  dated = dated rows;
 }

@@ -82,7 +82,7 @@ filled rows id new x = record x {
 
 -- for each record the transaction of the account that it matches, as rules leave it
 abbrev pub matches : Rows → Text → List Entry → List (Option Text)
-matches rows account es = matched_among (candidates rows account) (list_map facts_of (list_map (by_rules rows account) es))
+matches rows account es = matched_among (candidates rows account) (list_map (facts_of rows) (list_map (by_rules rows account) es))
 
 -- what the writes of an import of entries leave: the rows that were there, but for what is said here
 pub record AreImported (ids : Ids) (rows : Rows) (ws : List Write) (account : Text) (es : List Entry) : Type 0 where

@@ -1,8 +1,10 @@
 -- When a record of a statement and a transaction agree, and which of two transactions is taken.
 use Rattle.std.specs.Prelude.{◌≡◌, ◌⊎◌, ◌≤◌, ◌<◌, ℕ, ◌-ℤ◌, unsigned_abs, true, List, [], ◌∷◌, Option, None, Some}
 use Rattle.finite_sums.specs.Maps.{Text}
+use Rattle.book_rows.specs.declared.rows.Rows.{Rows}
 use Rattle.book_rows.specs.declared.rows.TxRow.{TxRow}
 use Rattle.book_rows.specs.Kinds.{is_day}
+use Rattle.book_rows.specs.Live.{payee_of}
 use Rattle.rule_engine.specs.Days.{day_number}
 use Rattle.bank_import.specs.Matching.{facts_of, candidate_of, matched_among}
 
@@ -31,29 +33,29 @@ abbrev pub Agree : TxRow → TxRow → Type 0
 Agree x y = AreSame x.financial_id y.financial_id ⊎ AreNear x y
 
 -- what a record takes of one transaction, and of two
-abbrev pub taken_of : Text → TxRow → TxRow → List (Option Text)
-taken_of id y x = matched_among (candidate_of id y ∷ []) (facts_of x ∷ [])
+abbrev pub taken_of : Rows → Text → TxRow → TxRow → List (Option Text)
+taken_of rows id y x = matched_among (candidate_of rows id y ∷ []) (facts_of rows x ∷ [])
 
-abbrev pub taken_of_two : Text → TxRow → Text → TxRow → TxRow → List (Option Text)
-taken_of_two a y b z x = matched_among (candidate_of a y ∷ candidate_of b z ∷ []) (facts_of x ∷ [])
+abbrev pub taken_of_two : Rows → Text → TxRow → Text → TxRow → TxRow → List (Option Text)
+taken_of_two rows a y b z x = matched_among (candidate_of rows a y ∷ candidate_of rows b z ∷ []) (facts_of rows x ∷ [])
 
--- which transactions a record takes
-pub record NearnessIsTold : Type 0 where
+-- which transactions a record takes, where payees stand for what the mappings of these rows say
+pub record NearnessIsTold (rows : Rows) : Type 0 where
   -- one with which it agrees, and no other
-  pub agrees : (x y : TxRow) (id : Text) → Agree x y → taken_of id y x ≡ Some id ∷ []
-  pub differs : (x y : TxRow) (id : Text) → (Agree x y → ⊥) → taken_of id y x ≡ None ∷ []
+  pub agrees : (x y : TxRow) (id : Text) → Agree x y → taken_of rows id y x ≡ Some id ∷ []
+  pub differs : (x y : TxRow) (id : Text) → (Agree x y → ⊥) → taken_of rows id y x ≡ None ∷ []
   -- of two first the one with its id
   pub by_id : (x y z : TxRow) (a b : Text) → AreSame x.financial_id y.financial_id → (AreSame x.financial_id z.financial_id → ⊥)
-      → (taken_of_two a y b z x ≡ Some a ∷ []) × (taken_of_two b z a y x ≡ Some a ∷ [])
-  -- then, of near ones, the one with its payee
+      → (taken_of_two rows a y b z x ≡ Some a ∷ []) × (taken_of_two rows b z a y x ≡ Some a ∷ [])
+  -- then, of near ones, the one whose payee stands for the same as its own
   pub by_payee : (x y z : TxRow) (a b : Text) → (AreSame x.financial_id y.financial_id → ⊥) → (AreSame x.financial_id z.financial_id → ⊥)
-      → AreNear x y → AreSame x.description y.description → (AreSame x.description z.description → ⊥)
-      → (taken_of_two a y b z x ≡ Some a ∷ []) × (taken_of_two b z a y x ≡ Some a ∷ [])
+      → AreNear x y → AreSame (payee_of rows x) (payee_of rows y) → (AreSame (payee_of rows x) (payee_of rows z) → ⊥)
+      → (taken_of_two rows a y b z x ≡ Some a ∷ []) × (taken_of_two rows b z a y x ≡ Some a ∷ [])
   -- and then the one that is fewer days away
   pub nearest : (x y z : TxRow) (a b : Text) (m n : ℕ) → (AreSame x.financial_id y.financial_id → ⊥) → (AreSame x.financial_id z.financial_id → ⊥)
-      → AreNear x y → AreNear x z → (AreSame x.description y.description → ⊥) → (AreSame x.description z.description → ⊥)
+      → AreNear x y → AreNear x z → (AreSame (payee_of rows x) (payee_of rows y) → ⊥) → (AreSame (payee_of rows x) (payee_of rows z) → ⊥)
       → AreApart x y m → AreApart x z n → m < n
-      → (taken_of_two a y b z x ≡ Some a ∷ []) × (taken_of_two b z a y x ≡ Some a ∷ [])
+      → (taken_of_two rows a y b z x ≡ Some a ∷ []) × (taken_of_two rows b z a y x ≡ Some a ∷ [])
   -- of two with its id, one that has a day is taken before one that has none
   pub dated : (x y z : TxRow) (a b : Text) (m : ℕ) → AreSame x.financial_id y.financial_id → AreSame x.financial_id z.financial_id → AreApart x y m → z.date ≡ None
-      → (taken_of_two a y b z x ≡ Some a ∷ []) × (taken_of_two b z a y x ≡ Some a ∷ [])
+      → (taken_of_two rows a y b z x ≡ Some a ∷ []) × (taken_of_two rows b z a y x ≡ Some a ∷ [])

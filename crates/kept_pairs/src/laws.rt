@@ -57,10 +57,10 @@ pub fn imports_are_judged()
 
 /// A law: a record of a statement and a transaction agree where both have an id, and it is the same, or where the amounts are the same, both
 /// have a day, these are at most seven days apart, and not both have an id. A record that stands alone takes a transaction with which it
-/// agrees, and no other: of two the one with its id, else of near ones the one with its payee, else the one that is fewer days away; and
-/// one without a day is taken after one that has one.
+/// agrees, and no other: of two the one with its id, else of near ones the one whose payee stands for the same as its own, by the
+/// mappings of the book, else the one that is fewer days away; and one without a day is taken after one that has one.
 pub fn nearness_is_told()
-    ensures { NearnessIsTold }
+    ensures { (rows : Rows) → NearnessIsTold rows }
 {}
 
 /// A law: the columns of a statement are the first of their names; an empty field says nothing; a field is bad where it is none of its
