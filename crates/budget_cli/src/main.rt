@@ -8,6 +8,7 @@ ghost use Rattle.budget_top.specs.Outside.{outside};
 ghost use Rattle.budget_top.specs.Ran.{Ran};
 ghost use Rattle.budget_top.specs.declared.words.Mode.TheVariants.{Merge, Device, Serve};
 
+mod causes;
 mod connection;
 mod pace;
 mod ports;
@@ -24,6 +25,7 @@ mod waits;
 
 use budget_ports::{Door, Keeper, Link, Sink, Source, WallClock};
 use budget_top::{Mode, WordFault, plan, refusal_status, run};
+use causes::store_text;
 use field_values::{Items, Steps, Txt};
 use ports::memory_keeper;
 use sqlite_keeper::{ShutKeeper, StoreFault, open};
@@ -140,24 +142,35 @@ fn run_with<K: Keeper, D: Door>(
     )
 }
 
-/// Ends with the status of a run, and tells what failed where something did.
-fn ended(rt: &HostRuntime, status: u8) -> ExitCode
+/// The status of a run whose server let no connection in.
+const NOBODY_LET_IN: u8 = 8;
+
+/// Ends with the status of a run, and tells what failed where something did; where no connection was let in, also why the door
+/// was refused, if it was.
+fn ended(rt: &HostRuntime, status: u8, refusal: Option<&str>) -> ExitCode
     ensures { exit_status result ≡ status }
 {
     if let Some(text) = failure(status) {
+        let _ = eprintln!(rt; "{text}");
+    }
+    if let (NOBODY_LET_IN, Some(text)) = (status, refusal) {
         let _ = eprintln!(rt; "{text}");
     }
     ExitCode::from(status)
 }
 
 /// Tells why a store isn't there: it can't be opened, or it is of another version.
-fn tell_store(rt: &HostRuntime, fault: &StoreFault) {
+fn tell_store(rt: &HostRuntime, path: &str, fault: &StoreFault) {
     let _ = match fault {
         StoreFault::Version { found } => {
             let found = found.as_str();
             eprintln!(rt; "store-version {found}")
         }
-        _ => eprintln!(rt; "store"),
+        StoreFault::Unopened { cause } => {
+            let text = store_text(rt, path, *cause);
+            eprintln!(rt; "store\n{text}")
+        }
+        StoreFault::NoMemory => eprintln!(rt; "store"),
     };
 }
 
@@ -170,20 +183,21 @@ fn run_over_store<D: Door>(
     peer: &str,
     path: &str,
     door: &mut D,
+    refusal: Option<&str>,
 ) -> ExitCode {
     match open(rt, path) {
         Ok(mut keeper) => {
             let status = run_with(rt, words, peer, &mut keeper, door);
             // what was answered is committed already
             let _ = keeper.into_connection().close();
-            ended(rt, status)
+            ended(rt, status, refusal)
         }
         Err(StoreFault::NoMemory) => without_run(rt, WordFault::NoMemory),
         Err(fault) => {
-            tell_store(rt, &fault);
+            tell_store(rt, path, &fault);
             match run_with(rt, words, peer, &mut ShutKeeper::new(), door) {
                 STORE_FAILED => ExitCode::from(STORE_FAILED),
-                status => ended(rt, status),
+                status => ended(rt, status, refusal),
             }
         }
     }
@@ -205,14 +219,15 @@ fn main(rt: HostRuntime) -> ExitCode {
         Mode::Serve => TcpDoor::listen(&rt, &rt, plan.listen.as_str()),
         Mode::Merge | Mode::Device => TcpDoor::shut(&rt),
     };
+    let refusal = door.refusal();
     let peer = plan.peer.as_str();
     match (plan.mode, &plan.store) {
         (Mode::Device | Mode::Serve, Some(path)) => {
-            run_over_store(&rt, &words, peer, path.as_str(), &mut door)
+            run_over_store(&rt, &words, peer, path.as_str(), &mut door, refusal)
         }
         _ => {
             let status = run_with(&rt, &words, peer, &mut memory_keeper(rt.alloc()), &mut door);
-            ended(&rt, status)
+            ended(&rt, status, refusal)
         }
     }
 }

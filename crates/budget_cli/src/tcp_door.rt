@@ -1,11 +1,12 @@
 //! The door of the program. It is the edge of what is proved: what the network gives and takes is not
 //! told, but each failure raises a count.
-ghost use Rattle.std.specs.Prelude.{◌≡◌, ◌<◌, length, None, IfOk, IsErr, IsTrue, OnOk, false};
+ghost use Rattle.std.specs.Prelude.{◌≡◌, ◌<◌, length, not, None, IfOk, IsErr, IsTrue, OnOk, false};
 ghost use Rattle.std.specs.Option.{is_some};
 ghost use Rattle.std.specs.Result.{is_err};
 ghost use Rattle.std.specs.Io.{ReadsAtMost, WritesAtMost};
 ghost use Rattle.budget_ports.specs.Faults.{risen, count_after};
 
+use crate::causes::address_text;
 use crate::connection::Connection;
 use budget_ports::{Door, Failed};
 use std::io;
@@ -25,6 +26,7 @@ pub struct TcpDoor<N: Net, C: Clock> {
     visit: Option<Connection<N::Stream>>,
     clock: C,
     faults: u64,
+    refusal: Option<&'static str>,
 }
 
 /// Whether a connection can't be let in that its other side has given up, or to which the way is lost. A signal may also have interrupted
@@ -68,21 +70,35 @@ impl<N: Net, C: Clock> TcpDoor<N, C> {
             visit: None,
             clock,
             faults: 0,
+            refusal: None,
         }
     }
 
-    /// A door that listens at an address, such as `127.0.0.1:5006`. Where that is refused it is shut.
+    /// A door that listens at an address, such as `127.0.0.1:5006`. Where that is refused it is shut, and knows why.
     /// It has not failed.
     pub fn listen(net: &N, clock: C, address: &str) -> TcpDoor<N, C>
         ensures visit { result.visit ≡ None }
         ensures faults { result.faults ≡ 0 }
+        ensures refusal { is_some result.refusal ≡ not (is_some result.listener) }
     {
+        let (listener, refusal) = match TcpListener::bind(net, address) {
+            Ok(listener) => (Some(listener), None),
+            Err(error) => (None, Some(address_text(error.kind()))),
+        };
         TcpDoor {
-            listener: TcpListener::bind(net, address).ok(),
+            listener,
             visit: None,
             clock,
             faults: 0,
+            refusal,
         }
+    }
+
+    /// Why it was refused to listen, if it was.
+    pub fn refusal(&self) -> Option<&'static str>
+        ensures { result ≡ self.now.refusal }
+    {
+        self.refusal
     }
 
     /// Counts a failure. All else stays as it is.

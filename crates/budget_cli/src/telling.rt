@@ -21,6 +21,8 @@ options, each at most once, in any order:
   --peer ADDRESS   where the server of a device is (127.0.0.1:5006)
   --count NUMBER   how many connections a server takes before it ends (1000)
 
+docs/FORMATS.md has the lines of a device, every refusal and what to do then, and the statuses.
+
 built with rattle-kit-13f
 ";
 

@@ -1,15 +1,17 @@
+use crate::causes::{address_text, store_text};
 use crate::stdin_source::StdinSource;
 use crate::stdout_sink::StdoutSink;
 use crate::system_clock::SystemClock;
 use crate::tcp_door::TcpDoor;
 use crate::tcp_link::TcpLink;
 use budget_ports::{Door, Failed, Link, PortFault, Sink, Source, WallClock};
+use sqlite_keeper::OpeningCause;
 use std::cell::Cell;
-use std::io;
 use std::io::{ErrorKind, Read, Write};
 use std::net::{Shutdown, TcpListener, TcpStream};
 use std::test::Fail;
 use std::time::{Clock, Duration};
+use std::{fs, io};
 
 /// A clock that is set by hand. Where it isn't set, its time can't be read.
 #[derive(Drop)]
@@ -143,6 +145,8 @@ fn connections_are_let_in(rt: HostRuntime) -> Result<(), Fail> {
     let text = format!(in rt.alloc(); "{address}")?;
     let mut door = TcpDoor::listen(&rt, &rt, text.as_str());
     let mut late = TcpDoor::listen(&rt, &rt, text.as_str());
+    assert_eq!(rt; door.refusal(), None);
+    assert_eq!(rt; late.refusal(), Some("another program listens there"));
     assert_eq!(rt; late.accept(), Err(Failed));
     let mut buffer = *b"....";
     assert_eq!(rt; door.read(&mut buffer), Err(Failed));
@@ -187,4 +191,93 @@ fn replies_come_over_the_network(rt: HostRuntime) -> Result<(), Fail> {
     assert_eq!(rt; came.as_slice(), b"answer".as_slice());
     assert!(rt; link.receive().is_err());
     Ok(())
+}
+
+/// Where the files stand of which the program says why they are no stores.
+const FOLDER: &str = "budget_cli_causes";
+
+/// What SQLite doesn't tell of a path, the system does.
+#[test]
+fn causes_are_told(rt: HostRuntime) -> Result<(), Fail> {
+    let _ = fs::remove_dir_all(&rt, FOLDER);
+    fs::create_dir(&rt, FOLDER)?;
+    fs::write(&rt, "budget_cli_causes/text", "this is no store")?;
+    fs::write(
+        &rt,
+        "budget_cli_causes/store",
+        "SQLite format 3\0, and no more",
+    )?;
+    fs::write(&rt, "budget_cli_causes/other", "")?;
+    fs::write(&rt, "budget_cli_causes/other-journal", "x")?;
+    let rows = [
+        (
+            "budget_cli_causes",
+            OpeningCause::NotOpened,
+            "a folder stands there",
+        ),
+        (
+            "budget_cli_causes/none/a",
+            OpeningCause::NotOpened,
+            "there is no such folder",
+        ),
+        (
+            "budget_cli_causes/text/a",
+            OpeningCause::NotOpened,
+            "a part of its path is no folder",
+        ),
+        (":memory:", OpeningCause::NotOpened, "no file is named so"),
+        (
+            "budget_cli_causes/text",
+            OpeningCause::NotOpened,
+            "no log can be made beside it",
+        ),
+        (
+            "budget_cli_causes/other",
+            OpeningCause::NotOpened,
+            "sqlite3 has left a journal beside it",
+        ),
+        (
+            "budget_cli_causes/text",
+            OpeningCause::Damaged,
+            "it is no SQLite file",
+        ),
+        (
+            "budget_cli_causes/other",
+            OpeningCause::Damaged,
+            "it is no SQLite file",
+        ),
+        (
+            "budget_cli_causes/store",
+            OpeningCause::Damaged,
+            "it is damaged",
+        ),
+        ("a", OpeningCause::InUse, "another run is on it"),
+        (
+            "a",
+            OpeningCause::OtherTables,
+            "it has tables that can't be read",
+        ),
+        ("a", OpeningCause::NoRoom, "there is no room"),
+        ("a", OpeningCause::Failed, "it can't be read or written"),
+    ];
+    for (path, cause, text) in rows {
+        assert_eq!(rt; store_text(&rt, path, cause), text, "of {path}");
+    }
+    fs::remove_dir_all(&rt, FOLDER)?;
+    Ok(())
+}
+
+#[test]
+fn refused_addresses_are_told(rt: HostRuntime) {
+    for (kind, text) in [
+        (ErrorKind::AddrInUse, "another program listens there"),
+        (ErrorKind::PermissionDenied, "no permission to listen there"),
+        (
+            ErrorKind::AddrNotAvailable,
+            "this machine has no such address",
+        ),
+        (ErrorKind::InvalidInput, "that is no address"),
+    ] {
+        assert_eq!(rt; address_text(kind), text);
+    }
 }

@@ -1,5 +1,6 @@
 //! A store in a real file.
-use crate::stores::{LATER, NEW, fault_text, over};
+use crate::stores::{LATER, NEW, TABLES, fault_text, over};
+use sqlite::Connection;
 use sqlite_keeper::open;
 use std::fs;
 use std::test::Fail;
@@ -25,7 +26,59 @@ fn file_is_opened_again(rt: HostRuntime) -> Result<(), Fail> {
     fs::create_dir(&rt, FOLDER)?;
     assert_eq!(rt; opened(&rt, PATH, NEW)?.as_str(), "");
     assert_eq!(rt; opened(&rt, PATH, LATER)?.as_str(), "");
-    assert_eq!(rt; opened(&rt, FOLDER, "")?.as_str(), "unopened");
     fs::remove_dir_all(&rt, FOLDER)?;
+    Ok(())
+}
+
+/// Where the files stand that are refused.
+const REFUSED: &str = "store_examples_refused";
+
+/// A file that is refused, and where its log would stand.
+const TEXT: &str = "store_examples_refused/text.db";
+
+const LOG: &str = "store_examples_refused/text.db-wal";
+
+/// What becomes of a file that has this text.
+fn opened_text(rt: &HostRuntime, text: &str) -> Result<String, Fail> {
+    fs::write(rt, TEXT, text)?;
+    opened(rt, TEXT, "")
+}
+
+/// What becomes of a file after these statements, without a log beside it.
+fn opened_after(rt: &HostRuntime, sql: &str) -> Result<String, Fail> {
+    fs::remove_file(rt, TEXT)?;
+    let mut connection = Connection::open(rt, TEXT)?;
+    connection.execute_batch(sql)?;
+    connection.close()?;
+    fs::remove_file(rt, LOG)?;
+    opened(rt, TEXT, "")
+}
+
+/// What becomes of a file that a keeper has open.
+fn opened_twice(rt: &HostRuntime) -> Result<String, Fail> {
+    fs::remove_file(rt, TEXT)?;
+    let first = open(rt, TEXT);
+    let second = opened(rt, TEXT, "");
+    drop(first);
+    second
+}
+
+/// A file that is refused is told why, and nothing stands beside it afterwards.
+#[test]
+fn refused_files_are_left_alone(rt: HostRuntime) -> Result<(), Fail> {
+    let _ = fs::remove_dir_all(&rt, REFUSED);
+    fs::create_dir(&rt, REFUSED)?;
+    assert_eq!(rt; opened(&rt, REFUSED, "")?.as_str(), "unopened NotOpened");
+    assert_eq!(rt;
+        opened_text(&rt, "this is no store")?.as_str(),
+        "unopened Damaged"
+    );
+    assert_eq!(rt; fs::read_to_string(&rt, TEXT)?.as_str(), "this is no store");
+    assert!(rt; !fs::exists(&rt, LOG)?);
+    let sql = format!(in rt.alloc(); "{TABLES}; INSERT INTO named VALUES ('version', '7')")?;
+    assert_eq!(rt; opened_after(&rt, sql.as_str())?.as_str(), "version 7");
+    assert!(rt; !fs::exists(&rt, LOG)?);
+    assert_eq!(rt; opened_twice(&rt)?.as_str(), "unopened InUse");
+    fs::remove_dir_all(&rt, REFUSED)?;
     Ok(())
 }

@@ -1,8 +1,8 @@
 //! Stores in memory, taken by a keeper.
 use crate::script::first_wrong;
 use field_values::NoMemory;
-use sqlite::{Alter, Connection, Error, MemStore};
-use sqlite_keeper::{ShutKeeper, SqliteKeeper, StoreFault, in_order, take};
+use sqlite::{Alter, Connection, Error, ErrorCode, MemStore};
+use sqlite_keeper::{ShutKeeper, SqliteKeeper, StoreFault, in_order, opening_fault, take};
 use std::alloc::Global;
 use std::test::Fail;
 
@@ -30,10 +30,29 @@ const SHUT: &str =
 /// Why a store isn't taken.
 pub fn fault_text(alloc: Global, fault: StoreFault) -> Result<String, Fail> {
     match fault {
-        StoreFault::Unopened => Ok(String::from_str(alloc, "unopened")?),
+        StoreFault::Unopened { cause } => Ok(format!(in alloc; "unopened {cause:?}")?),
         StoreFault::Version { found } => Ok(format!(in alloc; "version {}", found.as_str())?),
         StoreFault::NoMemory => Err(Fail::from(NoMemory)),
     }
+}
+
+/// A failure of SQLite is told as its cause.
+#[test]
+fn failures_are_told(rt: HostRuntime) -> Result<(), Fail> {
+    let rows = [
+        (ErrorCode::CannotOpen, "unopened NotOpened"),
+        (ErrorCode::DatabaseBusy, "unopened InUse"),
+        (ErrorCode::NotADatabase, "unopened OtherTables"),
+        (ErrorCode::DatabaseCorrupt, "unopened Damaged"),
+        (ErrorCode::DiskFull, "unopened NoRoom"),
+        (ErrorCode::SystemIoFailure, "unopened Failed"),
+        (ErrorCode::Closed, "unopened Failed"),
+    ];
+    for (code, wanted) in rows {
+        let fault = opening_fault(&Error::SqliteFailure(code));
+        assert_eq!(rt; fault_text(rt.alloc(), fault)?.as_str(), wanted);
+    }
+    Ok(())
 }
 
 /// What a keeper over a store answers otherwise than a script says.
