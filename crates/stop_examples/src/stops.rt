@@ -128,31 +128,52 @@ fn stopped(alloc: Global, log_call: u64, db_call: u64) -> Result<Option<u8>, Fai
     Ok(Some(status))
 }
 
-/// From which call on no run stops any more, where each run before that one left what it had answered, and so did that one; none where a run
-/// didn't.
-fn calls_of(alloc: Global, is_log: bool) -> Result<Option<u64>, Fail> {
-    for call in 0..1000 {
+/// How many runs stop of those that fail from the call `first` on, from the one that is `step` later on, and so on, up to the first run with no
+/// stop; or the call of a run that didn't leave what it had answered.
+fn stops_of(alloc: Global, is_log: bool, first: u64, step: u64) -> Result<Result<u64, u64>, Fail> {
+    for count in 0..1000u64 {
+        let call = first.saturating_add(count.saturating_mul(step));
         let (log_call, db_call) = match is_log {
             true => (call, u64::MAX),
             false => (u64::MAX, call),
         };
         match stopped(alloc, log_call, db_call)? {
-            Some(0) => return Ok(Some(call)),
+            Some(0) => return Ok(Ok(count)),
             Some(6) => {}
-            _ => return Ok(None),
+            _ => return Ok(Err(call)),
         }
     }
-    Ok(None)
+    Ok(Err(u64::MAX))
 }
 
+/// Each call of the log, in four parts: 89 of them fail.
 #[test]
-fn log_fails(rt: HostRuntime) -> Result<(), Fail> {
-    assert_eq!(rt; calls_of(rt.alloc(), true)?, Some(1));
+fn log_fails_0(rt: HostRuntime) -> Result<(), Fail> {
+    assert_eq!(rt; stops_of(rt.alloc(), true, 0, 4)?, Ok(23));
     Ok(())
 }
 
 #[test]
+fn log_fails_1(rt: HostRuntime) -> Result<(), Fail> {
+    assert_eq!(rt; stops_of(rt.alloc(), true, 1, 4)?, Ok(22));
+    Ok(())
+}
+
+#[test]
+fn log_fails_2(rt: HostRuntime) -> Result<(), Fail> {
+    assert_eq!(rt; stops_of(rt.alloc(), true, 2, 4)?, Ok(22));
+    Ok(())
+}
+
+#[test]
+fn log_fails_3(rt: HostRuntime) -> Result<(), Fail> {
+    assert_eq!(rt; stops_of(rt.alloc(), true, 3, 4)?, Ok(22));
+    Ok(())
+}
+
+/// Each call of the database: 25 of them fail.
+#[test]
 fn database_fails(rt: HostRuntime) -> Result<(), Fail> {
-    assert_eq!(rt; calls_of(rt.alloc(), false)?, Some(1));
+    assert_eq!(rt; stops_of(rt.alloc(), false, 0, 1)?, Ok(25));
     Ok(())
 }
