@@ -168,8 +168,9 @@ pub fn one_step_is_taken()
 
 /// A law: where a category is deleted and handed on to another one, each transaction that was of it is of the other one, and no other
 /// transaction changes its category. In each month the other one has what both had together, of transactions and of what expense
-/// categories are given, and each cell of every other category tells what it told; so what came in, went out and was given stays, over all live categories,
-/// and what is still to budget together with what is left in them. The category isn't live any more, and nothing else changes.
+/// categories are given, and each cell of every other category tells what it told. So what came in, went out and was given stays, over
+/// all live categories, and so does what is still to budget together with what is left in them. The category isn't live any more, and
+/// nothing else changes.
 pub fn categories_are_handed_on()
     ensures { CategoriesAreHandedOn }
 {}

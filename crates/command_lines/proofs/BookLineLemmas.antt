@@ -16,7 +16,7 @@ use Rattle.book_rows.specs.Live.{is_live_tx, category_of, payee_of}
 use Rattle.book_rows.specs.Parts.{account_txs}
 use Rattle.book_rows.specs.Named.{HasNames}
 use Rattle.book_rows.specs.Book.{dated_cmp}
-use Rattle.envelope_cells.specs.Budget.{Budget, categories, categories_of}
+use Rattle.envelope_cells.specs.Budget.{Budget, categories_of}
 use Rattle.envelope_cells.specs.BudgetOf.{budget_of, groups_of}
 use Rattle.envelope_cells.specs.Ids.{month_number}
 use Rattle.envelope_cells.specs.SheetOf.{cell, month_cells, category_cells, categories_cells, group_cells, groups_cells, sheet_of}

@@ -1,5 +1,5 @@
 -- What a register tells.
-use Rattle.std.specs.Prelude.{◌≡◌, ◌↔◌, ℕ, List, map as list_map, Some, true}
+use Rattle.std.specs.Prelude.{◌≡◌, ◌↔◌, List, map as list_map, Some, true}
 use Rattle.std.specs.List.{Contains}
 use Rattle.std.specs.List.Sorted.{IsStrictlySortedBy}
 use Rattle.std.specs.FinMap as map

@@ -1,5 +1,5 @@
 -- How a command is written as a line, that the line reads back, and that a line that was read is written back.
-use Rattle.std.specs.Prelude.{◌≡◌, ◌≢◌, ◌≤◌, ◌<◌, ℕ, ◌/◌, List, [], ◌∷◌, ◌++◌, ◌↔◌, length, codes, ℤ, Bool, true, false, Option, None, Some, Ok}
+use Rattle.std.specs.Prelude.{◌≡◌, ◌≢◌, ◌≤◌, ◌<◌, ℕ, ◌/◌, List, [], ◌∷◌, ◌++◌, ◌↔◌, length, codes, ℤ, Bool, true, false, Option, Some, Ok}
 use Rattle.std.specs.List.{flat_map, AllByRecursion}
 use Rattle.field_values.specs.Value.{value_text}
 use Rattle.field_merge.specs.declared.message.Message.{Message}
@@ -16,14 +16,13 @@ use Rattle.split_transfer.specs.declared.edit.TxChange.TheVariants.{Date, Amount
 use Rattle.split_transfer.specs.declared.edit.SplitPart.{SplitPart}
 use Rattle.rule_engine.specs.declared.rule.Stage.{Stage}
 use Rattle.rule_engine.specs.declared.rule.Stage.TheVariants.{Pre, Plain, Post as PostStage}
-use Rattle.rule_engine.specs.declared.rule.RuleOp.{RuleOp}
 use Rattle.rule_engine.specs.declared.edit.RuleEdit.{RuleEdit}
 use Rattle.rule_engine.specs.declared.edit.RuleEdit.TheVariants.{RuleAdd, RuleDelete, RulesRun}
 use Rattle.rule_engine.specs.Edits.{op_text}
 use Rattle.schedules.specs.declared.edit.ScheduleEdit.{ScheduleEdit}
 use Rattle.schedules.specs.declared.edit.ScheduleEdit.TheVariants.{Add, Post, Skip, Delete}
 use Rattle.std.specs.Fmt.{signed_decimal}
-use Rattle.book_rows.specs.Ids.{two_digits, four_digits, month_id}
+use Rattle.book_rows.specs.Ids.{four_digits, month_id}
 use Rattle.command_lines.specs.Forms.{is_amount}
 use Rattle.command_lines.specs.FormLaws.{id_text}
 use Rattle.command_lines.specs.declared.command.Command.{Command}

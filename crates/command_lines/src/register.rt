@@ -1,5 +1,5 @@
 //! The register of an account: its live transactions, by day and id.
-ghost use Rattle.std.specs.Prelude.{◌≡◌, ◌≤◌, ◌<◌, ◌++◌, ◌∷◌, List, false, OnOk, IfOk, string_bytes};
+ghost use Rattle.std.specs.Prelude.{◌≡◌, ◌≤◌, ◌++◌, ◌∷◌, List, false, OnOk, IfOk, string_bytes};
 ghost use Rattle.std.specs.List.{flat_map};
 ghost use Rattle.std.specs.Option.{option_copied};
 ghost use Rattle.std.specs.Fmt.{signed_decimal};
@@ -45,7 +45,7 @@ fn push_amount(text: &mut String, amount: i64) -> Result<(), NoMemory>
 
 /// Puts a TAB and an id, escaped, or a hyphen for none, behind a text.
 fn push_id(text: &mut String, id: Option<&Txt>) -> Result<(), NoMemory>
-    ensures { OnOk result (string_bytes text.new ≡ string_bytes text.old ++ 9 ∷ shown_id (option_copied id)) }
+    ensures { OnOk result (string_bytes text.new ≡ string_bytes text.old ++ 9 ∷ shown_id (option_copied id.entry)) }
 {
     text.push('\t')?;
     match id {
