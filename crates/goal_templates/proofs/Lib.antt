@@ -1,0 +1,14 @@
+pub mod MonthTexts
+pub mod AmountTexts
+pub mod Decimals
+pub mod Blanks
+pub mod Bodies
+pub mod Lines
+pub mod Counts
+pub mod Prefixes
+pub mod Ordered
+pub mod Shared
+pub mod Kept
+pub mod Again
+pub mod Sizes
+pub mod Allocated
