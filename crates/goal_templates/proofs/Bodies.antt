@@ -79,7 +79,7 @@ amounts_are t x h = by (cut t) refl h
 
     next : (a rest : Text) (n : ℕ) → t ≡ a ++ 32 ∷ rest → cents_of a ≡ Some n
         → (((r : Text) × (behind (codes "up to ") rest ≡ Some r) × (in_cents (AmountUpTo (pos n)) r ≡ Some x))
-          ⊎ ((behind (codes "up to ") rest ≡ None) × (where_found (behind (codes "by ") rest) (λ r. option_map (By (pos n)) (month_row_month r)) None ≡ Some x))) → IsBody t x
+        ⊎ ((behind (codes "up to ") rest ≡ None) × (where_found (behind (codes "by ") rest) (λ r. option_map (By (pos n)) (month_row_month r)) None ≡ Some x))) → IsBody t x
     next a rest n e c (inl w) =
         let m = cents_are (AmountUpTo (pos n)) w.0 x w.2 in
         subst (IsBody t) m.2 (a, w.0, e ∙ ap (λ r. a ++ 32 ∷ r) (behind_is (codes "up to ") rest w.0 w.1), amount_is a n c, m.1)
@@ -108,21 +108,21 @@ body_is t x h = one (found (behind (codes "up to ") t) (in_cents UpTo) rest_one 
     rest_one = where_found (behind (codes "average ") t) (λ r. counted Average (codes "months") (cut r)) (where_found (behind (codes "copy from ") t) (λ r. counted CopyFrom (codes "months ago") (cut r)) (amount_first t (cut t)))
 
     three : (((r : Text) × (behind (codes "copy from ") t ≡ Some r) × (counted CopyFrom (codes "months ago") (cut r) ≡ Some x))
-          ⊎ ((behind (codes "copy from ") t ≡ None) × (amount_first t (cut t) ≡ Some x))) → IsBody t x
+        ⊎ ((behind (codes "copy from ") t ≡ None) × (amount_first t (cut t) ≡ Some x))) → IsBody t x
     three (inl w) =
         let c = counts_are CopyFrom (codes "months ago") w.0 x w.2 in
         subst (IsBody t) c.made_of (behind_is (codes "copy from ") t w.0 w.1 ∙ ap (λ r. codes "copy from " ++ r) c.spelled, c.least, c.most)
     three (inr w) = amounts_are t x w.1
 
     two : (((r : Text) × (behind (codes "average ") t ≡ Some r) × (counted Average (codes "months") (cut r) ≡ Some x))
-          ⊎ ((behind (codes "average ") t ≡ None) × (where_found (behind (codes "copy from ") t) (λ r. counted CopyFrom (codes "months ago") (cut r)) (amount_first t (cut t)) ≡ Some x))) → IsBody t x
+        ⊎ ((behind (codes "average ") t ≡ None) × (where_found (behind (codes "copy from ") t) (λ r. counted CopyFrom (codes "months ago") (cut r)) (amount_first t (cut t)) ≡ Some x))) → IsBody t x
     two (inl w) =
         let c = counts_are Average (codes "months") w.0 x w.2 in
         subst (IsBody t) c.made_of (behind_is (codes "average ") t w.0 w.1 ∙ ap (λ r. codes "average " ++ r) c.spelled, c.least, c.most)
     two (inr w) = three (found (behind (codes "copy from ") t) (λ r. counted CopyFrom (codes "months ago") (cut r)) (amount_first t (cut t)) x w.1)
 
     one : (((r : Text) × (behind (codes "up to ") t ≡ Some r) × (in_cents UpTo r ≡ Some x))
-          ⊎ ((behind (codes "up to ") t ≡ None) × (where_found (behind (codes "average ") t) (λ r. counted Average (codes "months") (cut r)) (where_found (behind (codes "copy from ") t) (λ r. counted CopyFrom (codes "months ago") (cut r)) (amount_first t (cut t))) ≡ Some x))) → IsBody t x
+        ⊎ ((behind (codes "up to ") t ≡ None) × (where_found (behind (codes "average ") t) (λ r. counted Average (codes "months") (cut r)) (where_found (behind (codes "copy from ") t) (λ r. counted CopyFrom (codes "months ago") (cut r)) (amount_first t (cut t))) ≡ Some x))) → IsBody t x
     one (inl w) =
         let m = cents_are UpTo w.0 x w.2 in
         subst (IsBody t) m.2 (w.0, behind_is (codes "up to ") t w.0 w.1, m.1)

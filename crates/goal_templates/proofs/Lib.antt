@@ -10,5 +10,12 @@ pub mod Ordered
 pub mod Shared
 pub mod Kept
 pub mod Again
-pub mod Sizes
 pub mod Allocated
+pub mod Wanting
+pub mod Sizes
+pub mod ToShare
+pub mod Asking
+pub mod Written
+pub mod Filled
+pub mod Naming
+pub mod Noted
