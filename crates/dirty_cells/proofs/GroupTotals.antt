@@ -27,13 +27,13 @@ use Rattle.dirty_cells.proofs.Groups.{named_is, side_of, group_by}
 use Rattle.dirty_cells.proofs.Totals.{income_of_groups, spent_of_groups, budgeted_of_groups, leftover_of_groups}
 
 module _ (rows : Rows) (u : Bool → Bool) where
-  abbrev cs : List (Place × Option Text)
+  abbrev pub cs : List (Place × Option Text)
   cs = category_list rows
 
-  abbrev of_side : List (Place × Bool) → List BudgetGroup
+  abbrev pub of_side : List (Place × Bool) → List BudgetGroup
   of_side gs = filter (λ k. u k.is_income) (with_categories cs gs)
 
-  abbrev ids : List Text
+  abbrev pub ids : List Text
   ids = map (λ (g : BudgetGroup). g.id) (filter (λ k. u k.is_income) (groups_of rows))
 
   by_ids : (f : Text → ℤ) (gs : List (Place × Bool)) → total (λ g. total f g.categories) (of_side gs) ≡ total (λ id. total f (ids_of_group id cs)) (map (λ (g : BudgetGroup). g.id) (of_side gs))
@@ -90,19 +90,22 @@ module _ (rows : Rows) (cells : Cells) (n : ℕ) where
 
   -- where the cells of all groups are right
   module _ (sums : (id : Text) → get cells (cell_at n GroupSum id) ≡ value_of b n GroupSum id) (u : Bool → Bool) where
-    kept : (id : Text) → is_among text_cmp (ids rows u) id ≡ true → kept_value cells n GroupSum id ≡ total (λ c. b.category_sum c n) (ids_of_group id (category_list rows))
+    pub kept : (id : Text) → is_among text_cmp (ids rows u) id ≡ true → kept_value cells n GroupSum id ≡ total (λ c. b.category_sum c n) (ids_of_group id (category_list rows))
     kept id h =
         ap (λ o. unwrap_or o (pos 0)) (sums id
-        ∙ ap (λ gs. of_group (λ c. b.category_sum c n) (group_named gs id)) (sym (all_pass (groups_of rows)))
-        ∙ named_total rows (λ t. true) (λ c. b.category_sum c n) id (whatever_side u (get rows.groups id) (sym (listed rows u id) ∙ h)))
+          ∙ ap (λ gs. of_group (λ c. b.category_sum c n) (group_named gs id)) (sym (all_pass (groups_of rows)))
+          ∙ named_total rows (λ t. true) (λ c. b.category_sum c n) id (whatever_side u (get rows.groups id) (sym (listed rows u id) ∙ h)))
 
     pub sums_total : total (kept_value cells n GroupSum) (ids rows u) ≡ total (λ g. total (λ c. b.category_sum c n) g.categories) (filter (λ k. u k.is_income) (groups_of rows))
     sums_total = total_on (kept_value cells n GroupSum) (λ id. total (λ c. b.category_sum c n) (ids_of_group id (category_list rows))) (ids rows u) kept ∙ sym (by_ids rows u (λ c. b.category_sum c n) (group_list rows))
 
   module _ (f : Text → ℤ) (kind : CellKind) (right : (id : Text) → get cells (cell_at n kind id) ≡ of_group f (group_named (expense_groups b) id)) where
+    pub kept_expense : (id : Text) → is_among text_cmp (ids rows not) id ≡ true → kept_value cells n kind id ≡ total f (ids_of_group id (category_list rows))
+    kept_expense id h = ap (λ o. unwrap_or o (pos 0)) (right id ∙ named_total rows not f id (sym (listed rows not id) ∙ h))
+
     pub expense_total : total (kept_value cells n kind) (ids rows not) ≡ total (λ g. total f g.categories) (expense_groups b)
     expense_total =
-        total_on (kept_value cells n kind) (λ id. total f (ids_of_group id (category_list rows))) (ids rows not) (λ id h. ap (λ o. unwrap_or o (pos 0)) (right id ∙ named_total rows not f id (sym (listed rows not id) ∙ h)))
+        total_on (kept_value cells n kind) (λ id. total f (ids_of_group id (category_list rows))) (ids rows not) kept_expense
         ∙ sym (by_ids rows not f (group_list rows))
 
   module _ (sums : (id : Text) → get cells (cell_at n GroupSum id) ≡ value_of b n GroupSum id) where

@@ -16,3 +16,6 @@ pub mod Unmarked
 pub mod GroupTotals
 pub mod TouchedSet
 pub mod Sides
+pub mod Wholes
+pub mod Months
+pub mod LeftBefore

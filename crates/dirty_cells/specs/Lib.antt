@@ -3,3 +3,4 @@ pub mod Grid
 pub mod Right
 pub mod WholeOf
 pub mod Touching
+pub mod Steps

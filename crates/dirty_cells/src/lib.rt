@@ -3,7 +3,8 @@
 
 mod category;
 mod group;
+mod month;
 pub mod store;
-mod sums;
 mod touching;
 mod whole;
+mod sums;
