@@ -143,7 +143,7 @@ module _ (r : Rows) (ids : List Text) where
   set_account s c id v st h = record {
     rows = st.rows;
     accounts = keeps_set account_table (λ a. a.offbudget) r.accounts (λ a. Within (account_txs r a) ids) s.accounts id c v st.accounts (account_sets c v)
-      (λ k. either account_table (λ a. a.offbudget) (λ a v. differ a.offbudget (flag_of v)) sets_offbudget r.accounts id c v (account_tells c v) (guarded (is_some (account_table.kind c)) (account_governs r id c v) (account_txs r id) h k));
+        (λ k. either account_table (λ a. a.offbudget) (λ a v. differ a.offbudget (flag_of v)) sets_offbudget r.accounts id c v (account_tells c v) (guarded (is_some (account_table.kind c)) (account_governs r id c v) (account_txs r id) h k));
     parents = st.parents;
     mappings = st.mappings;
   }
@@ -154,22 +154,23 @@ module _ (r : Rows) (ids : List Text) where
     accounts = st.accounts;
     parents = st.parents;
     mappings = keeps_set category_mapping_table (λ m. m.transfer_id) r.category_mappings (λ a. Within (category_txs r a) ids) s.category_mappings id c v st.mappings (mapping_sets c v)
-      (λ k. either category_mapping_table (λ m. m.transfer_id) (λ m v. not (same_text m.transfer_id (text_of v))) sets_target r.category_mappings id c v (mapping_tells c v)
+        (λ k. either category_mapping_table (λ m. m.transfer_id) (λ m v. not (same_text m.transfer_id (text_of v))) sets_target r.category_mappings id c v (mapping_tells c v)
         (guarded (is_some (category_mapping_table.kind c)) (mapping_governs r id c v) (category_txs r id) h k));
   }
 
   known_tx : (b g : Bool) (id : Text) (xs : List Text) → Within (if b then id ∷ (if g then xs else []) else []) ids → b ≡ true → (is_among text_cmp ids id ≡ true) × (g ≡ true → Within xs ids)
   known_tx b g id xs h p =
-      let all : Within (id ∷ (if g then xs else [])) ids = subst (λ (t : Bool). Within (if t then id ∷ (if g then xs else []) else []) ids) p h in
-      (all.each id (or_left _ _ (itself id)),
-        λ e. record { each = λ q k. all.each q (or_right (eq_by_cmp text_cmp q id) _ (ap (λ (t : Bool). is_among text_cmp (if t then xs else []) q) e ∙ k)) })
+      let all : Within (id ∷ (if g then xs else [])) ids = subst (λ (t : Bool). Within (if t then id ∷ (if g then xs else []) else []) ids) p h in (
+        all.each id (or_left _ _ (itself id)),
+        λ e. record { each = λ q k. all.each q (or_right (eq_by_cmp text_cmp q id) _ (ap (λ (t : Bool). is_among text_cmp (if t then xs else []) q) e ∙ k)) },
+      )
 
   set_tx : (s : Rows) (c : Column) (id : Text) (v : Value) → Stays r s ids → Within (touched_by r Transactions c id v) ids → Stays r (with_cell Transactions id c v s) ids
   set_tx s c id v st h = record {
     rows = λ q off. st.rows q off ∙ sym (same_row q off (is_some (tx_table.kind c)) refl);
     accounts = st.accounts;
     parents = keeps_set tx_table (λ x. x.tombstone) r.txs (λ a. Within (children_of r a) ids) s.txs id c v st.parents (tx_sets c v)
-      (λ k. either tx_table (λ x. x.tombstone) (λ x v. differ x.tombstone (flag_of v)) sets_tombstone r.txs id c v (tx_tells c v) (known_tx (is_some (tx_table.kind c)) (tx_governs r id c v) id (children_of r id) h k).1);
+        (λ k. either tx_table (λ x. x.tombstone) (λ x v. differ x.tombstone (flag_of v)) sets_tombstone r.txs id c v (tx_tells c v) (known_tx (is_some (tx_table.kind c)) (tx_governs r id c v) id (children_of r id) h k).1);
     mappings = st.mappings;
   }
     where

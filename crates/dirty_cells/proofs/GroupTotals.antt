@@ -93,8 +93,8 @@ module _ (rows : Rows) (cells : Cells) (n : ℕ) where
     pub kept : (id : Text) → is_among text_cmp (ids rows u) id ≡ true → kept_value cells n GroupSum id ≡ total (λ c. b.category_sum c n) (ids_of_group id (category_list rows))
     kept id h =
         ap (λ o. unwrap_or o (pos 0)) (sums id
-          ∙ ap (λ gs. of_group (λ c. b.category_sum c n) (group_named gs id)) (sym (all_pass (groups_of rows)))
-          ∙ named_total rows (λ t. true) (λ c. b.category_sum c n) id (whatever_side u (get rows.groups id) (sym (listed rows u id) ∙ h)))
+        ∙ ap (λ gs. of_group (λ c. b.category_sum c n) (group_named gs id)) (sym (all_pass (groups_of rows)))
+        ∙ named_total rows (λ t. true) (λ c. b.category_sum c n) id (whatever_side u (get rows.groups id) (sym (listed rows u id) ∙ h)))
 
     pub sums_total : total (kept_value cells n GroupSum) (ids rows u) ≡ total (λ g. total (λ c. b.category_sum c n) g.categories) (filter (λ k. u k.is_income) (groups_of rows))
     sums_total = total_on (kept_value cells n GroupSum) (λ id. total (λ c. b.category_sum c n) (ids_of_group id (category_list rows))) (ids rows u) kept ∙ sym (by_ids rows u (λ c. b.category_sum c n) (group_list rows))

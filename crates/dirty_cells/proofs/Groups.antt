@@ -112,8 +112,8 @@ module _ {K : Type 0} (R : K → K → Ordering) where
   keys_same p o exact es fs s t h =
       sym (keys_marked (keys_where p es))
       ∙ ap (map (λ e. e.0)) (same_entries R o exact (marked (keys_where p es)) (marked (keys_where p fs))
-        (subst T (sym (sorted_filtered p es (so _ s))) tt) (subst T (sym (sorted_filtered p fs (so _ t))) tt)
-        (λ q. find_marked q (keys_where p es) ∙ ap (λ b. cond {A = Option ℕ} b (Some 0) None) (any_key p q es ∙ h q ∙ sym (any_key p q fs)) ∙ sym (find_marked q (keys_where p fs))))
+      (subst T (sym (sorted_filtered p es (so _ s))) tt) (subst T (sym (sorted_filtered p fs (so _ t))) tt)
+      (λ q. find_marked q (keys_where p es) ∙ ap (λ b. cond {A = Option ℕ} b (Some 0) None) (any_key p q es ∙ h q ∙ sym (any_key p q fs)) ∙ sym (find_marked q (keys_where p fs))))
       ∙ keys_marked (keys_where p fs)
 
 -- ---- the categories of a group
@@ -139,8 +139,8 @@ place_found rows g q =
     ∙ any-map (λ (e : Place × Option Text). eq_by_cmp place_cmp q e.0 && is_text g e.1) (λ (e : Text × CategoryRow). (record { sort_order = e.1.sort_order; id = e.0 }, e.1.cat_group)) (filter (λ e. not e.1.tombstone) (entries rows.categories))
     ∙ any-filter (λ (e : Text × CategoryRow). eq_by_cmp place_cmp q (record { sort_order = e.1.sort_order; id = e.0 }) && is_text g e.1.cat_group) (λ e. not e.1.tombstone) (entries rows.categories)
     ∙ any_same (λ (e : Text × CategoryRow). (eq_by_cmp place_cmp q (record { sort_order = e.1.sort_order; id = e.0 }) && is_text g e.1.cat_group) && not e.1.tombstone) (λ e. eq_by_cmp text_cmp q.id e.0 && stands_at g q e.1) (entries rows.categories)
-      (λ e. ap (λ b. (b && is_text g e.1.cat_group) && not e.1.tombstone) (both_equal (int_cmp q.sort_order e.1.sort_order) (text_cmp q.id e.0))
-        ∙ turned (is_eq (int_cmp q.sort_order e.1.sort_order)) (eq_by_cmp text_cmp q.id e.0) (is_text g e.1.cat_group) (not e.1.tombstone))
+    (λ e. ap (λ b. (b && is_text g e.1.cat_group) && not e.1.tombstone) (both_equal (int_cmp q.sort_order e.1.sort_order) (text_cmp q.id e.0))
+    ∙ turned (is_eq (int_cmp q.sort_order e.1.sort_order)) (eq_by_cmp text_cmp q.id e.0) (is_text g e.1.cat_group) (not e.1.tombstone))
     ∙ found_any (stands_at g q) q.id (entries rows.categories) (so _ (entries_sorted rows.categories))
     ∙ ap (some_and (stands_at g q)) (sym (get-entries rows.categories q.id))
 
@@ -172,7 +172,7 @@ module _ (r s : Rows) (g : Text) (same : SameMembers r s g) where
   same_ids =
       ids_are g (category_list r)
       ∙ ap (map (λ (p : Place). p.id)) (keys_same place_cmp (is_text g) places_total places_same (category_list r) (category_list s) (sorted_placed (category_places (entries r.categories)) [] tt) (sorted_placed (category_places (entries s.categories)) [] tt)
-        (λ q. place_found r g q ∙ same_place q ∙ sym (place_found s g q)))
+      (λ q. place_found r g q ∙ same_place q ∙ sym (place_found s g q)))
       ∙ sym (ids_are g (category_list s))
 
 -- ---- the group itself

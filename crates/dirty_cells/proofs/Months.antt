@@ -79,6 +79,8 @@ module _ {Row : Type 0} where
 
 pub all_pending : (r : Rows) (cells : Cells) (cs gs : List Text) (from to : ℕ) → cs ≡ map (λ e. e.0) (entries r.categories) → gs ≡ map (λ e. e.0) (entries r.groups)
     → ((q : CellName) (n : ℕ) → from ≤ n → n < to → q.month ≡ month_at n → get cells q ≡ None) → AreRightIn cells (budget_of r) from to (is_pending cs gs true)
-all_pending r cells cs gs from to c g none = record { each = λ n h l. nothing_kept r cs gs
-    (λ q off. not_there r.categories q (ap (λ l. is_among text_cmp l q) (sym c) ∙ off)) (λ q off. not_there r.groups q (ap (λ l. is_among text_cmp l q) (sym g) ∙ off))
-    cells n (λ kind id. none (cell_at n kind id) n h l refl) }
+all_pending r cells cs gs from to c g none = record {
+  each = λ n h l. nothing_kept r cs gs
+      (λ q off. not_there r.categories q (ap (λ l. is_among text_cmp l q) (sym c) ∙ off)) (λ q off. not_there r.groups q (ap (λ l. is_among text_cmp l q) (sym g) ∙ off))
+      cells n (λ kind id. none (cell_at n kind id) n h l refl);
+}

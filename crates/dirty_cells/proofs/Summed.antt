@@ -76,20 +76,20 @@ module _ (cells : Cells) (b : Budget) (n : ℕ) (has : HasCategories cells b n) 
       pub sums_small : weight (λ c. unsigned_abs (kept_value cells n Sum c)) k.categories ≤ 2 ^ 120
       sums_small =
           let on : weight (λ c. unsigned_abs (kept_value cells n Sum c)) k.categories ≤ weight (λ c. weight_before b c (suc n)) k.categories =
-            weight_on (λ c. unsigned_abs (kept_value cells n Sum c)) (λ c. weight_before b c (suc n)) k.categories (λ c m. omega (arith, ap unsigned_abs (kept_sum c (inside id k b.groups named c m)))) in
+          weight_on (λ c. unsigned_abs (kept_value cells n Sum c)) (λ c. weight_before b c (suc n)) k.categories (λ c m. omega (arith, ap unsigned_abs (kept_sum c (inside id k b.groups named c m)))) in
           omega (arith, on, members_small)
 
       module _ (spends : group_named (expense_groups b) id ≡ Some k) where
         pub budgets_small : weight (λ c. unsigned_abs (kept_value cells n OfBudget c)) k.categories ≤ 2 ^ 120
         budgets_small =
             let on : weight (λ c. unsigned_abs (kept_value cells n OfBudget c)) k.categories ≤ weight (λ c. weight_before b c (suc n)) k.categories =
-              weight_on (λ c. unsigned_abs (kept_value cells n OfBudget c)) (λ c. weight_before b c (suc n)) k.categories (λ c m. omega (arith, ap unsigned_abs (kept_budget c (inside id k (expense_groups b) spends c m)))) in
+            weight_on (λ c. unsigned_abs (kept_value cells n OfBudget c)) (λ c. weight_before b c (suc n)) k.categories (λ c m. omega (arith, ap unsigned_abs (kept_budget c (inside id k (expense_groups b) spends c m)))) in
             omega (arith, on, members_small)
 
         pub leftovers_small : weight (λ c. unsigned_abs (kept_value cells n Leftover c)) k.categories ≤ 2 ^ 120
         leftovers_small =
             let on : weight (λ c. unsigned_abs (kept_value cells n Leftover c)) k.categories ≤ weight (λ c. weight_before b c (suc n)) k.categories =
-              weight_on (λ c. unsigned_abs (kept_value cells n Leftover c)) (λ c. weight_before b c (suc n)) k.categories (λ c m. omega (arith, ap unsigned_abs (kept_leftover c (inside id k (expense_groups b) spends c m)), left_small b c (suc n))) in
+            weight_on (λ c. unsigned_abs (kept_value cells n Leftover c)) (λ c. weight_before b c (suc n)) k.categories (λ c m. omega (arith, ap unsigned_abs (kept_leftover c (inside id k (expense_groups b) spends c m)), left_small b c (suc n))) in
             omega (arith, on, members_small)
 
 pub small_rows : (r : Rows) (n : ℕ) → n < 2760 → HasSizes r → weight (λ c. weight_before (budget_of r) c (suc n)) (categories (budget_of r)) ≤ 2 ^ 118

@@ -65,9 +65,7 @@ fn is_expense(book: &Book, id: &Txt) -> bool
 {
     match book.category(id) {
         None => false,
-        Some(row) => {
-            !row.tombstone && has_live_group(book, row) && !has_income_group(book, row)
-        }
+        Some(row) => { !row.tombstone && has_live_group(book, row) && !has_income_group(book, row) }
     }
 }
 
@@ -193,11 +191,7 @@ fn leftover_of(said: Said, past: Left) -> i128
     requires left { unsigned_abs past.left ≤ 2 ^ 122 }
     ensures { result ≡ (said.budget +ℤ said.sum) +ℤ rolled past.carries past.left }
 {
-    added(
-        said.budget,
-        said.sum,
-        rolled_over(past.carries, past.left),
-    )
+    added(said.budget, said.sum, rolled_over(past.carries, past.left))
 }
 
 /// A flag as a number.
@@ -240,7 +234,11 @@ fn told_of(
     book.sizes();
     let said = said_of(alloc, book, sums, id, number)?;
     if !is_expense(book, id) {
-        let sum = if is_live(book, id) { Some(said.sum) } else { None };
+        let sum = if is_live(book, id) {
+            Some(said.sum)
+        } else {
+            None
+        };
         return Ok(Told {
             sum,
             budget: None,

@@ -108,7 +108,7 @@ pub(crate) fn group_ids(alloc: Global, book: &Book) -> Result<Items<Txt>, NoMemo
 }
 
 /// The same of months of which nothing is kept: of all categories and groups.
-pub(crate) fn cover_months<G: Ledger>(
+pub fn cover_months<G: Ledger>(
     alloc: Global,
     cells: &mut Store,
     sums: &CellValues,

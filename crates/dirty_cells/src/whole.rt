@@ -69,15 +69,87 @@ pub(crate) fn settle_whole<G: Ledger>(
     ensures others { OnOk result ((q : CellNameIs) → (q.month ≡ month_at number → ⊥) → map.get cells.new q ≡ map.get cells.old q) }
     ensures cost { OnOk result (steps.new ≤ steps.old + 9) }
 {
-    settle_one(cells, none, month, number, CellKind::TotalIncome, whole.income, steps)?;
-    settle_one(cells, none, month, number, CellKind::FromLastMonth, whole.from_last, steps)?;
-    settle_one(cells, none, month, number, CellKind::AvailableFunds, whole.available, steps)?;
-    settle_one(cells, none, month, number, CellKind::LastMonthOverspent, whole.overspent, steps)?;
-    settle_one(cells, none, month, number, CellKind::TotalBudgeted, whole.budgeted, steps)?;
-    settle_one(cells, none, month, number, CellKind::Buffered, whole.buffered, steps)?;
-    settle_one(cells, none, month, number, CellKind::ToBudget, whole.to_budget, steps)?;
-    settle_one(cells, none, month, number, CellKind::TotalSpent, whole.spent, steps)?;
-    settle_one(cells, none, month, number, CellKind::TotalLeftover, whole.leftover, steps)
+    settle_one(
+        cells,
+        none,
+        month,
+        number,
+        CellKind::TotalIncome,
+        whole.income,
+        steps,
+    )?;
+    settle_one(
+        cells,
+        none,
+        month,
+        number,
+        CellKind::FromLastMonth,
+        whole.from_last,
+        steps,
+    )?;
+    settle_one(
+        cells,
+        none,
+        month,
+        number,
+        CellKind::AvailableFunds,
+        whole.available,
+        steps,
+    )?;
+    settle_one(
+        cells,
+        none,
+        month,
+        number,
+        CellKind::LastMonthOverspent,
+        whole.overspent,
+        steps,
+    )?;
+    settle_one(
+        cells,
+        none,
+        month,
+        number,
+        CellKind::TotalBudgeted,
+        whole.budgeted,
+        steps,
+    )?;
+    settle_one(
+        cells,
+        none,
+        month,
+        number,
+        CellKind::Buffered,
+        whole.buffered,
+        steps,
+    )?;
+    settle_one(
+        cells,
+        none,
+        month,
+        number,
+        CellKind::ToBudget,
+        whole.to_budget,
+        steps,
+    )?;
+    settle_one(
+        cells,
+        none,
+        month,
+        number,
+        CellKind::TotalSpent,
+        whole.spent,
+        steps,
+    )?;
+    settle_one(
+        cells,
+        none,
+        month,
+        number,
+        CellKind::TotalLeftover,
+        whole.leftover,
+        steps,
+    )
 }
 
 /// What the groups of a month have together.

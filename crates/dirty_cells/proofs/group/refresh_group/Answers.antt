@@ -43,9 +43,9 @@ returns-then-is_income-clause-right g c =
     let k : BudgetGroup = record { id = c.args.id.now; is_income = c.args.is_income; categories = c.args.categories.now } in
     let fits : SFits w128 c.in_ok-sum.sum = search rules in
     on_ok c.settle_group.result (λ h cs rest right. h b cs rest
-      (ap Some (to_z-of_z w128 c.in_ok-sum.sum fits ∙ c.in_ok-sum.ensures) ∙ group_sum c.args.cells.now b n c.requires.has c.args.id.now k c.requires.group)
-      (sym (ap (of_group (λ q. b.budgeted q n)) (c.requires.income c.if-is_income.true)))
-      (sym (ap (of_group (λ q. leftover b q n)) (c.requires.income c.if-is_income.true))) right) c.settle_group.ensures.right
+    (ap Some (to_z-of_z w128 c.in_ok-sum.sum fits ∙ c.in_ok-sum.ensures) ∙ group_sum c.args.cells.now b n c.requires.has c.args.id.now k c.requires.group)
+    (sym (ap (of_group (λ q. b.budgeted q n)) (c.requires.income c.if-is_income.true)))
+    (sym (ap (of_group (λ q. leftover b q n)) (c.requires.income c.if-is_income.true))) right) c.settle_group.ensures.right
 
 pub returns-clause-right : goal.returns-clause-right
 returns-clause-right g c =
@@ -57,6 +57,6 @@ returns-clause-right g c =
     let three : SFits w128 c.in_ok-leftover.leftover = search rules in
     let spends = c.requires.expense c.if-is_income.false in
     on_ok c.settle_group-2.result (λ h cs rest right. h b cs rest
-      (ap Some (to_z-of_z w128 c.in_ok-sum.sum one ∙ c.in_ok-sum.ensures) ∙ group_sum c.args.cells.now b n c.requires.has c.args.id.now k c.requires.group)
-      (ap Some (to_z-of_z w128 c.in_ok-budget.budget two ∙ c.in_ok-budget.ensures) ∙ group_budget c.args.cells.now b n c.requires.has c.args.id.now k spends)
-      (ap Some (to_z-of_z w128 c.in_ok-leftover.leftover three ∙ c.in_ok-leftover.ensures) ∙ group_leftover c.args.cells.now b n c.requires.has c.args.id.now k spends) right) c.settle_group-2.ensures.right
+    (ap Some (to_z-of_z w128 c.in_ok-sum.sum one ∙ c.in_ok-sum.ensures) ∙ group_sum c.args.cells.now b n c.requires.has c.args.id.now k c.requires.group)
+    (ap Some (to_z-of_z w128 c.in_ok-budget.budget two ∙ c.in_ok-budget.ensures) ∙ group_budget c.args.cells.now b n c.requires.has c.args.id.now k spends)
+    (ap Some (to_z-of_z w128 c.in_ok-leftover.leftover three ∙ c.in_ok-leftover.ensures) ∙ group_leftover c.args.cells.now b n c.requires.has c.args.id.now k spends) right) c.settle_group-2.ensures.right

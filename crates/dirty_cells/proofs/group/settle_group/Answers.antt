@@ -16,11 +16,11 @@ returns-clause-right g c =
     let at_second : c.in_ok-second.second ≡ cell_at n GroupBudget id = c.in_ok-second.ensures ∙ ap (λ m. record { month = m; kind = GroupBudget; id = id }) c.requires.month in
     let at_third : c.in_ok-third.third ≡ cell_at n GroupLeftover id = c.in_ok-third.ensures ∙ ap (λ m. record { month = m; kind = GroupLeftover; id = id }) c.requires.month in
     on_ok c.settle-3.result (λ last b cs rest e1 e2 e3 right.
-      group_right b n id c.args.cells.now c.settle.new.self c.settle-2.new.self c.settle-3.new.self c.args.sum c.args.budget c.args.leftover
-      (subst (λ q. Settled c.args.cells.now c.settle.new.self q c.args.sum) at_first c.in_ok-settle.ensures.set)
-      (subst (λ q. Settled c.settle.new.self c.settle-2.new.self q c.args.budget) at_second c.in_ok-settle-2.ensures.set)
-      (subst (λ q. Settled c.settle-2.new.self c.settle-3.new.self q c.args.leftover) at_third last)
-      cs rest e1 e2 e3 right) c.settle-3.ensures.set
+    group_right b n id c.args.cells.now c.settle.new.self c.settle-2.new.self c.settle-3.new.self c.args.sum c.args.budget c.args.leftover
+    (subst (λ q. Settled c.args.cells.now c.settle.new.self q c.args.sum) at_first c.in_ok-settle.ensures.set)
+    (subst (λ q. Settled c.settle.new.self c.settle-2.new.self q c.args.budget) at_second c.in_ok-settle-2.ensures.set)
+    (subst (λ q. Settled c.settle-2.new.self c.settle-3.new.self q c.args.leftover) at_third last)
+    cs rest e1 e2 e3 right) c.settle-3.ensures.set
 
 pub returns-clause-others : goal.returns-clause-others
 returns-clause-others g c =
@@ -30,8 +30,8 @@ returns-clause-others g c =
     let at_second : c.in_ok-second.second ≡ cell_at n GroupBudget id = c.in_ok-second.ensures ∙ ap (λ m. record { month = m; kind = GroupBudget; id = id }) c.requires.month in
     let at_third : c.in_ok-third.third ≡ cell_at n GroupLeftover id = c.in_ok-third.ensures ∙ ap (λ m. record { month = m; kind = GroupLeftover; id = id }) c.requires.month in
     on_ok c.settle-3.result (λ last q apart.
-      group_elsewhere n id c.args.cells.now c.settle.new.self c.settle-2.new.self c.settle-3.new.self c.args.sum c.args.budget c.args.leftover
-      (subst (λ q. Settled c.args.cells.now c.settle.new.self q c.args.sum) at_first c.in_ok-settle.ensures.set)
-      (subst (λ q. Settled c.settle.new.self c.settle-2.new.self q c.args.budget) at_second c.in_ok-settle-2.ensures.set)
-      (subst (λ q. Settled c.settle-2.new.self c.settle-3.new.self q c.args.leftover) at_third last)
-      q apart) c.settle-3.ensures.set
+    group_elsewhere n id c.args.cells.now c.settle.new.self c.settle-2.new.self c.settle-3.new.self c.args.sum c.args.budget c.args.leftover
+    (subst (λ q. Settled c.args.cells.now c.settle.new.self q c.args.sum) at_first c.in_ok-settle.ensures.set)
+    (subst (λ q. Settled c.settle.new.self c.settle-2.new.self q c.args.budget) at_second c.in_ok-settle-2.ensures.set)
+    (subst (λ q. Settled c.settle-2.new.self c.settle-3.new.self q c.args.leftover) at_third last)
+    q apart) c.settle-3.ensures.set

@@ -36,8 +36,8 @@ returns c =
     let f4 : SFits w128 c.brought-from_last.result = search rules in
     record {
       from_last = from_last_is b n c.requires.some (to_z w128 (of_z w128 c.in_ok-to_budget.to_budget)) (to_z w128 (of_z w128 c.in_ok-held.held)) (to_z w128 (of_z w128 c.brought-from_last.result))
-        (to_z-of_z w128 c.brought-from_last.result f4 ∙ c.brought-from_last.ensures)
-        (to_z-of_z w128 c.in_ok-to_budget.to_budget f1 ∙ c.in_ok-to_budget.ensures ∙ to_budget_kept b c.args.cells.now (n - 1) c.requires.prior)
-        (to_z-of_z w128 c.in_ok-held.held f2 ∙ c.in_ok-held.ensures ∙ held_kept b c.args.cells.now (n - 1) c.requires.prior);
+          (to_z-of_z w128 c.brought-from_last.result f4 ∙ c.brought-from_last.ensures)
+          (to_z-of_z w128 c.in_ok-to_budget.to_budget f1 ∙ c.in_ok-to_budget.ensures ∙ to_budget_kept b c.args.cells.now (n - 1) c.requires.prior)
+          (to_z-of_z w128 c.in_ok-held.held f2 ∙ c.in_ok-held.ensures ∙ held_kept b c.args.cells.now (n - 1) c.requires.prior);
       left = to_z-of_z w128 c.in_ok-left.left f3 ∙ c.in_ok-left.ensures ∙ left_kept b c.args.cells.now (n - 1) c.requires.prior ∙ left_is b n c.requires.some;
     }
