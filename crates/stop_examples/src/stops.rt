@@ -1,11 +1,11 @@
 //! The household's run over files that stop at some call.
 use crate::household::{ANSWERED, KEPT, REPLIES};
 use crate::running::ended;
-use budget_ports::{Keeper, MemorySink, Record};
+use budget_ports::{Failed, Keeper, MemorySink, Record};
 use field_values::Txt;
 use sqlite::{Connection, FileStore, Files, Options};
 use sqlite_disk::{Crash, Disk, Fuse, Memory};
-use sqlite_keeper::{SqliteKeeper, StoreFault, take};
+use sqlite_keeper::{SqliteKeeper, take};
 use std::alloc::Global;
 use std::str;
 use std::test::Fail;
@@ -85,7 +85,7 @@ fn kept_after_stop(alloc: Global, files: Files<Fused>) -> Result<String, Fail> {
     files.log.crash();
     files.db.crash();
     let Ok(connection) = open(alloc, files) else {
-        return Err(Fail::from(StoreFault::Unopened));
+        return Err(Fail::from(Failed));
     };
     match take(alloc, connection) {
         Ok(keeper) => kept_by(alloc, keeper),
