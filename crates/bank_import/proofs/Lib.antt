@@ -6,6 +6,7 @@ pub mod Utf8
 pub mod Records
 pub mod Passes
 pub mod Nearest
+pub mod Spanned
 pub mod Grouped
 pub mod Runs
 pub mod Best

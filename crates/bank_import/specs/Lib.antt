@@ -1,5 +1,6 @@
 pub mod Statement
 pub mod Matching
+pub mod Spans
 pub mod Groups
 pub mod IndexView
 pub mod Laws

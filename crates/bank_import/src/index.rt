@@ -4,23 +4,24 @@ ghost use Rattle.std.specs.Option.{option_copied};
 ghost use Rattle.std.specs.BTreeSet as set;
 ghost use Rattle.finite_sums.specs.Maps.{Text, text_cmp};
 ghost use Rattle.bank_import.specs.Matching.{turn, id_of, with_taken, next_pass, no_match, matched_among};
-ghost use Rattle.bank_import.specs.Groups.{items_of};
+ghost use Rattle.bank_import.specs.Groups.{items_of, near_in};
 
 use crate::facts::{Candidate, Facts, Pass};
 use crate::groups;
+use crate::spans::span;
 use crate::turns::{claim, ids_taken};
 use field_values::{NoMemory, Txt};
 use std::alloc::Global;
 use std::collections::{BTreeMap, BTreeSet};
 use std::marker::Model;
 
-/// The candidates, grouped by the ids of statements and by their amounts, so that a record looks at no others than those of its id or
-/// of its amount.
+/// The candidates, grouped by the ids of statements, and by their amounts and days, so that a record looks at no others than those of
+/// its id, or of its amount and at most twenty-two days from its own.
 #[derive(Drop)]
 pub(crate) struct Index {
     all: Vec<Candidate>,
     by_id: BTreeMap<Txt, Vec<Candidate>>,
-    by_amount: BTreeMap<i64, Vec<Candidate>>,
+    by_span: BTreeMap<(i64, u32), Vec<Candidate>>,
 }
 
 impl Model for Index {
@@ -58,12 +59,20 @@ impl Index {
         ensures { IfOk result (λ x. x ≡ all.items) }
     {
         let by_id = groups::by_id(alloc, all.as_slice())?;
-        let by_amount = groups::by_amount(alloc, all.as_slice())?;
+        let by_span = groups::by_span(alloc, all.as_slice())?;
         Ok(Index {
             all,
             by_id,
-            by_amount,
+            by_span,
         })
+    }
+
+    /// The group that has all candidates near a record.
+    fn near(&self, facts: &Facts) -> Option<&Vec<Candidate>>
+        ensures { items_of (option_copied result) ≡ near_in facts.now.amount facts.now.day self.now }
+    {
+        let day = facts.day?;
+        self.by_span.get(&(facts.amount, span(day)))
     }
 
     /// The id of the candidate that a record without a match takes, which is then taken.
@@ -81,8 +90,8 @@ impl Index {
                 None => Ok(None),
                 Some(id) => claim_in(pass, facts, self.by_id.get(id), taken),
             },
-            Pass::ByPayee => claim_in(pass, facts, self.by_amount.get(&facts.amount), taken),
-            Pass::ByAmount => claim_in(pass, facts, self.by_amount.get(&facts.amount), taken),
+            Pass::ByPayee => claim_in(pass, facts, self.near(facts), taken),
+            Pass::ByAmount => claim_in(pass, facts, self.near(facts), taken),
         }
     }
 

@@ -19,6 +19,7 @@ mod matching;
 mod names;
 mod payees;
 mod reading;
+mod spans;
 mod turns;
 mod writing;
 

@@ -41,7 +41,7 @@ fn facts_of_all(alloc: Global, book: &Book, rows: &[TxRow]) -> Result<Vec<Facts>
 /// theirs stand for by the mappings of the book are the same, and they are at most seven days apart; then the amount is, and they are at
 /// most seven days apart. In the second and the third not both have an id of a statement. Of the candidates that agree and that nobody took the nearest in days is taken, and of
 /// equally near ones that of the least id; one without a day is the farthest. It looks at the transactions of this account alone, once,
-/// and then a record at those of its id or of its amount.
+/// and then a record at those of its id, or of its amount and at most twenty-two days from its own.
 #[tactic(auto, unfolding(crate::specs::Matching::matched))]
 pub fn matches(
     alloc: Global,

@@ -1,5 +1,5 @@
-//! Examples of books, sheets and recurrences: the public calls of `book_rows` and `envelope_cells` and some of `schedules` with ample
-//! memory, on values that were written out by hand from the rules, or that another program gave.
+//! Examples of books, sheets and recurrences: the public calls of `book_rows`, `envelope_cells` and `tracking_budget`, and some of
+//! `schedules`, with ample memory, on values that were written out by hand from the rules, or that another program gave.
 #![tactic(auto)]
 
 #[cfg(test)]
@@ -10,3 +10,5 @@ mod copies;
 mod recurring;
 #[cfg(test)]
 mod sheets;
+#[cfg(test)]
+mod tracking;

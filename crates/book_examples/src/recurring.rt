@@ -84,13 +84,18 @@ fn follow(recurrence: &Recurrence, days: &[u32]) -> bool {
     true
 }
 
-/// Whether the occurrences of `RECURRENCE FROM TO` are these days, also asked for one after the other.
+/// Whether the occurrences of `RECURRENCE FROM TO` are these days, asked of a copy, and of the recurrence itself one after the other.
 fn is_right(alloc: Global, asked: &str, days: &str) -> Result<bool, Fail> {
     let (text, range) = asked.split_once(' ').unwrap_or((asked, ""));
     let (first, last) = range.split_once(' ').unwrap_or((range, ""));
     let recurrence = read_recur(alloc, &Txt::from_text(alloc, text)?)?;
     let meant = days_of(alloc, days)?;
-    let told = told(alloc, &recurrence, first.parse()?, last.parse()?)?;
+    let told = told(
+        alloc,
+        &recurrence.copy(alloc)?,
+        first.parse()?,
+        last.parse()?,
+    )?;
     Ok(told == meant && follow(&recurrence, meant.as_slice()))
 }
 

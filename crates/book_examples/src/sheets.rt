@@ -12,7 +12,7 @@ use std::test::Fail;
 
 /// An account, an income category and one of expenses. In January 2024 1,000.00 come in and 350.00 go out, of 300.00 that were
 /// given; in February 200.00 are given. What the columns of a budget row say of month and category counts for nothing.
-const HOUSE: &str =
+pub(crate) const HOUSE: &str =
     "accounts bank name S:Bank; accounts bank offbudget N:0; category_groups gi name S:Income; \
     category_groups gi is_income N:1; categories pay name S:Salary; categories pay cat_group S:gi; \
     categories pay is_income N:1; category_groups g name S:Usual; category_groups g is_income N:0; \
@@ -106,7 +106,7 @@ fn has(text: &str, wanted: &str) -> bool {
 }
 
 /// Of what is wanted of a sheet's text, the first that isn't so.
-fn first_missing<'a>(text: &str, wanted: &'a str) -> &'a str {
+pub(crate) fn first_missing<'a>(text: &str, wanted: &'a str) -> &'a str {
     for line in wanted.split("; ") {
         if !has(text, line) {
             return line;

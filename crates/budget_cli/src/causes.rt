@@ -104,6 +104,7 @@ pub fn store_text(rt: &HostRuntime, path: &str, cause: OpeningCause) -> &'static
             Ok(true) => "it has tables that can't be read",
             _ => "it is no SQLite file",
         },
+        OpeningCause::OtherTables => "its tables are not a store's",
         OpeningCause::Damaged => match begins_as_store(rt, path) {
             Ok(false) => "it is no SQLite file",
             _ => "it is damaged",

@@ -262,6 +262,11 @@ fn causes_are_told(rt: HostRuntime) -> Result<(), Fail> {
             OpeningCause::NoStore,
             "it has tables that can't be read",
         ),
+        (
+            "a",
+            OpeningCause::OtherTables,
+            "its tables are not a store's",
+        ),
         ("a", OpeningCause::NoRoom, "there is no room"),
         ("a", OpeningCause::Failed, "it can't be read or written"),
     ];

@@ -2,7 +2,7 @@
 use Rattle.std.proofs.Common.{◌≡◌, ℕ, sym, ap, Result, Ok, Err, IfOk, OnOk}
 use Rattle.device_core.specs.Device.{State}
 use Rattle.command_lines.specs.declared.command.Command.{Command}
-use Rattle.command_lines.specs.declared.command.Command.TheVariants.{Edit, Undo, Redo, Receive, Fields, Messages, Value, Trie, Balance, Register, Cell, Sheet, Broken, ScheduleStatus, Sync}
+use Rattle.command_lines.specs.declared.command.Command.TheVariants.{Edit, Undo, Redo, Receive, Fields, Messages, Value, Trie, Balance, Register, Cell, Sheet, Broken, ScheduleStatus, Goals, TrackCell, TrackSheet, Sync}
 use Rattle.command_lines.specs.declared.reply.Reply.{Reply}
 use Rattle.command_lines.specs.Readings.{answer, IsReading}
 use Rattle.budget_top.specs.Session.{obeyed}
@@ -27,6 +27,9 @@ replied s (Cell month name) reply h e reading = ap (λ (r : Reply). (s, r)) (sym
 replied s (Sheet month) reply h e reading = ap (λ (r : Reply). (s, r)) (sym e)
 replied s Broken reply h e reading = ap (λ (r : Reply). (s, r)) (sym e)
 replied s (ScheduleStatus id day) reply h e reading = ap (λ (r : Reply). (s, r)) (sym e)
+replied s (Goals month) reply h e reading = ap (λ (r : Reply). (s, r)) (sym e)
+replied s (TrackCell month name) reply h e reading = ap (λ (r : Reply). (s, r)) (sym e)
+replied s (TrackSheet month) reply h e reading = ap (λ (r : Reply). (s, r)) (sym e)
 
 pub reads : {E : Type 0} (s : State) (command : Command) (result : Result Reply E) → IsReading command → IfOk result (λ reply. reply ≡ answer s.messages command)
     → IfOk result (λ reply. (reading : ℕ) → obeyed s reading (Ok command) ≡ (s, reply))

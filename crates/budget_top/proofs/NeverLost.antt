@@ -20,7 +20,7 @@ use Rattle.device_sync.specs.Replies.{Got, answer, refusal, bad}
 use Rattle.device_sync.specs.Requests.{first_since}
 use Rattle.device_sync.specs.Talk.{Outcome, not_taken, trie_in, Next, ends, asks, compared, taken, next, Turn, Follows, Talk, talked, followed, most_requests}
 use Rattle.command_lines.specs.declared.command.Command.{Command}
-use Rattle.command_lines.specs.declared.command.Command.TheVariants.{Edit as EditOf, Undo as UndoLine, Redo as RedoLine, Receive, Fields, Messages, Value as ValueOf, Trie, Balance, Register, Cell, Sheet, Broken, ScheduleStatus, Sync}
+use Rattle.command_lines.specs.declared.command.Command.TheVariants.{Edit as EditOf, Undo as UndoLine, Redo as RedoLine, Receive, Fields, Messages, Value as ValueOf, Trie, Balance, Register, Cell, Sheet, Broken, ScheduleStatus, Goals, TrackCell, TrackSheet, Sync}
 use Rattle.command_lines.specs.declared.reply.Reply.{Reply}
 use Rattle.budget_top.specs.Session.{asked, obeyed, settled, wrote_all, added_all}
 use Rattle.budget_top.specs.Doing.{Given, Running, syncs, conversed, synced_by, MayLeaveIf}
@@ -72,6 +72,9 @@ module _ (law : AcceptedAreJoined) where
   obeyed_keeps s reading (Ok (Sheet month)) = λ m c. c
   obeyed_keeps s reading (Ok Broken) = λ m c. c
   obeyed_keeps s reading (Ok (ScheduleStatus id day)) = λ m c. c
+  obeyed_keeps s reading (Ok (Goals month)) = λ m c. c
+  obeyed_keeps s reading (Ok (TrackCell month name)) = λ m c. c
+  obeyed_keeps s reading (Ok (TrackSheet month)) = λ m c. c
   obeyed_keeps s reading (Ok Sync) = λ m c. c
 
   -- ---- a conversation

@@ -15,7 +15,7 @@ use Rattle.device_core.specs.Device.{State, Accepted, IsAhead, edited, undone, r
 use Rattle.device_core.specs.ReadBack.{EditsReadBack, ReceivedAreJoined}
 use Rattle.device_core.specs.Several.{EditsAreMade}
 use Rattle.command_lines.specs.declared.command.Command.{Command}
-use Rattle.command_lines.specs.declared.command.Command.TheVariants.{Edit, Undo, Redo, Receive, Fields, Messages, Value as ValueOf, Trie, Balance, Register, Cell, Sheet, Broken, ScheduleStatus, Sync}
+use Rattle.command_lines.specs.declared.command.Command.TheVariants.{Edit, Undo, Redo, Receive, Fields, Messages, Value as ValueOf, Trie, Balance, Register, Cell, Sheet, Broken, ScheduleStatus, Goals, TrackCell, TrackSheet, Sync}
 use Rattle.command_lines.specs.declared.reply.Reply.{Reply}
 use Rattle.command_lines.specs.Commands.{command}
 use Rattle.command_lines.specs.Readings.{answer, IsReading}
@@ -148,6 +148,9 @@ answering target r i (Cell month name) asks h = stepped target r i _ asks
 answering target r i (Sheet month) asks h = stepped target r i _ asks
 answering target r i Broken asks h = stepped target r i _ asks
 answering target r i (ScheduleStatus id day) asks h = stepped target r i _ asks
+answering target r i (Goals month) asks h = stepped target r i _ asks
+answering target r i (TrackCell month name) asks h = stepped target r i _ asks
+answering target r i (TrackSheet month) asks h = stepped target r i _ asks
 
 pub lines_obeyed : EditsReadBack → EditsAreMade → ReceivedAreJoined → TalksAreTold → LinesAreObeyed
 lines_obeyed writes edits messages talks = record {

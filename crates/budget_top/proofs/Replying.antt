@@ -4,7 +4,7 @@ use Rattle.device_core.specs.declared.edit.LineRefusal.{LineRefusal}
 use Rattle.device_core.specs.Device.{State, Accepted, edited, undone, redone, received}
 use Rattle.device_core.specs.Accepting.{AcceptedAreJoined}
 use Rattle.command_lines.specs.declared.command.Command.{Command}
-use Rattle.command_lines.specs.declared.command.Command.TheVariants.{Edit as EditOf, Undo, Redo, Receive, Fields, Messages, Value, Trie, Balance, Register, Cell, Sheet, Broken, ScheduleStatus, Sync}
+use Rattle.command_lines.specs.declared.command.Command.TheVariants.{Edit as EditOf, Undo, Redo, Receive, Fields, Messages, Value, Trie, Balance, Register, Cell, Sheet, Broken, ScheduleStatus, Goals, TrackCell, TrackSheet, Sync}
 use Rattle.command_lines.specs.declared.reply.Reply.{Reply}
 use Rattle.command_lines.specs.Replies.{refused, reply_lines, reply_text_of}
 use Rattle.command_lines.specs.ReplyLines.{RepliesAreLines, IsReply}
@@ -46,6 +46,9 @@ module _ (law : RepliesAreLines) (joined : AcceptedAreJoined) where
   obeyed_reply s reading (Ok (Sheet month)) valid = law.answers s.messages (Sheet month) valid.messages
   obeyed_reply s reading (Ok Broken) valid = law.answers s.messages Broken valid.messages
   obeyed_reply s reading (Ok (ScheduleStatus id day)) valid = law.answers s.messages (ScheduleStatus id day) valid.messages
+  obeyed_reply s reading (Ok (Goals month)) valid = law.answers s.messages (Goals month) valid.messages
+  obeyed_reply s reading (Ok (TrackCell month name)) valid = law.answers s.messages (TrackCell month name) valid.messages
+  obeyed_reply s reading (Ok (TrackSheet month)) valid = law.answers s.messages (TrackSheet month) valid.messages
 
 -- ---- the reply to any line
 

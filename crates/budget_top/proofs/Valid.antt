@@ -46,7 +46,7 @@ use Rattle.device_core.proofs.Making.{writes_valid}
 use Rattle.device_core.proofs.Stamping.{stamped_valid}
 use Rattle.command_lines.specs.Commands.{command, IsCommand}
 use Rattle.command_lines.specs.declared.command.Command.{Command}
-use Rattle.command_lines.specs.declared.command.Command.TheVariants.{Edit as EditOf, Undo as UndoLine, Redo as RedoLine, Receive, Fields, Messages, Value as ValueOf, Trie, Balance, Register, Cell, Sheet, Broken, ScheduleStatus, Sync}
+use Rattle.command_lines.specs.declared.command.Command.TheVariants.{Edit as EditOf, Undo as UndoLine, Redo as RedoLine, Receive, Fields, Messages, Value as ValueOf, Trie, Balance, Register, Cell, Sheet, Broken, ScheduleStatus, Goals, TrackCell, TrackSheet, Sync}
 use Rattle.command_lines.specs.declared.reply.Reply.{Reply}
 use Rattle.command_lines.specs.Written.{LinesWriteBack}
 use Rattle.budget_top.specs.Session.{asked, obeyed, settled, wrote_all, added_all}
@@ -207,6 +207,9 @@ obeyed_valid s reading (Ok (Cell month name)) is valid = is
 obeyed_valid s reading (Ok (Sheet month)) is valid = is
 obeyed_valid s reading (Ok Broken) is valid = is
 obeyed_valid s reading (Ok (ScheduleStatus id day)) is valid = is
+obeyed_valid s reading (Ok (Goals month)) is valid = is
+obeyed_valid s reading (Ok (TrackCell month name)) is valid = is
+obeyed_valid s reading (Ok (TrackSheet month)) is valid = is
 obeyed_valid s reading (Ok Sync) is valid = is
 
 -- ---- a sync

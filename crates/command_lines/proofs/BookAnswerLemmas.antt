@@ -15,15 +15,21 @@ use Rattle.envelope_cells.specs.BudgetOf.{budget_of}
 use Rattle.envelope_cells.specs.CellOf.{cell_of, is_of_category}
 use Rattle.envelope_cells.specs.SheetOf.{sheet_of}
 use Rattle.envelope_cells.specs.Text.{kind_text, cell_line, sheet_text}
+use Rattle.goal_templates.specs.Goals.{shares_in}
+use Rattle.goal_templates.specs.Notes.{bad_lines}
+use Rattle.tracking_budget.specs.Names.{track_named, track_line}
+use Rattle.tracking_budget.specs.SheetOf.{track_cells}
+use Rattle.tracking_budget.specs.Tracked.{tracked_of}
 use Rattle.device_core.specs.Books.{rows_of}
 use Rattle.command_lines.specs.declared.reply.Reply.TheVariants.{Done}
-use Rattle.command_lines.specs.Answers.{MayHaveId, name_text, BooksAreTold}
+use Rattle.command_lines.specs.Answers.{MayHaveId, name_text, track_text, BooksAreTold}
 use Rattle.split_transfer.specs.Broken.{broken}
 use Rattle.book_rows.specs.Kinds.{is_day}
 use Rattle.schedules.specs.Status.{status_in}
-use Rattle.command_lines.specs.BookAnswers.{told_cell, cell_or_faulty, cell_text, lines_of, told_status}
+use Rattle.command_lines.specs.BookAnswers.{told_cell, cell_or_faulty, cell_text, lines_of, told_status, share_text, bad_text, track_or_faulty}
 use Rattle.command_lines.proofs.StatusLemmas.{standing}
 use Rattle.command_lines.proofs.TextLines.{broken_lines}
+use Rattle.command_lines.proofs.TrackReplies.{named_track, none_tracked}
 use Rattle.command_lines.specs.CellNames.{is_of_group, is_of_month, is_empty, id_behind, this_or, named_by, all_kinds, cell_named}
 use Rattle.command_lines.specs.Refusals.{no_such_account, no_such_group, no_such_category, no_such_schedule, bad_date, bad_month}
 use Rattle.command_lines.specs.Register.{register_lines, register_of}
@@ -214,6 +220,20 @@ books_told ms =
       no_day = λ id day live is.
           ap (λ b. cond b (cond (is_day day) (told_status id (status_in rows id day)) (bad_date day)) (no_such_schedule id)) live
           ∙ ap (λ b. cond b (told_status id (status_in rows id day)) (bad_date day)) is;
+      goals = λ month is. ap (λ b. cond b (Done (map share_text (shares_in rows month) ++ map bad_text (bad_lines rows))) (bad_month month)) is;
+      track_cell = λ name z month id told.
+          ap (λ b. cond b (track_or_faulty rows (track_named name.month (track_text name))) (bad_month name.month)) month
+          ∙ named_track rows name (Some z) id told;
+      no_track = λ name month id told.
+          ap (λ b. cond b (track_or_faulty rows (track_named name.month (track_text name))) (bad_month name.month)) month
+          ∙ named_track rows name None id told;
+      no_track_kind = λ month text is none.
+          ap (λ b. cond b (track_or_faulty rows (track_named month text)) (bad_month month)) is
+          ∙ none_tracked rows month text none;
+      track_sheet = λ month is. ap (λ b. cond b (Done (map track_line (track_cells (tracked_of rows) month))) (bad_month month)) is;
       no_cell = λ month text is. ap (λ b. cond b (cell_or_faulty rows (cell_named month text)) (bad_month month)) is;
       no_sheet = λ month is. ap (λ b. cond b (Done (map cell_text (sheet_of (budget_of rows) month))) (bad_month month)) is;
+      no_track_cell = λ month text is. ap (λ b. cond b (track_or_faulty rows (track_named month text)) (bad_month month)) is;
+      no_track_sheet = λ month is. ap (λ b. cond b (Done (map track_line (track_cells (tracked_of rows) month))) (bad_month month)) is;
+      no_goals = λ month is. ap (λ b. cond b (Done (map share_text (shares_in rows month) ++ map bad_text (bad_lines rows))) (bad_month month)) is;
     }

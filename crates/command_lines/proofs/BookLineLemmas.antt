@@ -146,7 +146,7 @@ categories_lines b month m income (id ∷ ids) h =
 abbrev ElementOf : {A : Type 0} → List A → Type 0
 ElementOf {A} xs = A
 
-abbrev Group : Type 0
+abbrev pub Group : Type 0
 Group = ElementOf (groups_of no_rows)
 
 either_cells : (t : Bool) (cs ds : List Cell) → TellLines cs → TellLines ds → TellLines (cond t cs ds)
@@ -158,7 +158,7 @@ group_lines b month m g h =
     (cell_line month GroupSum g.id _ h, either_cells g.is_income [] _ tt (cell_line month GroupBudget g.id _ h, (cell_line month GroupLeftover g.id _ h, tt)))
 
 -- the ids of groups and of their categories have no line feed
-abbrev HaveIds : List Group → Type 0
+abbrev pub HaveIds : List Group → Type 0
 HaveIds gs = AllByRecursion (λ g. IsLine g.id × AreLines g.categories) gs
 
 groups_lines : (b : Budget) (month m : ℕ) (gs : List Group) → HaveIds gs → TellLines (groups_cells b month m gs)
@@ -192,7 +192,7 @@ month_lines b month m = (
   ),
 )
 
-all_among : (ids : List Text) → ((q : Text) → is_among text_cmp ids q ≡ true → IsLine q) → AreLines ids
+pub all_among : (ids : List Text) → ((q : Text) → is_among text_cmp ids q ≡ true → IsLine q) → AreLines ids
 all_among [] h = tt
 all_among (id ∷ ids) h =
     (h id (or_left (eq_by_cmp text_cmp id id) (is_among text_cmp ids id) (itself id)), all_among ids (λ q e. h q (or_right (eq_by_cmp text_cmp q id) (is_among text_cmp ids q) e)))
@@ -206,12 +206,16 @@ have_ids (g ∷ gs) h k =
       have_ids gs (λ q e. h q (or_right (eq_by_cmp text_cmp q g.id) (is_among text_cmp ids q) e)) (λ q e. k q (in_back g.categories (categories_of gs) q e)),
     )
 
+pub groups_named : (rows : Rows) → HasNames rows → HaveIds (groups_of rows)
+groups_named rows named =
+    let listed : LiveOnesAreListed rows = live_ones_are_listed_lem rows in
+    have_ids (groups_of rows)
+    (λ q e. name_line q (there_named rows.groups _ q named.groups (sym (listed.group q) ∙ e)))
+    (λ q e. name_line q (there_named rows.categories _ q named.categories (sym (listed.category q) ∙ e)))
+
 pub sheet_is : (rows : Rows) (month : ℕ) → HasNames rows → AreLines (map cell_text (sheet_of (budget_of rows) month))
 sheet_is rows month named =
-    let listed : LiveOnesAreListed rows = live_ones_are_listed_lem rows in
     let m : ℕ = month_number month in
     append_cells (month_cells (budget_of rows) month m) (groups_cells (budget_of rows) month m (groups_of rows))
     (month_lines (budget_of rows) month m)
-    (groups_lines (budget_of rows) month m (groups_of rows) (have_ids (groups_of rows)
-    (λ q e. name_line q (there_named rows.groups _ q named.groups (sym (listed.group q) ∙ e)))
-    (λ q e. name_line q (there_named rows.categories _ q named.categories (sym (listed.category q) ∙ e)))))
+    (groups_lines (budget_of rows) month m (groups_of rows) (groups_named rows named))

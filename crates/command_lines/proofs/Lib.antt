@@ -6,6 +6,7 @@ pub mod Opening
 pub mod Telling
 pub mod Known
 pub mod SessionLines
+pub mod PlanLines
 pub mod StatementLines
 pub mod ScheduleLines
 pub mod RuleLines
@@ -31,8 +32,10 @@ pub mod Prefixes
 pub mod PlainTexts
 pub mod TextLines
 pub mod StatusLemmas
-pub mod BookAnswerLemmas
-pub mod AnswerLemmas
 pub mod RowIds
 pub mod BookLineLemmas
+pub mod GoalReplies
+pub mod TrackReplies
+pub mod BookAnswerLemmas
+pub mod AnswerLemmas
 pub mod ReplyLemmas

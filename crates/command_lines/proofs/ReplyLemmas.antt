@@ -25,7 +25,7 @@ use Rattle.device_core.specs.declared.edit.LineRefusal.{LineRefusal}
 use Rattle.device_core.specs.declared.edit.LineRefusal.TheVariants.{Edit as OfEdit, Clock as OfClock, NoMemory}
 use Rattle.kept_messages.specs.Pairs.{pairs_of}
 use Rattle.command_lines.specs.declared.command.Command.{Command}
-use Rattle.command_lines.specs.declared.command.Command.TheVariants.{Edit, Undo, Redo, Receive, Fields, Messages, Value, Trie, Balance, Register, Cell, Sheet, Broken, ScheduleStatus, Sync}
+use Rattle.command_lines.specs.declared.command.Command.TheVariants.{Edit, Undo, Redo, Receive, Fields, Messages, Value, Trie, Balance, Register, Cell, Sheet, Broken, ScheduleStatus, Goals, TrackCell, TrackSheet, Sync}
 use Rattle.command_lines.specs.declared.reply.Reply.{Reply}
 use Rattle.command_lines.specs.declared.reply.Reply.TheVariants.{Done, Refused}
 use Rattle.book_rows.specs.declared.rows.Rows.{Rows}
@@ -40,11 +40,18 @@ use Rattle.envelope_cells.specs.declared.name.CellName.{CellName}
 use Rattle.envelope_cells.specs.BudgetOf.{budget_of}
 use Rattle.envelope_cells.specs.CellOf.{cell_of}
 use Rattle.envelope_cells.specs.SheetOf.{sheet_of}
+use Rattle.goal_templates.specs.Goals.{shares_in}
+use Rattle.goal_templates.specs.Notes.{bad_lines}
+use Rattle.tracking_budget.specs.declared.name.TrackName.{TrackName}
+use Rattle.tracking_budget.specs.CellOf.{track_cell_of}
+use Rattle.tracking_budget.specs.Names.{track_named, track_line}
+use Rattle.tracking_budget.specs.SheetOf.{track_cells}
+use Rattle.tracking_budget.specs.Tracked.{tracked_of}
 use Rattle.device_core.specs.Books.{rows_of}
 use Rattle.command_lines.specs.Refusals.{no_such_account, no_such_group, no_such_category, no_such_schedule, bad_date, bad_month}
 use Rattle.command_lines.specs.Register.{register_lines}
 use Rattle.command_lines.specs.CellNames.{is_of_group, cell_named}
-use Rattle.command_lines.specs.BookAnswers.{balance_answer, register_answer, told_cell, cell_or_faulty, cell_answer, cell_text, sheet_answer, told_status, status_answer}
+use Rattle.command_lines.specs.BookAnswers.{balance_answer, register_answer, told_cell, cell_or_faulty, cell_answer, cell_text, sheet_answer, told_status, status_answer, share_text, bad_text, goals_answer, told_track, track_or_faulty, track_cell_answer, track_sheet_answer}
 use Rattle.command_lines.specs.Readings.{shown, answer}
 use Rattle.command_lines.specs.Replies.{detail_text, reply_lines, refused_clock, refused}
 use Rattle.command_lines.specs.ReplyLines.{IsLine, AreLines, IsReply, RepliesAreLines}
@@ -52,6 +59,8 @@ use Rattle.command_lines.proofs.PlainTexts.{Plain, both, tested, is_line, plain_
 use Rattle.book_rows.specs.Named.{HasNames}
 use Rattle.device_core.proofs.RowsNamed.{rows_named}
 use Rattle.command_lines.proofs.BookLineLemmas.{register_is, sheet_is}
+use Rattle.command_lines.proofs.GoalReplies.{goals_are}
+use Rattle.command_lines.proofs.TrackReplies.{track_is}
 use Rattle.command_lines.proofs.TextLines.{lines_are_lines}
 use Rattle.split_transfer.specs.Broken.{broken}
 use Rattle.command_lines.proofs.Cutting.{pieces, pieces-at}
@@ -163,6 +172,35 @@ status_is rows id day = by (is_live_schedule rows id) (is_day day)
     by true false = code (codes "bad-date") refl
     by false is = code (codes "no-such-schedule") refl
 
+goals_reply_is : (rows : Rows) (month : ℕ) → HasNames rows → IsReply (goals_answer rows month)
+goals_reply_is rows month named = by (is_month month)
+  where
+    by : (is : Bool) → IsReply (cond is (Done (map share_text (shares_in rows month) ++ map bad_text (bad_lines rows))) (bad_month month))
+    by true = goals_are rows month named
+    by false = code (codes "bad-month") refl
+
+track_told : (name : TrackName) (value : Option ℤ) → IsReply (told_track name value)
+track_told name (Some z) = (is_line (signed_decimal z) (signed_plain z), tt)
+track_told name None = code (codes "no-such-category") refl
+
+tracked_is : (rows : Rows) (name : Option TrackName) → IsReply (track_or_faulty rows name)
+tracked_is rows None = code (codes "bad-command") refl
+tracked_is rows (Some name) = track_told name (track_cell_of (tracked_of rows) name)
+
+track_cell_is : (rows : Rows) (month : ℕ) (name : List ℕ) → IsReply (track_cell_answer rows month name)
+track_cell_is rows month name = by (is_month month)
+  where
+    by : (is : Bool) → IsReply (cond is (track_or_faulty rows (track_named month name)) (bad_month month))
+    by true = tracked_is rows (track_named month name)
+    by false = code (codes "bad-month") refl
+
+track_sheet_is : (rows : Rows) (month : ℕ) → HasNames rows → IsReply (track_sheet_answer rows month)
+track_sheet_is rows month named = by (is_month month)
+  where
+    by : (is : Bool) → IsReply (cond is (Done (map track_line (track_cells (tracked_of rows) month))) (bad_month month))
+    by true = track_is rows month named
+    by false = code (codes "bad-month") refl
+
 answer_is : OnOneLine → (messages : List Message) (command : Command) → AreMessages messages → IsReply (answer messages command)
 answer_is law messages Fields valid = message_lines_are law (fields messages)
 answer_is law messages (Messages since) valid = message_lines_are law (messages_after since messages)
@@ -176,6 +214,9 @@ answer_is law messages (Cell month name) valid = cell_is (rows_of messages) mont
 answer_is law messages (Sheet month) valid = sheet_reply_is (rows_of messages) month (rows_named messages valid)
 answer_is law messages Broken valid = lines_are_lines (broken (rows_of messages))
 answer_is law messages (ScheduleStatus id day) valid = status_is (rows_of messages) id day
+answer_is law messages (Goals month) valid = goals_reply_is (rows_of messages) month (rows_named messages valid)
+answer_is law messages (TrackCell month name) valid = track_cell_is (rows_of messages) month name
+answer_is law messages (TrackSheet month) valid = track_sheet_is (rows_of messages) month (rows_named messages valid)
 answer_is law messages (Edit edit) valid = tt
 answer_is law messages Undo valid = tt
 answer_is law messages Redo valid = tt

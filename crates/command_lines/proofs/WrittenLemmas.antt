@@ -13,14 +13,14 @@ use Rattle.hybrid_clock.proofs.Writing.{text_reads}
 use Rattle.field_merge.specs.declared.message.Message.{Message}
 use Rattle.field_merge.specs.Lines.{parts}
 use Rattle.field_merge.specs.Messages.{IsMessage, message_of, message_texts}
-use Rattle.device_core.specs.declared.edit.Edit.TheVariants.{Book, Pair, Rule, Schedule as OfSchedule, Import}
+use Rattle.device_core.specs.declared.edit.Edit.TheVariants.{Book, Pair, Rule, Schedule as OfSchedule, Import, GoalsApply}
 use Rattle.book_edits.specs.declared.edit.BookEdit.TheVariants.{Set, AccountAdd, AccountRename, AccountOffbudget, AccountReopen, AccountClose, GroupAdd, GroupRename, GroupDelete, CategoryAdd, CategoryRename, CategoryMove, CategoryDelete, CategoryDeleteTo, PayeeAdd, PayeeRename, PayeeDelete, PayeeMerge, TxAdd, Budget, Carryover, Hold, Move, Track, TrackCarryover, Note}
 use Rattle.command_lines.specs.declared.command.Command.{Command}
-use Rattle.command_lines.specs.declared.command.Command.TheVariants.{Edit, Undo, Redo, Receive, Fields, Messages, Value, Trie, Balance, Register, Cell, Sheet, Broken, ScheduleStatus, Sync}
+use Rattle.command_lines.specs.declared.command.Command.TheVariants.{Edit, Undo, Redo, Receive, Fields, Messages, Value, Trie, Balance, Register, Cell, Sheet, Broken, ScheduleStatus, Goals, TrackCell, TrackSheet, Sync}
 use Rattle.std.specs.Fmt.{signed_decimal}
 use Rattle.command_lines.specs.Forms.{Wanted, word, no_more, misfit, of_stamp, stamp_word, name_word, amount_of, id_of, flag_of, date_of, month_of, amount_word, flag_word, date_word, id_word}
 use Rattle.command_lines.specs.FormLaws.{id_text}
-use Rattle.command_lines.specs.Commands.{words_of_row_lines, words_of_state_lines, words_of_add_lines, words_of_month_lines, words_of_book_lines, words_of_pair_lines, words_of_rule_lines, words_of_schedule_lines, words_of_statement_lines, words_of_session_lines, line_words, of_words, longest_line, IsCommand}
+use Rattle.command_lines.specs.Commands.{words_of_row_lines, words_of_state_lines, words_of_add_lines, words_of_month_lines, words_of_book_lines, words_of_pair_lines, words_of_rule_lines, words_of_schedule_lines, words_of_statement_lines, words_of_plan_lines, words_of_session_lines, line_words, of_words, longest_line, IsCommand}
 use Rattle.command_lines.specs.Written.{flag_text, date_text, month_text, CanBeWritten, command_line, CommandsReadBack}
 use Rattle.command_lines.proofs.Amounts.{amount_back, id_of_back}
 use Rattle.command_lines.proofs.FormTexts.{flag_back, date_back, month_back}
@@ -56,7 +56,7 @@ receive_makes m is =
     ap (λ value. Some (Receive (record m { value = value }))) (values_read_back_lem m.value is.value)))))
 
 words_back : (c : Command) → IsCommand c → CanBeWritten c → of_words (parts (command_line c)) ≡ Ok c
-unfolding words_of_row_lines words_of_state_lines words_of_add_lines words_of_month_lines words_of_book_lines words_of_pair_lines words_of_rule_lines words_of_schedule_lines words_of_statement_lines words_of_session_lines
+unfolding words_of_row_lines words_of_state_lines words_of_add_lines words_of_month_lines words_of_book_lines words_of_pair_lines words_of_rule_lines words_of_schedule_lines words_of_statement_lines words_of_plan_lines words_of_session_lines
 words_back (Edit (Book (Set d r c v))) is can =
     line_back (codes "set") (d ∷ r ∷ c ∷ value_text v ∷ []) (Edit (Book (Set d r c v))) refl (ap (λ value. Some (Edit (Book (Set d r c value)))) (values_read_back_lem v is))
 words_back (Receive m) is can = line_back (codes "receive") (message_texts m) (Receive m) refl (receive_makes m is)
@@ -129,6 +129,14 @@ words_back (Edit (Pair edit)) is can = pairs_back edit can
 words_back (Edit (Rule edit)) is can = rules_back edit can
 words_back (Edit (OfSchedule edit)) is can = schedules_back edit can
 words_back (Edit (Import edit)) is can = line_back (codes "import") (edit.account ∷ edit.statement ∷ []) (Edit (Import edit)) refl refl
+words_back (Edit (GoalsApply month)) is can =
+    line_back (codes "goals-apply") (month_text month ∷ []) (Edit (GoalsApply month)) refl (makes_form month_of (λ month. no_more (Edit (GoalsApply month))) month (month_text month) [] (Edit (GoalsApply month)) (month_back month can) refl)
+words_back (Goals month) is can =
+    line_back (codes "goals") (month_text month ∷ []) (Goals month) refl (makes_form month_of (λ month. no_more (Goals month)) month (month_text month) [] (Goals month) (month_back month can) refl)
+words_back (TrackCell month name) is can =
+    line_back (codes "track-cell") (month_text month ∷ name ∷ []) (TrackCell month name) refl (makes_form month_of (λ month. word (λ name. no_more (TrackCell month name))) month (month_text month) (name ∷ []) (TrackCell month name) (month_back month can) refl)
+words_back (TrackSheet month) is can =
+    line_back (codes "track-sheet") (month_text month ∷ []) (TrackSheet month) refl (makes_form month_of (λ month. no_more (TrackSheet month)) month (month_text month) [] (TrackSheet month) (month_back month can) refl)
 words_back Undo is can = line_back (codes "undo") [] Undo refl refl
 words_back Redo is can = line_back (codes "redo") [] Redo refl refl
 words_back Sync is can = line_back (codes "sync") [] Sync refl refl

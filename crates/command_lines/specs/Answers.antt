@@ -15,7 +15,7 @@ use Rattle.field_merge.specs.Log.{IsRising}
 use Rattle.field_merge.specs.Messages.{message_line, AreMessages}
 use Rattle.minute_trie.specs.Trie.{Pair, stamp_pair, trie_of}
 use Rattle.minute_trie.specs.Faults.{fault_of_text, map_of_text}
-use Rattle.command_lines.specs.declared.command.Command.TheVariants.{Fields, Messages, Value, Trie, Balance, Register, Cell, Sheet, Broken, ScheduleStatus}
+use Rattle.command_lines.specs.declared.command.Command.TheVariants.{Fields, Messages, Value, Trie, Balance, Register, Cell, Sheet, Broken, ScheduleStatus, Goals, TrackCell, TrackSheet}
 use Rattle.command_lines.specs.declared.reply.Reply.TheVariants.{Done}
 use Rattle.field_merge.specs.Lines.{ended}
 use Rattle.book_rows.specs.Kinds.{is_day}
@@ -31,9 +31,16 @@ use Rattle.envelope_cells.specs.BudgetOf.{budget_of}
 use Rattle.envelope_cells.specs.CellOf.{cell_of, is_of_category}
 use Rattle.envelope_cells.specs.SheetOf.{sheet_of}
 use Rattle.envelope_cells.specs.Text.{kind_text, sheet_text}
+use Rattle.goal_templates.specs.Goals.{shares_in}
+use Rattle.goal_templates.specs.Notes.{bad_lines}
+use Rattle.tracking_budget.specs.declared.name.TrackName.{TrackName}
+use Rattle.tracking_budget.specs.CellOf.{track_cell_of}
+use Rattle.tracking_budget.specs.Names.{kind_text as track_kind_text, is_of_month as is_of_track_month, track_line}
+use Rattle.tracking_budget.specs.SheetOf.{track_cells}
+use Rattle.tracking_budget.specs.Tracked.{tracked_of}
 use Rattle.device_core.specs.Books.{rows_of}
 use Rattle.command_lines.specs.Refusals.{no_such_account, no_such_group, no_such_category, no_such_schedule, bad_date, bad_month}
-use Rattle.command_lines.specs.BookAnswers.{status_text}
+use Rattle.command_lines.specs.BookAnswers.{status_text, share_text, bad_text}
 use Rattle.command_lines.specs.Replies.{faulty}
 use Rattle.command_lines.specs.Register.{Entry}
 use Rattle.command_lines.specs.RegisterLaws.{IsRegister}
@@ -60,6 +67,16 @@ name_text name = kind_text name.kind ++ name.id
 
 abbrev pub value_in_books : List Message → CellName → Option ℤ
 value_in_books ms name = cell_of (budget_of (rows_of ms)) name
+
+-- the same of the tracking budget
+abbrev pub MayHaveTrackId : TrackName → Type 0
+MayHaveTrackId name = is_of_track_month name.kind ≡ true → name.id ≡ []
+
+abbrev pub track_text : TrackName → List ℕ
+track_text name = track_kind_text name.kind ++ name.id
+
+abbrev pub value_tracked : List Message → TrackName → Option ℤ
+value_tracked ms name = track_cell_of (tracked_of (rows_of ms)) name
 
 -- what the lines that ask of the books are answered, which are the rows of the messages
 pub record BooksAreTold (ms : List Message) : Type 0 where
@@ -89,9 +106,23 @@ pub record BooksAreTold (ms : List Message) : Type 0 where
   -- of no live schedule, and, of a live one, of no day
   pub no_schedule : (id : List ℕ) (day : ℕ) → is_live_schedule (rows_of ms) id ≡ false → answer ms (ScheduleStatus id day) ≡ no_such_schedule id
   pub no_day : (id : List ℕ) (day : ℕ) → is_live_schedule (rows_of ms) id ≡ true → is_day day ≡ false → answer ms (ScheduleStatus id day) ≡ bad_date day
-  -- `cell` and `sheet` of no month
+  -- `goals` of a month: the line of each share, and then of each bad line
+  pub goals : (month : ℕ) → is_month month ≡ true → answer ms (Goals month) ≡ Done (map share_text (shares_in (rows_of ms) month) ++ map bad_text (bad_lines (rows_of ms)))
+  -- `track-cell` of a month, by the name of a cell of the tracking budget: what it tells, or that there is no such category
+  pub track_cell : (name : TrackName) (z : ℤ) → is_month name.month ≡ true → MayHaveTrackId name → value_tracked ms name ≡ Some z
+      → answer ms (TrackCell name.month (track_text name)) ≡ Done (signed_decimal z ∷ [])
+  pub no_track : (name : TrackName) → is_month name.month ≡ true → MayHaveTrackId name → value_tracked ms name ≡ None
+      → answer ms (TrackCell name.month (track_text name)) ≡ no_such_category name.id
+  -- and by a name of no kind
+  pub no_track_kind : (month : ℕ) (text : List ℕ) → is_month month ≡ true → ((name : TrackName) → MayHaveTrackId name → track_text name ≢ text) → answer ms (TrackCell month text) ≡ faulty 2
+  -- `track-sheet` of a month: the line of each cell of the sheet
+  pub track_sheet : (month : ℕ) → is_month month ≡ true → answer ms (TrackSheet month) ≡ Done (map track_line (track_cells (tracked_of (rows_of ms)) month))
+  -- `cell`, `sheet`, `goals`, `track-cell` and `track-sheet` of no month
   pub no_cell : (month : ℕ) (text : List ℕ) → is_month month ≡ false → answer ms (Cell month text) ≡ bad_month month
   pub no_sheet : (month : ℕ) → is_month month ≡ false → answer ms (Sheet month) ≡ bad_month month
+  pub no_goals : (month : ℕ) → is_month month ≡ false → answer ms (Goals month) ≡ bad_month month
+  pub no_track_cell : (month : ℕ) (text : List ℕ) → is_month month ≡ false → answer ms (TrackCell month text) ≡ bad_month month
+  pub no_track_sheet : (month : ℕ) → is_month month ≡ false → answer ms (TrackSheet month) ≡ bad_month month
 
 -- what the lines that only read are answered
 pub record AnswersTell : Type 0 where

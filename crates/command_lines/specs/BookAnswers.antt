@@ -1,6 +1,6 @@
 -- What the lines that ask of the books are answered, of a book's rows.
 use Rattle.std.specs.Prelude.{ℕ, ℤ, ◌-◌, ◌==◌, List, [], ◌∷◌, ◌++◌, length, take, map as list_map, codes, Option, None, Some, if◌then◌else◌}
-use Rattle.std.specs.Fmt.{signed_decimal}
+use Rattle.std.specs.Fmt.{decimal, signed_decimal}
 use Rattle.std.specs.List.{slice_split}
 use Rattle.finite_sums.specs.Maps.{Text}
 use Rattle.book_rows.specs.declared.rows.Rows.{Rows}
@@ -14,6 +14,16 @@ use Rattle.envelope_cells.specs.BudgetOf.{budget_of}
 use Rattle.envelope_cells.specs.CellOf.{cell_of}
 use Rattle.envelope_cells.specs.SheetOf.{sheet_of}
 use Rattle.envelope_cells.specs.Text.{kind_text}
+use Rattle.goal_templates.specs.declared.share.BadLine.{BadLine}
+use Rattle.goal_templates.specs.declared.share.Share.{Share}
+use Rattle.goal_templates.specs.Goals.{shares_in}
+use Rattle.goal_templates.specs.Grammar.{template_text}
+use Rattle.goal_templates.specs.Notes.{bad_lines}
+use Rattle.tracking_budget.specs.declared.name.TrackName.{TrackName}
+use Rattle.tracking_budget.specs.CellOf.{track_cell_of}
+use Rattle.tracking_budget.specs.Names.{track_named, track_line}
+use Rattle.tracking_budget.specs.SheetOf.{track_cells}
+use Rattle.tracking_budget.specs.Tracked.{tracked_of}
 use Rattle.split_transfer.specs.Broken.{broken}
 use Rattle.schedules.specs.declared.standing.ScheduleStatus.{ScheduleStatus}
 use Rattle.schedules.specs.declared.standing.ScheduleStatus.TheVariants.{Completed, Paid, Due, Upcoming, Missed, Scheduled}
@@ -86,3 +96,34 @@ told_status id None = no_such_schedule id
 abbrev pub status_answer : Rows → Text → ℕ → Reply
 status_answer rows id day =
     if is_live_schedule rows id then (if is_day day then told_status id (status_in rows id day) else bad_date day) else no_such_schedule id
+
+-- the line of a share: its category, its template, what this wants and what it is given, with a TAB between them
+abbrev pub share_text : Share → Text
+share_text s = s.category ++ 9 ∷ template_text s.template ++ 9 ∷ signed_decimal s.want ++ 9 ∷ signed_decimal s.given
+
+-- the line of a bad line: its category, and its number in the note
+abbrev pub bad_text : BadLine → Text
+bad_text x = codes "bad " ++ x.category ++ 32 ∷ decimal x.number
+
+-- `goals`: the shares of a month, in the order in which they are given, and then the bad lines of notes
+abbrev pub goals_answer : Rows → ℕ → Reply
+goals_answer rows month =
+    if is_month month then Done (list_map share_text (shares_in rows month) ++ list_map bad_text (bad_lines rows)) else bad_month month
+
+-- what a cell of the tracking budget tells, or that there is no such category
+abbrev pub told_track : TrackName → Option ℤ → Reply
+told_track name (Some z) = Done (signed_decimal z ∷ [])
+told_track name None = no_such_category name.id
+
+-- a name of no kind is no word of the line
+abbrev pub track_or_faulty : Rows → Option TrackName → Reply
+track_or_faulty rows None = faulty 2
+track_or_faulty rows (Some name) = told_track name (track_cell_of (tracked_of rows) name)
+
+-- `track-cell`: what a cell of the tracking budget tells of a month. The month is judged first
+abbrev pub track_cell_answer : Rows → ℕ → Text → Reply
+track_cell_answer rows month name = if is_month month then track_or_faulty rows (track_named month name) else bad_month month
+
+-- `track-sheet`: all cells of the tracking budget of a month
+abbrev pub track_sheet_answer : Rows → ℕ → Reply
+track_sheet_answer rows month = if is_month month then Done (list_map track_line (track_cells (tracked_of rows) month)) else bad_month month

@@ -5,7 +5,7 @@ use Rattle.field_values.specs.Names.{field_of}
 use Rattle.field_values.specs.Value.{value_of}
 use Rattle.field_merge.specs.Lines.{parts}
 use Rattle.field_merge.specs.Messages.{IsMessage, message_of}
-use Rattle.device_core.specs.declared.edit.Edit.TheVariants.{Book, Pair, Rule, Schedule as OfSchedule, Import}
+use Rattle.device_core.specs.declared.edit.Edit.TheVariants.{Book, Pair, Rule, Schedule as OfSchedule, Import, GoalsApply}
 use Rattle.device_core.specs.Edits.{IsEdit}
 use Rattle.book_edits.specs.declared.edit.BookEdit.{BookEdit}
 use Rattle.book_edits.specs.declared.edit.BookEdit.TheVariants.{Set, AccountAdd, AccountRename, AccountOffbudget, AccountReopen, AccountClose, GroupAdd, GroupRename, GroupDelete, CategoryAdd, CategoryRename, CategoryMove, CategoryDelete, CategoryDeleteTo, PayeeAdd, PayeeRename, PayeeDelete, PayeeMerge, TxAdd, Budget, Carryover, Hold, Move, Track, TrackCarryover, Note}
@@ -19,7 +19,7 @@ use Rattle.rule_engine.specs.declared.edit.RuleEdit.TheVariants.{RuleAdd, RuleDe
 use Rattle.schedules.specs.declared.edit.ScheduleEdit.{ScheduleEdit}
 use Rattle.schedules.specs.declared.edit.ScheduleEdit.TheVariants.{Add, Post, Skip, Delete}
 use Rattle.command_lines.specs.declared.command.Command.{Command}
-use Rattle.command_lines.specs.declared.command.Command.TheVariants.{Edit, Undo, Redo, Receive, Fields, Messages, Value, Trie, Balance, Register, Cell, Sheet, Broken, ScheduleStatus, Sync}
+use Rattle.command_lines.specs.declared.command.Command.TheVariants.{Edit, Undo, Redo, Receive, Fields, Messages, Value, Trie, Balance, Register, Cell, Sheet, Broken, ScheduleStatus, Goals, TrackCell, TrackSheet, Sync}
 use Rattle.command_lines.specs.declared.command.CommandFault.{CommandFault}
 use Rattle.command_lines.specs.declared.command.CommandFault.TheVariants.{BadCommand, NoMemory}
 use Rattle.command_lines.specs.Forms.{Share, Wanted, word, may_end, some_texts, some_shares, no_more, misfit, stamp_word, name_word, amount_word, flag_word, date_word, month_word, id_word, stage_word, op_word, command_of}
@@ -211,6 +211,20 @@ schedule_delete_words = word (λ id. no_more (scheduling (Delete id)))
 abbrev pub import_words : Wanted
 import_words = word (λ account. word (λ statement. no_more (Edit (Import (record { account = account; statement = statement })))))
 
+-- the lines that tell what the templates in notes get of a month, and that fill it by them: a month
+abbrev pub goals_words : Wanted
+goals_words = month_word (λ month. no_more (Goals month))
+
+abbrev pub goals_apply_words : Wanted
+goals_apply_words = month_word (λ month. no_more (Edit (GoalsApply month)))
+
+-- the lines that ask of the tracking budget: a month, and the name of a cell
+abbrev pub track_cell_words : Wanted
+track_cell_words = month_word (λ month. word (λ name. no_more (TrackCell month name)))
+
+abbrev pub track_sheet_words : Wanted
+track_sheet_words = month_word (λ month. no_more (TrackSheet month))
+
 -- `schedule-status`: a schedule and a day
 abbrev pub schedule_status_words : Wanted
 schedule_status_words = word (λ id. date_word (λ day. no_more (ScheduleStatus id day)))
@@ -353,6 +367,15 @@ schedule_lines =
 abbrev pub statement_lines : List LineForm
 statement_lines = (codes "import", import_words) ∷ []
 
+-- the lines about what a month is to have
+abbrev pub plan_lines : List LineForm
+plan_lines =
+    (codes "goals", goals_words)
+    ∷ (codes "goals-apply", goals_apply_words)
+    ∷ (codes "track-cell", track_cell_words)
+    ∷ (codes "track-sheet", track_sheet_words)
+    ∷ []
+
 -- the lines of a session
 abbrev pub session_lines : List LineForm
 session_lines =
@@ -365,8 +388,11 @@ session_lines =
 unfoldable pub words_of_session_lines : List ℕ → Wanted
 words_of_session_lines name = words_in session_lines name misfit
 
+unfoldable pub words_of_plan_lines : List ℕ → Wanted
+words_of_plan_lines name = words_in plan_lines name (words_of_session_lines name)
+
 unfoldable pub words_of_statement_lines : List ℕ → Wanted
-words_of_statement_lines name = words_in statement_lines name (words_of_session_lines name)
+words_of_statement_lines name = words_in statement_lines name (words_of_plan_lines name)
 
 unfoldable pub words_of_schedule_lines : List ℕ → Wanted
 words_of_schedule_lines name = words_in schedule_lines name (words_of_statement_lines name)
@@ -434,6 +460,8 @@ HoldsText Fields = ⊥
 HoldsText Trie = ⊥
 HoldsText (Sheet month) = ⊥
 HoldsText Broken = ⊥
+HoldsText (Goals month) = ⊥
+HoldsText (TrackSheet month) = ⊥
 HoldsText Undo = ⊥
 HoldsText Redo = ⊥
 HoldsText Sync = ⊥

@@ -11,10 +11,10 @@ use Rattle.minute_trie.specs.Trie.{trie_of}
 use Rattle.minute_trie.specs.Json.{trie_text}
 use Rattle.kept_messages.specs.Pairs.{pairs_of}
 use Rattle.command_lines.specs.declared.command.Command.{Command}
-use Rattle.command_lines.specs.declared.command.Command.TheVariants.{Edit, Undo, Redo, Receive, Fields, Messages, Value, Trie, Balance, Register, Cell, Sheet, Broken, ScheduleStatus, Sync}
+use Rattle.command_lines.specs.declared.command.Command.TheVariants.{Edit, Undo, Redo, Receive, Fields, Messages, Value, Trie, Balance, Register, Cell, Sheet, Broken, ScheduleStatus, Goals, TrackCell, TrackSheet, Sync}
 use Rattle.book_rows.specs.declared.rows.Rows.{Rows}
 use Rattle.device_core.specs.Books.{rows_of}
-use Rattle.command_lines.specs.BookAnswers.{balance_answer, register_answer, cell_answer, sheet_answer, broken_answer, status_answer}
+use Rattle.command_lines.specs.BookAnswers.{balance_answer, register_answer, cell_answer, sheet_answer, broken_answer, status_answer, goals_answer, track_cell_answer, track_sheet_answer}
 use Rattle.command_lines.specs.declared.reply.Reply.{Reply}
 use Rattle.command_lines.specs.declared.reply.Reply.TheVariants.{Done}
 
@@ -31,6 +31,9 @@ book_answer rows (Cell month name) = cell_answer rows month name
 book_answer rows (Sheet month) = sheet_answer rows month
 book_answer rows Broken = broken_answer rows
 book_answer rows (ScheduleStatus id day) = status_answer rows id day
+book_answer rows (Goals month) = goals_answer rows month
+book_answer rows (TrackCell month name) = track_cell_answer rows month name
+book_answer rows (TrackSheet month) = track_sheet_answer rows month
 book_answer rows other = Done []
 
 -- what a line that only reads is answered: the latest message of each field, the messages with a greater timestamp's text,
@@ -47,6 +50,9 @@ answer messages (Cell month name) = book_answer (rows_of messages) (Cell month n
 answer messages (Sheet month) = book_answer (rows_of messages) (Sheet month)
 answer messages Broken = book_answer (rows_of messages) Broken
 answer messages (ScheduleStatus id day) = book_answer (rows_of messages) (ScheduleStatus id day)
+answer messages (Goals month) = book_answer (rows_of messages) (Goals month)
+answer messages (TrackCell month name) = book_answer (rows_of messages) (TrackCell month name)
+answer messages (TrackSheet month) = book_answer (rows_of messages) (TrackSheet month)
 answer messages (Edit edit) = Done []
 answer messages Undo = Done []
 answer messages Redo = Done []
@@ -70,4 +76,7 @@ AsksBooks (Cell month name) = Unit {0}
 AsksBooks (Sheet month) = Unit {0}
 AsksBooks Broken = Unit {0}
 AsksBooks (ScheduleStatus id day) = Unit {0}
+AsksBooks (Goals month) = Unit {0}
+AsksBooks (TrackCell month name) = Unit {0}
+AsksBooks (TrackSheet month) = Unit {0}
 AsksBooks other = ⊥

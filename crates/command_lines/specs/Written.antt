@@ -6,7 +6,7 @@ use Rattle.field_merge.specs.declared.message.Message.{Message}
 use Rattle.field_merge.specs.Escapes.{raw_escaped}
 use Rattle.field_merge.specs.Lines.{reading}
 use Rattle.field_merge.specs.Messages.{message_texts, line_of_texts}
-use Rattle.device_core.specs.declared.edit.Edit.TheVariants.{Book, Pair, Rule, Schedule as OfSchedule, Import}
+use Rattle.device_core.specs.declared.edit.Edit.TheVariants.{Book, Pair, Rule, Schedule as OfSchedule, Import, GoalsApply}
 use Rattle.book_edits.specs.declared.edit.BookEdit.{BookEdit}
 use Rattle.book_edits.specs.declared.edit.BookEdit.TheVariants.{Set, AccountAdd, AccountRename, AccountOffbudget, AccountReopen, AccountClose, GroupAdd, GroupRename, GroupDelete, CategoryAdd, CategoryRename, CategoryMove, CategoryDelete, CategoryDeleteTo, PayeeAdd, PayeeRename, PayeeDelete, PayeeMerge, TxAdd, Budget, Carryover, Hold, Move, Track, TrackCarryover, Note}
 use Rattle.split_transfer.specs.declared.edit.PairEdit.{PairEdit}
@@ -26,7 +26,7 @@ use Rattle.book_rows.specs.Ids.{four_digits, month_id}
 use Rattle.command_lines.specs.Forms.{is_amount}
 use Rattle.command_lines.specs.FormLaws.{id_text}
 use Rattle.command_lines.specs.declared.command.Command.{Command}
-use Rattle.command_lines.specs.declared.command.Command.TheVariants.{Edit, Undo, Redo, Receive, Fields, Messages, Value, Trie, Balance, Register, Cell, Sheet, Broken, ScheduleStatus, Sync}
+use Rattle.command_lines.specs.declared.command.Command.TheVariants.{Edit, Undo, Redo, Receive, Fields, Messages, Value, Trie, Balance, Register, Cell, Sheet, Broken, ScheduleStatus, Goals, TrackCell, TrackSheet, Sync}
 use Rattle.command_lines.specs.Commands.{command, longest_line, IsCommand}
 
 -- how a flag is written, a number YYYYMMDD and a number YYYYMM
@@ -172,9 +172,13 @@ CanBeWritten (Edit (Book edit)) = CanWriteEdit edit
 CanBeWritten (Edit (Pair edit)) = CanWritePair edit
 CanBeWritten (Edit (Rule edit)) = CanWriteRule edit
 CanBeWritten (Edit (OfSchedule edit)) = CanWriteSchedule edit
+CanBeWritten (Edit (GoalsApply month)) = HasSix month
 CanBeWritten (Cell month name) = HasSix month
 CanBeWritten (Sheet month) = HasSix month
 CanBeWritten (ScheduleStatus id day) = HasEight day
+CanBeWritten (Goals month) = HasSix month
+CanBeWritten (TrackCell month name) = HasSix month
+CanBeWritten (TrackSheet month) = HasSix month
 CanBeWritten other = Unit {0}
 
 -- the name of a command and its words, each as a text
@@ -184,6 +188,7 @@ command_texts (Edit (Pair edit)) = pair_texts edit
 command_texts (Edit (Rule edit)) = rule_texts edit
 command_texts (Edit (OfSchedule edit)) = schedule_texts edit
 command_texts (Edit (Import edit)) = codes "import" ∷ edit.account ∷ edit.statement ∷ []
+command_texts (Edit (GoalsApply month)) = codes "goals-apply" ∷ month_text month ∷ []
 command_texts Undo = codes "undo" ∷ []
 command_texts Redo = codes "redo" ∷ []
 command_texts (Receive message) = codes "receive" ∷ message_texts message
@@ -197,6 +202,9 @@ command_texts (Cell month name) = codes "cell" ∷ month_text month ∷ name ∷
 command_texts (Sheet month) = codes "sheet" ∷ month_text month ∷ []
 command_texts Broken = codes "broken" ∷ []
 command_texts (ScheduleStatus id day) = codes "schedule-status" ∷ id ∷ date_text day ∷ []
+command_texts (Goals month) = codes "goals" ∷ month_text month ∷ []
+command_texts (TrackCell month name) = codes "track-cell" ∷ month_text month ∷ name ∷ []
+command_texts (TrackSheet month) = codes "track-sheet" ∷ month_text month ∷ []
 command_texts Sync = codes "sync" ∷ []
 
 -- the line of a command

@@ -14,9 +14,11 @@ ghost use Rattle.command_lines.specs.Readings.{answer, book_answer, shown, IsRea
 
 use crate::book_answer::{balance_reply, broken_reply, cell_reply, register_reply, sheet_reply};
 use crate::command::Command;
+use crate::goal_answer::goals_reply;
 use crate::reply::{Reply, one_line};
 use crate::schedule_answer::status_reply;
 use crate::text_lines::lines_in;
+use crate::track_answer::{track_cell_reply, track_sheet_reply};
 use book_rows::Book;
 use device_core::Device;
 use field_merge::{Log, Message, message_lines, push_escaped, write_line};
@@ -129,6 +131,9 @@ fn book_reply(alloc: Global, book: &Book, command: &Command) -> Result<Reply, No
         Command::Sheet { month } => sheet_reply(alloc, book, *month),
         Command::Broken => broken_reply(alloc, book),
         Command::ScheduleStatus { id, day } => status_reply(alloc, book, id, *day),
+        Command::Goals { month } => goals_reply(alloc, book, *month),
+        Command::TrackCell { month, name } => track_cell_reply(alloc, book, *month, name),
+        Command::TrackSheet { month } => track_sheet_reply(alloc, book, *month),
         _ => unreachable!(),
     }
 }
@@ -142,8 +147,8 @@ fn told_of_books(alloc: Global, device: &Device, command: &Command) -> Result<Re
     book_reply(alloc, device.book(), command)
 }
 
-/// The reply to a line that only reads: `fields`, `messages`, `value`, `trie`, `balance`, `register`, `cell`, `sheet`, `broken` or `schedule-status`. It is told
-/// by the device's messages alone, so devices that have the same messages reply the same.
+/// The reply to a line that only reads: `fields`, `messages`, `value`, `trie`, `balance`, `register`, `cell`, `sheet`, `broken`, `schedule-status`,
+/// `goals`, `track-cell` or `track-sheet`. It is told by the device's messages alone, so devices that have the same messages reply the same.
 pub fn read_reply(alloc: Global, device: &Device, command: &Command) -> Result<Reply, NoMemory>
     requires live { device.now.spent ≡ false }
     requires reading { IsReading command.now }
@@ -168,7 +173,10 @@ pub fn read_reply(alloc: Global, device: &Device, command: &Command) -> Result<R
         | Command::Cell { .. }
         | Command::Sheet { .. }
         | Command::Broken
-        | Command::ScheduleStatus { .. } => told_of_books(alloc, device, command),
+        | Command::ScheduleStatus { .. }
+        | Command::Goals { .. }
+        | Command::TrackCell { .. }
+        | Command::TrackSheet { .. } => told_of_books(alloc, device, command),
         Command::Edit(_)
         | Command::Undo
         | Command::Redo

@@ -43,6 +43,12 @@ pub enum Command {
     Broken,
     /// `schedule-status ID DAY`: how a schedule stands on a day YYYYMMDD.
     ScheduleStatus { id: Txt, day: u32 },
+    /// `goals MONTH`: what the templates in the notes of categories get in a month YYYYMM, and which of their lines are none.
+    Goals { month: u32 },
+    /// `track-cell MONTH NAME`: what one cell of the tracking budget tells of a month YYYYMM.
+    TrackCell { month: u32, name: Txt },
+    /// `track-sheet MONTH`: all cells of the tracking budget of a month YYYYMM.
+    TrackSheet { month: u32 },
     /// `sync`: hands the server what the device has, and takes what the server has.
     Sync,
 }
@@ -92,6 +98,12 @@ impl Command {
                 id: id.copy()?,
                 day: *day,
             }),
+            Command::Goals { month } => Ok(Command::Goals { month: *month }),
+            Command::TrackCell { month, name } => Ok(Command::TrackCell {
+                month: *month,
+                name: name.copy()?,
+            }),
+            Command::TrackSheet { month } => Ok(Command::TrackSheet { month: *month }),
             Command::Sync => Ok(Command::Sync),
         }
     }

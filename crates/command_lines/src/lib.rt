@@ -11,8 +11,10 @@ mod cell_names;
 mod command;
 mod edit_lines;
 mod forms;
+mod goal_answer;
 mod laws;
 mod pair_lines;
+mod plan_lines;
 mod refusal;
 mod register;
 mod reply;
@@ -23,6 +25,7 @@ mod session_lines;
 mod statement_lines;
 mod sync_reply;
 mod text_lines;
+mod track_answer;
 mod words;
 
 pub use answer::read_reply;

@@ -4,7 +4,7 @@ ghost use Rattle.command_lines.specs.Commands.{import_words, words_of_statement_
 ghost use Rattle.command_lines.specs.Unread.{command_of_unread, IsFaultOf};
 
 use crate::command::{Command, CommandFault};
-use crate::session_lines::session_line;
+use crate::plan_lines::plan_line;
 use crate::words::Words;
 use device_core::{Edit, ImportEdit};
 use std::alloc::Global;
@@ -35,6 +35,6 @@ pub(crate) fn statement_line(
 {
     match name {
         "import" => import_statement(alloc, words),
-        _ => session_line(name, words),
+        _ => plan_line(alloc, name, words),
     }
 }

@@ -114,18 +114,6 @@ own_node : (node : List ℕ) (o : Option Stamp) → (clock_after node o).node �
 own_node node None = refl
 own_node node (Some s) = refl
 
-pub devices_begin : DevicesBegin
-devices_begin node ms = record {
-  messages = refl;
-  own = own_node node (last_stamp ms);
-  at_last = λ front m is.
-      let last : last_stamp ms ≡ Some m.stamp = ap last_stamp is ∙ last_is front m in
-      (ap (λ (o : Option Stamp). (clock_after node o).millis) last, ap (λ (o : Option Stamp). (clock_after node o).counter) last);
-  at_start = λ none.
-      let last : last_stamp ms ≡ None = ap last_stamp none in
-      (ap (λ (o : Option Stamp). (clock_after node o).millis) last, ap (λ (o : Option Stamp). (clock_after node o).counter) last);
-}
-
 pub last_valid : (ms : List Message) → AreMessages ms → ForSome (last_stamp ms) IsStamp
 last_valid [] valid = λ s e. cc
 last_valid (m ∷ []) valid = λ s e. let same : m.stamp ≡ s = cc in subst IsStamp same valid.0.stamp
@@ -140,3 +128,16 @@ after_ahead node (m ∷ n ∷ ms) up =
     let low : stamp_cmp m.stamp n.stamp ≡ Less = (all_keys stamp_of (λ (t : Stamp). stamp_cmp m.stamp t ≡ Less) (n ∷ ms) (head stamp_of stamp_cmp m (n ∷ ms) up)).0 in
     let first : IsUpTo (clock_after node (last_stamp (n ∷ ms))) m.stamp = up_to_trans (clock_after node (last_stamp (n ∷ ms))) n.stamp m.stamp rest.0 (less_up_to m.stamp n.stamp low) in
     subst (λ (o : Option Stamp). IsAhead (clock_after node o) (m ∷ n ∷ ms)) (sym (last_on m n ms)) (first, rest)
+
+pub devices_begin : DevicesBegin
+devices_begin node ms = record {
+  messages = refl;
+  own = own_node node (last_stamp ms);
+  at_last = λ front m is.
+      let last : last_stamp ms ≡ Some m.stamp = ap last_stamp is ∙ last_is front m in
+      (ap (λ (o : Option Stamp). (clock_after node o).millis) last, ap (λ (o : Option Stamp). (clock_after node o).counter) last);
+  at_start = λ none.
+      let last : last_stamp ms ≡ None = ap last_stamp none in
+      (ap (λ (o : Option Stamp). (clock_after node o).millis) last, ap (λ (o : Option Stamp). (clock_after node o).counter) last);
+  ahead = λ up. after_ahead node ms up;
+}

@@ -10,6 +10,7 @@ use Rattle.schedules.proofs.ValidWrites as schedules
 use Rattle.schedules.proofs.Amounts.{terms_hold}
 use Rattle.bank_import.proofs.Written.{import_valid}
 use Rattle.bank_import.proofs.Numbers.{statement_numbers}
+use Rattle.goal_templates.proofs.Naming.{goal_writes_valid}
 use Rattle.field_merge.specs.declared.message.Message.{Message}
 use Rattle.field_merge.specs.Messages.{AreMessages}
 use Rattle.device_core.specs.Books.{rows_of}
@@ -17,7 +18,7 @@ use Rattle.device_core.proofs.RowsNamed.{rows_named}
 use Rattle.device_core.proofs.RowsDated.{rows_dated}
 use Rattle.book_edits.specs.declared.edit.BookEdit.TheVariants.{Set, AccountAdd, AccountRename, AccountOffbudget, AccountReopen, AccountClose, GroupAdd, GroupRename, GroupDelete, CategoryAdd, CategoryRename, CategoryMove, CategoryDelete, CategoryDeleteTo, PayeeAdd, PayeeRename, PayeeDelete, PayeeMerge, TxAdd, Budget, Carryover, Hold, Move, Track, TrackCarryover, Note}
 use Rattle.device_core.specs.declared.edit.Edit.{Edit}
-use Rattle.device_core.specs.declared.edit.Edit.TheVariants.{Book, Pair, Rule, Schedule, Import}
+use Rattle.device_core.specs.declared.edit.Edit.TheVariants.{Book, Pair, Rule, Schedule, Import, GoalsApply}
 use Rattle.device_core.specs.Edits.{writes_of, IsEdit, MayWantMemory}
 
 -- memory may have been wanted
@@ -52,6 +53,7 @@ made_may rows (Pair edit) ws made = tt
 made_may rows (Rule edit) ws made = tt
 made_may rows (Schedule edit) ws made = tt
 made_may rows (Import edit) ws made = tt
+made_may rows (GoalsApply month) ws made = tt
 
 -- the writes of an edit in the book of valid messages
 pub writes_valid : (ms : List Message) (edit : Edit) (ws : List Write) → AreMessages ms → IsEdit edit → writes_of (rows_of ms) edit ≡ Ok ws → AreWrites ws
@@ -60,3 +62,4 @@ writes_valid ms (Pair edit) ws are is h = pairs.writes_valid (rows_of ms) (rows_
 writes_valid ms (Rule edit) ws are is h = rules.writes_valid (rows_of ms) (rows_named ms are) edit ws h
 writes_valid ms (Schedule edit) ws are is h = schedules.writes_valid (rows_of ms) (rows_named ms are) edit ws (terms_hold (rows_of ms)) h
 writes_valid ms (Import edit) ws are is h = import_valid (rows_of ms) (rows_named ms are) edit ws (statement_numbers edit.statement) h
+writes_valid ms (GoalsApply month) ws are is h = goal_writes_valid (rows_of ms) month ws h

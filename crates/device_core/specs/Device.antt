@@ -154,6 +154,15 @@ abbrev pub IsRefused : Result Accepted LineRefusal → DeviceState → DeviceSta
 IsRefused meant old new NoMemory = new.spent ≡ true
 IsRefused meant old new refusal = (meant ≡ Err refusal) × (new ≡ old)
 
+-- a line would be accepted, with this count
+abbrev pub WouldBeAccepted : Result Accepted LineRefusal → ℕ → Type 0
+WouldBeAccepted meant count = (accepted : Accepted) × ((meant ≡ Ok accepted) × (accepted.count ≡ count))
+
+-- a line would be refused so; or memory ran out
+abbrev pub WouldBeRefused : Result Accepted LineRefusal → LineRefusal → Type 0
+WouldBeRefused meant NoMemory = Unit {0}
+WouldBeRefused meant refusal = meant ≡ Err refusal
+
 -- what holds of a device that is not spent
 pub record Stands (known : Known) (clock : Stamp) (batch : List Record) : Type 0 where
   pub right : IsKnown known

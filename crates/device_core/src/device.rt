@@ -15,7 +15,7 @@ ghost use Rattle.book_rows.specs.Writes.{AreWrites};
 ghost use Rattle.book_edits.specs.Faults.{IsEditFault};
 ghost use Rattle.edit_history.specs.History.{latest_of, after};
 ghost use Rattle.device_core.specs.Edits.{IsEdit, MayWantMemory, writes_of};
-ghost use Rattle.device_core.specs.Device.{at_rest, begun, with_messages, with_writes, written_over, writing, writes_back, edited, undone, redone, later_of, greatest_of, received, IsAhead, IsAccepted, IsRefused};
+ghost use Rattle.device_core.specs.Device.{at_rest, begun, with_messages, with_writes, written_over, writing, writes_back, edited, undone, redone, later_of, greatest_of, received, IsAhead, IsAccepted, IsRefused, WouldBeAccepted, WouldBeRefused};
 
 use crate::edit::{Edit, LineRefusal, edit_writes};
 use crate::known::{Known, join_all, read_all};
@@ -383,6 +383,88 @@ impl Device {
         match self.join(batch, made) {
             Ok(()) => Ok(self.batch.len() as u64),
             Err(NoMemory) => Err(LineRefusal::NoMemory),
+        }
+    }
+
+    /// Begins anew with the messages that the device has, as `start` does with records that keep them: the clock goes on after the last of
+    /// them, nothing is pending, and nothing can be undone or redone.
+    pub fn restart(&mut self)
+        requires { self.old.spent ≡ false }
+        ensures { self.new ≡ at_rest (begun self.old.state.clock.node self.old.state.messages) }
+    {
+        // The contract of `len` says that the messages of a log rise.
+        let _count = self.known.log.len();
+        let last = self.clock.last();
+        self.clock = HybridClock::new(last.node, self.known.log.last());
+        self.history = History::new(self.alloc);
+        self.batch = Vec::new(self.alloc);
+        self.made = Items::new(Vec::new(self.alloc));
+    }
+
+    /// Answers what `prepare` would answer at this reading, and changes nothing but for want of memory.
+    ///
+    /// # Errors
+    ///
+    /// As of `prepare`.
+    pub fn would_prepare(&self, edit: &Edit, reading: u64) -> Result<u32, LineRefusal>
+        requires live { self.now.spent ≡ false }
+        requires valid { IsEdit edit.now }
+        ensures ok { IfOk result (WouldBeAccepted (edited self.now.state edit.now reading)) }
+        ensures refused { IfErr result (WouldBeRefused (edited self.now.state edit.now reading)) }
+    {
+        match self.writes(edit) {
+            Ok(writes) => self.would_write(Turn::New, writes.as_slice(), reading),
+            Err(EditFault::NoMemory) => Err(LineRefusal::NoMemory),
+            Err(fault) => Err(LineRefusal::Edit(fault)),
+        }
+    }
+
+    /// Answers what `undo` would answer.
+    pub fn would_undo(&self, reading: u64) -> Result<u32, LineRefusal>
+        requires live { self.now.spent ≡ false }
+        ensures ok { IfOk result (WouldBeAccepted (undone self.now.state reading)) }
+        ensures refused { IfErr result (WouldBeRefused (undone self.now.state reading)) }
+    {
+        match self.undo_writes() {
+            Ok(writes) => self.would_write(Turn::Undo, writes.as_slice(), reading),
+            Err(EditFault::NoMemory) => Err(LineRefusal::NoMemory),
+            Err(fault) => Err(LineRefusal::Edit(fault)),
+        }
+    }
+
+    /// Answers what `redo` would answer.
+    pub fn would_redo(&self, reading: u64) -> Result<u32, LineRefusal>
+        requires live { self.now.spent ≡ false }
+        ensures ok { IfOk result (WouldBeAccepted (redone self.now.state reading)) }
+        ensures refused { IfErr result (WouldBeRefused (redone self.now.state reading)) }
+    {
+        match self.redo_writes() {
+            Ok(writes) => self.would_write(Turn::Redo, writes.as_slice(), reading),
+            Err(EditFault::NoMemory) => Err(LineRefusal::NoMemory),
+            Err(fault) => Err(LineRefusal::Edit(fault)),
+        }
+    }
+
+    /// Answers what `write` would answer.
+    #[tactic(auto, using(crate::proofs::Writing::writings))]
+    fn would_write(&self, turn: Turn, writes: &[Write], reading: u64) -> Result<u32, LineRefusal>
+        requires live { self.now.spent ≡ false }
+        ensures ok { IfOk result (WouldBeAccepted (writing self.now.state turn reading (Ok writes.now))) }
+        ensures refused { IfErr result (WouldBeRefused (writing self.now.state turn reading (Ok writes.now))) }
+    {
+        let _turn = turn;
+        let count = writes.len();
+        if count == 0 {
+            return Ok(0);
+        }
+        if count > MOST_WRITES {
+            return Err(LineRefusal::Edit(EditFault::TooManyWrites { n: count as u64 }));
+        }
+        let last = self.clock.last();
+        let mut clock = HybridClock::new(last.node, Some(last));
+        match clock.draw(reading, count as u32) {
+            Ok(_) => Ok(count as u32),
+            Err(fault) => Err(LineRefusal::Clock(fault)),
         }
     }
 

@@ -9,6 +9,7 @@ use bank_import::{ImportEdit, import_writes};
 use book_edits::{BookEdit, writes};
 use book_rows::{Book, EditFault, Write};
 use field_values::NoMemory;
+use goal_templates::goal_writes;
 use hybrid_clock::ClockFault;
 use rule_engine::{RuleEdit, rule_writes};
 use schedules::{ScheduleEdit, schedule_writes};
@@ -54,6 +55,8 @@ pub enum Edit {
     Schedule(ScheduleEdit),
     /// The import of a bank's statement.
     Import(ImportEdit),
+    /// A month YYYYMM is filled by the templates that the notes of its categories have.
+    GoalsApply { month: u32 },
 }
 
 impl Edit {
@@ -67,6 +70,7 @@ impl Edit {
             Edit::Rule(edit) => Ok(Edit::Rule(edit.copy(alloc)?)),
             Edit::Schedule(edit) => Ok(Edit::Schedule(edit.copy()?)),
             Edit::Import(edit) => Ok(Edit::Import(edit.copy()?)),
+            Edit::GoalsApply { month } => Ok(Edit::GoalsApply { month: *month }),
         }
     }
 }
@@ -86,5 +90,6 @@ pub(crate) fn edit_writes(alloc: Global, book: &Book, edit: &Edit) -> Result<Vec
         Edit::Rule(edit) => rule_writes(alloc, book, edit),
         Edit::Schedule(edit) => schedule_writes(alloc, book, edit),
         Edit::Import(edit) => import_writes(alloc, book, edit),
+        Edit::GoalsApply { month } => goal_writes(alloc, book, *month),
     }
 }

@@ -9,7 +9,8 @@ ghost use Rattle.device_core.specs.Several.{EditsAreMade, WritesAreJoined};
 ghost use Rattle.device_core.specs.Undoing.{EntriesAreTakenBack, LinesAreUndone};
 
 /// A law: a device begins with the messages that it is given, and a clock of its node at the time and the
-/// counter of the last of them, or at the start of 1970 where there are none.
+/// counter of the last of them, or at the start of 1970 where there are none. Where they rise by timestamp, it is
+/// behind none of them.
 pub fn devices_begin()
     ensures { DevicesBegin }
 {}

@@ -1,5 +1,5 @@
--- Edits of rules, of schedules and of statements leave pairs and splits right.
-use Rattle.std.specs.Prelude.{◌≡◌, List, Ok}
+-- Edits of rules, of schedules and of statements, and months that are filled by templates, leave pairs and splits right.
+use Rattle.std.specs.Prelude.{◌≡◌, ℕ, List, Ok}
 use Rattle.book_rows.specs.declared.rows.Rows.{Rows}
 use Rattle.book_rows.specs.declared.write.Write.{Write}
 use Rattle.split_transfer.specs.After.{Ids, with_writes}
@@ -11,6 +11,7 @@ use Rattle.schedules.specs.declared.edit.ScheduleEdit.{ScheduleEdit}
 use Rattle.schedules.specs.Edits.{schedule_writes}
 use Rattle.bank_import.specs.declared.edit.ImportEdit.{ImportEdit}
 use Rattle.bank_import.specs.Edits.{import_writes}
+use Rattle.goal_templates.specs.Goals.{goal_writes}
 
 -- after these writes each pair and each split that was right is right if it is still there, and so is each that they make, where the ids
 -- of made rows are new, and no transaction names one that they add as what it is a part of
@@ -25,3 +26,6 @@ SchedulesKeepPairsAndSplits = (rows : Rows) (edit : ScheduleEdit) (ws : List Wri
 
 abbrev pub StatementsKeepPairsAndSplits : Type 0
 StatementsKeepPairsAndSplits = (rows : Rows) (edit : ImportEdit) (ws : List Write) → import_writes rows edit ≡ Ok ws → AreKept rows ws
+
+abbrev pub GoalsKeepPairsAndSplits : Type 0
+GoalsKeepPairsAndSplits = (rows : Rows) (month : ℕ) (ws : List Write) → goal_writes rows month ≡ Ok ws → AreKept rows ws

@@ -1,4 +1,4 @@
-//! Facts about all edits of rules, of schedules and of statements, which a proof can call for.
+//! Facts about all edits of rules, of schedules and of statements, and about months that are filled by templates, which a proof can call for.
 ghost use Rattle.book_rows.specs.declared.rows.Rows.{Rows};
 ghost use Rattle.bank_import.specs.declared.edit.ImportEdit.{ImportEdit};
 ghost use Rattle.bank_import.specs.declared.entry.Entry.{Entry};
@@ -11,7 +11,10 @@ ghost use Rattle.kept_pairs.specs.Kept.{
   RulesKeepPairsAndSplits,
   SchedulesKeepPairsAndSplits,
   StatementsKeepPairsAndSplits,
+  GoalsKeepPairsAndSplits,
 };
+
+use goal_templates::goals_are_filled;
 
 /// A law: after an edit of rules, or of transactions by rules, that is accepted each pair of opposite amounts and the same day, and each
 /// split whose parts add up to its amount, is right as before, if it is there still, and so is each that the edit makes. It is asked
@@ -30,6 +33,13 @@ pub fn schedules_keep_pairs_and_splits()
 pub fn statements_keep_pairs_and_splits()
     ensures { StatementsKeepPairsAndSplits }
 {}
+
+/// A law: so it is after a month is filled by the templates in the notes of categories, and nothing has to be asked before.
+pub fn goals_keep_pairs_and_splits()
+    ensures { GoalsKeepPairsAndSplits }
+{
+    goals_are_filled();
+}
 
 /// A law: an import that is accepted fills in what is missing in the transaction that a record matches: the payee, the notes, the payee as
 /// the statement has it, the id there and the schedule; and the category, unless it is split or in a pair. What is there stays. A record

@@ -2,6 +2,7 @@ pub mod Places
 pub mod Dates
 pub mod Entries
 pub mod Parts
+pub mod AsciiTexts
 pub mod Ranks
 pub mod Live
 pub mod Following

@@ -25,7 +25,7 @@ stands part (c ∷ text) t = elim (or_cases (begins part (c ∷ text)) (has_part
   | inr s ↦ let r = stands part text s in (c ∷ r.0, r.1, ap (λ xs. c ∷ xs) r.2)
 ]
 
-at_front : (part text : List ℕ) → begins part text ≡ true → has_part part text ≡ true
+pub at_front : (part text : List ℕ) → begins part text ≡ true → has_part part text ≡ true
 at_front part [] t = t
 at_front part (c ∷ text) t = or_left (begins part (c ∷ text)) (has_part part text) t
 

@@ -1,12 +1,12 @@
 //! Whether a condition holds on a transaction.
 ghost use Rattle.std.specs.Prelude.{◌≡◌, IfOk};
 ghost use Rattle.std.specs.Option.{option_copied};
-ghost use Rattle.rule_engine.specs.Conditions.{mapped_by, with_ids, is_id, is_one_id, id_holds, is_same_text, has_part, or_empty, text_is, text_is_one, text_has, text_holds, is_near, is_between, number_holds, is_between_op, amount_holds, day_holds_by, day_holds, same_flag, flag_holds, holds_in};
+ghost use Rattle.rule_engine.specs.Conditions.{mapped_by, with_ids, is_id, is_one_id, id_holds, or_empty, text_is, text_is_one, text_has, text_holds, is_near, is_between, number_holds, is_between_op, amount_holds, day_holds_by, day_holds, same_flag, flag_holds, holds_in};
 
 use crate::days::are_within;
+use crate::folding::{has_folded_part, is_same_text};
 use crate::rule::{CondField, CondOp, CondValue, Condition};
 use book_rows::{Book, TxRow};
-use caseless::{default_case_fold_str, default_caseless_match_str};
 use field_values::{NoMemory, Txt};
 use std::alloc::Global;
 
@@ -137,25 +137,9 @@ fn text_has(alloc: Global, value: &CondValue, text: &str) -> Result<bool, NoMemo
     ensures { IfOk result (λ b. b ≡ text_has value.now text.now) }
 {
     match value {
-        CondValue::Text(part) => {
-            let text = default_case_fold_str(alloc, text)?;
-            let part = default_case_fold_str(alloc, part.as_str())?;
-            Ok(has_part(text.as_str(), part.as_str()))
-        }
+        CondValue::Text(part) => has_folded_part(alloc, text, part.as_str()),
         _ => Ok(false),
     }
-}
-
-fn is_same_text(text: &str, other: &str) -> bool
-    ensures { result ≡ is_same_text text.now other.now }
-{
-    default_caseless_match_str(text, other)
-}
-
-fn has_part(text: &str, part: &str) -> bool
-    ensures { result ≡ has_part part.now text.now }
-{
-    text.contains(part)
 }
 
 /// Whether an amount is within seven and a half in a hundred of a number, rounded to the nearest

@@ -10,6 +10,7 @@ mod acting;
 mod compared;
 mod days;
 mod edit;
+mod folding;
 mod given;
 mod holding;
 mod laws;

@@ -1,8 +1,16 @@
-//! Calls of `command_lines` and `device_core` that no run shows: copies, and the reply to a refusal that no line brings about.
+//! Calls of `command_lines` and `device_core` that no run shows: copies, the reply to a refusal that no line brings about, what a line would be
+//! answered, and a device that begins anew.
+ghost use Rattle.std.specs.Prelude.{◌≡◌, ◌≤◌, [], OnOk, false};
+ghost use Rattle.device_core.specs.Edits.{IsEdit};
+
+use crate::table::T0;
 use command_lines::{added_reply, faulty_reply, read_command, refusal_reply, reply_text};
-use device_core::{EditFault, LineRefusal, RowName, Write, WriteValue};
-use field_values::{Txt, Value};
+use device_core::{BookEdit, Device, Edit, EditFault, LineRefusal, RowName, Write, WriteValue};
+use field_values::{Steps, Txt, Value};
+use hybrid_clock::Node;
 use std::alloc::Global;
+use std::marker::Brand;
+use std::sync::ledger::{Blank, Ledger};
 use std::test::Fail;
 
 /// A line of each kind of command, of edit and of change, with `>` for a TAB.
@@ -51,6 +59,7 @@ schedule-post>s
 schedule-skip>s
 schedule-delete>s
 import>bank>date,amount
+goals-apply>2024-01
 receive>2024-01-05T10:00:00.000Z-0000-00000000000000bb>accounts>bank>name>N:7
 undo
 redo
@@ -64,7 +73,10 @@ register>bank
 cell>2024-01>to-budget
 sheet>2024-01
 broken
-schedule-status>s>20240102"#;
+schedule-status>s>20240102
+goals>2024-01
+track-cell>2024-01>total-saved
+track-sheet>2024-01"#;
 
 /// What the command of a line is printed as, and what its copy is.
 fn printed(alloc: Global, line: &str) -> Result<(String, String), Fail> {
@@ -130,5 +142,46 @@ fn copies_writes(rt: HostRuntime) -> Result<(), Fail> {
         value: WriteValue::Plain(Value::Number(-7)),
     };
     assert_eq!(rt; write.copy()?.value, WriteValue::Plain(Value::Number(-7)));
+    Ok(())
+}
+
+/// How many writes an edit is, with a counter of steps that nobody reads.
+fn made<G: Ledger>(blank: Blank, device: &mut Device, edit: &Edit) -> Result<u32, LineRefusal>
+    requires name { blank.name ≡ G.name }
+    requires parts { blank.parts ≡ G.parts }
+    requires some { 1 ≤ G.parts }
+    requires live { device.old.spent ≡ false }
+    requires idle { device.old.batch ≡ [] }
+    requires valid { IsEdit edit.now }
+    ensures live { OnOk result (device.new.spent ≡ false) }
+{
+    let mut steps = Steps::<G>::new(blank);
+    device.prepare(edit, T0, &mut steps)
+}
+
+/// How many writes a payee that is added would be, and how many it is.
+fn would_and_does(alloc: Global, device: &mut Device) -> Result<(u32, u32), Fail>
+    requires live { device.old.spent ≡ false }
+    requires idle { device.old.batch ≡ [] }
+    ensures live { OnOk result (device.new.spent ≡ false) }
+{
+    let name = Txt::from_text(alloc, "Market")?;
+    let edit = Edit::Book(BookEdit::PayeeAdd { id: None, name });
+    let would = device.would_prepare(&edit, T0)?;
+    let does = made::<Brand>(Blank::new(1), device, &edit)?;
+    Ok((would, does))
+}
+
+#[test]
+fn tells_what_would_be_done(rt: HostRuntime) -> Result<(), Fail> {
+    let mut device = Device::start(rt.alloc(), Node::make(b"aa")?, &[])?;
+    assert_eq!(rt; would_and_does(rt.alloc(), &mut device)?, (1, 1));
+    assert_eq!(rt; device.would_undo(T0)?, 1);
+    let redo = LineRefusal::Edit(EditFault::NothingToRedo);
+    assert_eq!(rt; device.would_redo(T0).err(), Some(redo));
+    device.restart();
+    let undo = LineRefusal::Edit(EditFault::NothingToUndo);
+    assert_eq!(rt; device.would_undo(T0).err(), Some(undo));
+    assert_eq!(rt; (device.log().len(), device.batch().len()), (1, 0));
     Ok(())
 }

@@ -11,6 +11,8 @@ mod checks;
 #[cfg(test)]
 mod conditions;
 #[cfg(test)]
+mod goals;
+#[cfg(test)]
 mod mappings;
 #[cfg(test)]
 mod pairs;
@@ -30,6 +32,8 @@ mod statements;
 mod syncs;
 #[cfg(test)]
 mod table;
+#[cfg(test)]
+mod tracking;
 #[cfg(test)]
 mod undo;
 #[cfg(test)]

@@ -1,5 +1,6 @@
 pub mod Months
 pub mod Days
+pub mod Meant
 pub mod Upcoming
 pub mod Reading
 pub mod Conditions

@@ -1,13 +1,16 @@
 //! The first raw day from a day on, by whole periods.
-ghost use Rattle.std.specs.Prelude.{◌≡◌, ◌+◌, ◌*◌, ◌<◌, ◌≤◌, ◌-◌, []};
-ghost use Rattle.schedules.specs.Days.{IsFirst, is_day_step, is_month_step, is_year_step, is_raw, falls_on, is_at, IsFirstIn, said, places};
-ghost use Rattle.schedules.specs.Months.{month_day, month_length};
+ghost use Rattle.std.specs.Prelude.{◌≡◌, ◌+◌, ◌*◌, ◌<◌, ◌≤◌, ◌-◌, List};
+ghost use Rattle.schedules.specs.Days.{Places, IsFirst, is_day_step, is_month_step, is_year_step, is_raw, IsFirstIn, said, places};
+ghost use Rattle.schedules.specs.Meant.{Means, MeansOf};
+ghost use Rattle.schedules.specs.declared.recurrence.Pattern.{Pattern as PatternIs};
 
+use crate::meant::{MeantDays, is_meant, meant_days};
 use crate::month::{DAYS, MONTHS, MonthDay, month_day, month_length, month_start};
-use crate::recurrence::{Frequency, Pattern, Recurrence};
+use crate::recurrence::{Frequency, Recurrence};
 
-/// The first raw day from a day on.
-pub(crate) fn first_raw(recurrence: &Recurrence, from: u32) -> Option<u32>
+/// The first raw day from a day on, by the table of the recurrence's days of a month.
+pub(crate) fn first_raw(recurrence: &Recurrence, days: &MeantDays, from: u32) -> Option<u32>
+    requires { MeansOf days.now (said recurrence.now) }
     ensures { IsFirst (is_raw (said recurrence.now)) from result }
 {
     let start = recurrence.start;
@@ -15,9 +18,7 @@ pub(crate) fn first_raw(recurrence: &Recurrence, from: u32) -> Option<u32>
     match recurrence.frequency {
         Frequency::Daily => first_by_days(start, interval, from),
         Frequency::Weekly => first_by_days(start, 7 * interval, from),
-        Frequency::Monthly => {
-            first_by_months(start, recurrence.patterns.as_slice(), interval, from)
-        }
+        Frequency::Monthly => first_by_months(start, days, interval, from),
         Frequency::Yearly => first_by_years(start, interval, from),
     }
 }
@@ -43,15 +44,15 @@ fn first_by_years(start: u32, step: u32, from: u32) -> Option<u32>
     requires most { step ≤ 1_000 }
     ensures { IsFirst (is_year_step step start) from result }
 {
-    first_by_months(start, &[], 12 * step, from)
+    first_by_months(start, &meant_days(start, &[]), 12 * step, from)
 }
 
-/// The first day from a day on by whole steps of months.
-fn first_by_months(start: u32, patterns: &[Pattern], step: u32, from: u32) -> Option<u32>
+/// The first day from a day on by whole steps of months, on the days of a month that a table has.
+fn first_by_months(start: u32, days: &MeantDays, step: u32, from: u32) -> Option<u32>
     requires calendar { start < 84_006 }
     requires least { 1 ≤ step }
     requires most { step ≤ 12_000 }
-    ensures { IsFirst (is_month_step step (places start patterns.now)) from result }
+    ensures { (patterns : List PatternIs) → Means days.now (places start patterns) → IsFirst (is_month_step step (places start patterns)) from result }
 {
     let begin = from.max(start);
     if begin >= DAYS {
@@ -60,7 +61,7 @@ fn first_by_months(start: u32, patterns: &[Pattern], step: u32, from: u32) -> Op
     let first = month_day(start);
     let mut month = first.month + (month_day(begin).month - first.month).div_ceil(step) * step;
     while month < MONTHS {
-        if let Some(day) = first_in_month(start, patterns, first.place, month, begin) {
+        if let Some(day) = first_in_month(days, month, begin) {
             return Some(day);
         }
         month += step;
@@ -68,17 +69,10 @@ fn first_by_months(start: u32, patterns: &[Pattern], step: u32, from: u32) -> Op
     None
 }
 
-/// The first day of a month, from a day on, that falls on a pattern.
-fn first_in_month(
-    start: u32,
-    patterns: &[Pattern],
-    place: u32,
-    month: u32,
-    from: u32,
-) -> Option<u32>
-    requires first { place ≡ (month_day start).place }
-    requires calendar { month < 2_760 }
-    ensures { IsFirstIn (places start patterns.now) month from result }
+/// The first day of a month, from a day on, that a table has.
+fn first_in_month(days: &MeantDays, month: u32, from: u32) -> Option<u32>
+    requires { month < 2_760 }
+    ensures { (meant : Places) → Means days.now meant → IsFirstIn meant month from result }
 {
     let length = month_length(month);
     let begins = month_start(month);
@@ -88,32 +82,9 @@ fn first_in_month(
             month,
             place: before + 1,
         };
-        if day >= from && falls_on(start, patterns, place, here, length) {
+        if day >= from && is_meant(days, here, length) {
             return Some(day);
         }
     }
     None
-}
-
-/// Whether a day of a month falls on a pattern, or on the day of the month where the recurrence starts.
-fn falls_on(start: u32, patterns: &[Pattern], place: u32, day: MonthDay, length: u32) -> bool
-    requires first { place ≡ (month_day start).place }
-    requires long { length ≡ month_length day.month }
-    ensures { result ≡ falls_on (places start patterns.now) day }
-{
-    if patterns.is_empty() {
-        return day.place == place;
-    }
-    patterns.iter().any(|pattern| is_at(day, *pattern, length))
-}
-
-/// Whether a day of a month is the one of a pattern.
-fn is_at(day: MonthDay, pattern: Pattern, length: u32) -> bool
-    requires { length ≡ month_length day.month }
-    ensures { result ≡ is_at day pattern }
-{
-    match pattern {
-        Pattern::Place(place) => day.place == place as u32,
-        Pattern::Last => day.place == length,
-    }
 }

@@ -2,8 +2,10 @@
 ghost use Rattle.std.specs.Prelude.{◌≡◌, ◌<◌, ◌+◌, true, IfSome, IfOk, option_map};
 ghost use Rattle.book_rows.specs.Kinds.{is_day};
 ghost use Rattle.schedules.specs.Days.{asked_from, is_within, moved, said, next_from, IsPast};
+ghost use Rattle.schedules.specs.Meant.{MeansOf};
 ghost use Rattle.schedules.specs.Upcoming.{IsNext, AreBetween};
 
+use crate::meant::{MeantDays, meant_days};
 use crate::month::{date_of, day_of, weekday};
 use crate::raw::first_raw;
 use crate::recurrence::{Ending, Recurrence, Weekends};
@@ -28,15 +30,28 @@ fn begun(recurrence: &Recurrence, from: u32) -> Place
     }
 }
 
-/// The least occurrence from a day on, and where the search for later ones goes on.
-fn search(recurrence: &Recurrence, begin: Place, from: u32) -> Option<(u32, Place)>
-    requires { IsPast (said recurrence.now) from begin.at begin.passed }
+/// The table of a recurrence's days of a month.
+fn days_of(recurrence: &Recurrence) -> MeantDays
+    ensures { MeansOf result (said recurrence.now) }
+{
+    meant_days(recurrence.start, recurrence.patterns.as_slice())
+}
+
+/// The least occurrence from a day on, by the table of the recurrence's days of a month, and where the search for later ones goes on.
+fn search(
+    recurrence: &Recurrence,
+    days: &MeantDays,
+    begin: Place,
+    from: u32,
+) -> Option<(u32, Place)>
+    requires days { MeansOf days.now (said recurrence.now) }
+    requires past { IsPast (said recurrence.now) from begin.at begin.passed }
     ensures found { option_map (λ f. f.0) result ≡ next_from (said recurrence.now) from }
     ensures calendar { IfSome result (λ f. f.0 < 84_006) }
     ensures past { IfSome result (λ f. IsPast (said recurrence.now) (f.0 + 1) f.1.at f.1.passed) }
 {
     let mut place = begin;
-    while let Some(raw) = first_raw(recurrence, place.at) {
+    while let Some(raw) = first_raw(recurrence, days, place.at) {
         if !is_within(recurrence.ending, place.passed, raw) {
             return None;
         }
@@ -57,14 +72,19 @@ pub(crate) fn first_from(recurrence: &Recurrence, from: u32) -> Option<u32>
     ensures found { result ≡ next_from (said recurrence.now) from }
     ensures calendar { IfSome result (λ d. d < 84_006) }
 {
-    match search(recurrence, begun(recurrence, from), from) {
+    match search(
+        recurrence,
+        &days_of(recurrence),
+        begun(recurrence, from),
+        from,
+    ) {
         Some((day, _)) => Some(day),
         None => None,
     }
 }
 
-/// The next occurrence after a day, if there is one to the end of 2199. Both are YYYYMMDD. It costs the periods from the day on; where
-/// raw days are counted, those from the start.
+/// The next occurrence after a day, if there is one to the end of 2199. Both are YYYYMMDD. It costs the patterns once, and the periods
+/// from the day on; where raw days are counted, those from the start.
 pub fn next(recurrence: &Recurrence, after: u32) -> Option<u32>
     requires { is_day after ≡ true }
     ensures { IsNext (said recurrence.now) after result }
@@ -88,10 +108,11 @@ pub fn occurrences(
     ensures { IfOk result (λ v. AreBetween (said recurrence.now) first last v.items) }
 {
     let to = day_of(last);
+    let days = days_of(recurrence);
     let mut dates = Vec::new(alloc);
     let mut from = day_of(first);
     let mut place = begun(recurrence, from);
-    while let Some((day, next)) = search(recurrence, place, from) {
+    while let Some((day, next)) = search(recurrence, &days, place, from) {
         if day > to {
             break;
         }

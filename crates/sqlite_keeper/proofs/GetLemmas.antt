@@ -1,65 +1,47 @@
 -- What `get` answers.
-use Rattle.std.proofs.Common.{◌≡◌, ◌⊎◌, ℕ, true, List, Option, [], ◌∷◌, None, Some, Ok, Err, ◌≤◌, ◌<◌, length, slice_index, slice_index_or, zero, suc, arith, Result, IfOk, inl, inr, refl, sym, ap, subst, ◌∙◌}
-use Rattle.std.proofs.lemmas.Bool.{and_parts, and_from}
+use Rattle.std.proofs.Common.{◌≡◌, ◌⊎◌, ℕ, List, Option, [], ◌∷◌, Some, Ok, Err, ◌≤◌, ◌<◌, length, slice_index, slice_index_or, zero, suc, arith, Result, IfOk, OnOk, inl, inr, sym, ap, subst, ◌∙◌, IsTrue}
 use Rattle.std.specs.FinMap.{get}
-use Rattle.std.specs.List.{list_all}
-use Rattle.sqlite_value.specs.declared.value.Value.TheVariants.{Null, Text}
+use Rattle.std.specs.Str.{IsUtf8}
+use Rattle.std.proofs.lemmas.Str.{IsUtf8-from_ascii}
+use Rattle.sqlite_value.specs.declared.value.Value.TheVariants.{Text}
 use Rattle.sqlite_value.specs.Order.{Row, column, bytes}
-use Rattle.sqlite_trees.specs.Tree.{Trees}
-use Rattle.sqlite_rules.specs.Lists.{Has}
-use Rattle.sqlite_sql.specs.Program.{overlay}
-use Rattle.sqlite_sql.specs.Term.{holds}
-use Rattle.sqlite_sql.specs.Ops.{binary, is_true}
-use Rattle.sqlite_sql.specs.declared.ops.BinaryOp.TheVariants.{Compare}
-use Rattle.sqlite_sql.specs.declared.ops.CompareOp.TheVariants.{Eq}
-use Rattle.sqlite_value.specs.declared.keys.Collation.TheVariants.{Binary}
+use Rattle.sqlite_rules.proofs.ListLemmas.{has_at}
 use Rattle.sqlite.specs.State.{State, Shown, ShowsRows, IsUnchanged, IsRolledBack, FailsToQuery, FailsToShow}
 use Rattle.sqlite.specs.declared.error.Error.{Error}
-use Rattle.sqlite_keeper.proofs.Calls.{not_run}
 use Rattle.sqlite.specs.Listing.{understood, reads_listing, IsSourceOf}
-use Rattle.sqlite.specs.Effect.{Database, IsDatabase}
+use Rattle.sqlite.specs.Effect.{Database, Reads}
 use Rattle.sqlite.specs.Store.{Ghosts}
 use Rattle.sqlite.specs.Held.{Held, state}
 use Rattle.sqlite.specs.Clock.{timed}
 use Rattle.sqlite.proofs.Callers.{IsPlain, reads_as, unchanged_then}
-use Rattle.sqlite_keeper.specs.Tables.{keeper_schema}
-use Rattle.sqlite_keeper.specs.Contents.{Contents, contents_of, name_of, text_of, Rises, Stands}
-use Rattle.sqlite_keeper.specs.Queries.{ShowsText}
-use Rattle.sqlite_keeper.specs.Adopting.{IsVersion, version_name, version_one}
-use Rattle.sqlite_rules.proofs.ListLemmas.{has_at}
-use Rattle.std.specs.Str.{IsUtf8}
-use Rattle.std.proofs.lemmas.Str.{IsUtf8-from_ascii}
-use Rattle.sqlite_keeper.proofs.Texts.{get_text, get_is, get_plain, get_unlisted, get_filter, get_project}
-use Rattle.sqlite_keeper.proofs.Lists.{Shows, shows}
-use Rattle.sqlite_keeper.proofs.Maps.{text_total, text_same, get_found, get_missing}
-use Rattle.sqlite_keeper.proofs.RowRules.{named_typed, named_once, Rules, same_texts, texts_same}
+use Rattle.store_tables.specs.Named.{TellsText, TellsNames, get_text, get_filter, get_project, names_text}
+use Rattle.store_tables.specs.Texts.{select, query_of, by}
+use Rattle.sqlite.specs.Term.{col}
+use Rattle.std.specs.Prelude.{codes}
+use Rattle.store_tables.proofs.NamedGet.{text_asked, names_asked}
+use Rattle.store_tables.proofs.WithinLemmas.{same_command}
+use Rattle.budget_ports.specs.Contents.{records_after}
+use Rattle.budget_ports.specs.declared.keeper.Record.{Record}
+use Rattle.sqlite_keeper.specs.Contents.{Contents, contents_of, contents_now}
+use Rattle.sqlite_keeper.specs.Queries.{ShowsText, HasTexts}
+use Rattle.sqlite_keeper.specs.Adopting.{IsVersion, version_name, version_one, version_two}
+use Rattle.sqlite_keeper.proofs.Kept.{rules_as}
+use Rattle.sqlite_keeper.proofs.Calls.{not_run}
 
-pub shown_by_get : (old new : State) (name : List ℕ) (rows : List Row) → old.now.schema ≡ keeper_schema → Shown get_text (Text name ∷ []) old new rows
-    → Shows old.now.trees 2 get_filter get_project (Text name ∷ []) rows
-shown_by_get old new name rows has h =
-    let all = shows 2 get_filter get_project [] (overlay old.now.trees []) (Text name ∷ []) rows ((reads_as get_text (Text name ∷ []) old new keeper_schema has _ get_is get_plain get_unlisted rows h).answer Null) in
-    record { sound = all.sound; complete = all.complete }
+module _ (old new : State) (t : HasTexts old.now) where
+  pub shows_text : (name : List ℕ) (rows : List Row) → Shown get_text (Text name ∷ []) old new rows → ShowsText (contents_of old.now.trees) name rows
+  shows_text name rows shown =
+      let read = reads_as get_text (Text name ∷ []) old new t.spot.schema t.schema _ (same_command (understood t.spot.schema get_text) ∙ t.texts.get_is) t.texts.get_plain t.texts.get_unlisted rows shown in
+      subst (λ m. TellsText m name rows) (sym t.told)
+      (text_asked t.spot t.is old.now.trees (rules_as t.spot.schema old.now t.schema t.sound) t.rises name rows
+      (subst (λ s. Reads (select (query_of t.spot.tree get_filter get_project []) (codes "body" ∷ [])) (record { schema = s; trees = old.now.trees }) (Text name ∷ []) rows) t.schema read))
 
-module _ (db : Trees) (name : List ℕ) (rules : Rules db) (rises : Rises (db 2)) where
-  passes : (r : Row) → Has (db 2) r → name_of r ≡ name → list_all (holds ((Text name ∷ []) ∷ r ∷ [])) get_filter ≡ true
-  passes r there same = and_from _ _ (rw ((named_typed db r rules there).0, same) (texts_same name)) refl
-
-  passed : (r : Row) → Has (db 2) r → list_all (holds ((Text name ∷ []) ∷ r ∷ [])) get_filter ≡ true → name_of r ≡ name
-  passed r there h =
-      let k : is_true (binary (Compare Eq Binary) (column r 1) (Text name)) ≡ true = (and_parts _ _ h).0 in
-      same_texts _ _ (rw (named_typed db r rules there).0 at k)
-
-  pub got_none : Shows db 2 get_filter get_project (Text name ∷ []) [] → get (contents_of db).texts name ≡ None
-  got_none h = get_missing text_total text_same name_of text_of (db 2) name (λ r there same. h.complete r there (passes r there same))
-
-  pub got_some : (rows : List Row) (x : Row) → Has rows x → Shows db 2 get_filter get_project (Text name ∷ []) rows → (column x 0 ≡ Text (bytes (column x 0))) × (get (contents_of db).texts name ≡ Some (bytes (column x 0)))
-  got_some rows x at h =
-      let r = h.sound x at in
-      let named = passed r.0 r.1 r.2 in
-      let shown : column x 0 ≡ column r.0 2 = ap (λ (z : Row). column z 0) r.3 in
-      let texts : get (contents_of db).texts name ≡ Some (bytes (column x 0)) = subst (λ n. get (contents_of db).texts n ≡ Some (bytes (column x 0))) named
-      (get_found text_total text_same name_of text_of (db 2) r.0 r.1 (λ y there same. ap text_of (named_once db rules rises y r.0 there r.1 same)) ∙ ap (λ v. Some (bytes v)) (sym shown)) in
-      (shown ∙ (named_typed db r.0 rules r.1).1 ∙ ap (λ v. Text (bytes v)) (sym shown), texts)
+  pub shows_names : (rows : List Row) → Shown names_text [] old new rows → TellsNames (contents_of old.now.trees).texts rows
+  shows_names rows shown =
+      let read = reads_as names_text [] old new t.spot.schema t.schema _ (same_command (understood t.spot.schema names_text) ∙ t.texts.names_is) t.texts.names_plain t.texts.names_unlisted rows shown in
+      subst (λ m. TellsNames m rows) (sym t.told)
+      (names_asked t.spot t.is old.now.trees (rules_as t.spot.schema old.now t.schema t.sound) t.rises rows
+      (subst (λ s. Reads (select (query_of t.spot.tree [] (col 1 1 ∷ []) (by 1 ∷ [])) (codes "name" ∷ [])) (record { schema = s; trees = old.now.trees }) [] rows) t.schema read))
 
 -- a query that is plain changes nothing
 pub shown_unchanged : (sql : List ℕ) (params : Row) (old new : State) (rows : List Row) → IsPlain (understood old.now.schema sql) → Shown sql params old new rows → IsUnchanged old new
@@ -76,14 +58,6 @@ query_err sql params old new e plain (inr h) =
     let none = (subst IsPlain h.1.is plain).0 in
     inl (subst (FailsToShow old new sql h.0 (timed params h.0.formats h.1.now) e) none h.2).3
 
-pub shows_text : (old new : State) (name : List ℕ) (rows : List Row) → old.now.schema ≡ keeper_schema → Rules old.now.trees → Rises (old.now.trees 2) → Shown get_text (Text name ∷ []) old new rows → ShowsText (contents_of old.now.trees) name rows
-shows_text old new name rows has rules rises shown =
-    let all = shown_by_get old new name rows has shown in
-    record {
-      none = λ is. got_none old.now.trees name rules rises (subst (Shows old.now.trees 2 get_filter get_project (Text name ∷ [])) is all);
-      some = λ x there. got_some old.now.trees name rules rises rows x there all;
-    }
-
 -- what a query shows after a call that changed nothing it shows before it
 pub shown_before : (sql : List ℕ) (params : Row) (old mid new : State) (rows : List Row) → IsPlain (understood mid.now.schema sql) → IsUnchanged old mid → Shown sql params mid new rows → Shown sql params old new rows
 unfolding Shown
@@ -97,11 +71,11 @@ shown_before sql params old mid new rows plain same h =
       subst (ShowsRows old new sql h.0 full rows) (sym none) (it.0, subst (λ (d : Database). IsSourceOf (reads_listing d.schema sql) d it.0) now it.1, it.2, unchanged_then old mid new same it.3),
     )
 
-pub shown_first : {S T E : Type 0} (g : Ghosts S) (old mid new : Held S) (sql : List ℕ) (params : Row) (items : T → List Row) (r : Result T E) → Stands g old → IsPlain (understood mid.schema sql) → IsUnchanged (state g old) (state g mid)
-    → IfOk r (λ rows. IsDatabase (state g mid).now × Shown sql params (state g mid) (state g new) (items rows))
-    → IfOk r (λ rows. Stands g old × IsDatabase (state g old).now × Shown sql params (state g old) (state g new) (items rows))
-shown_first g old mid new sql params items (Ok rows) stood plain same h = (stood, subst IsDatabase same.0.now_is h.0, shown_before sql params (state g old) (state g mid) (state g new) (items rows) plain same h.1)
-shown_first g old mid new sql params items (Err e) stood plain same h = tt
+pub shown_first : {S T E : Type 0} (g : Ghosts S) (old mid new : Held S) (sql : List ℕ) (params : Row) (items : T → List Row) (r : Result T E) → IsPlain (understood mid.schema sql) → IsUnchanged (state g old) (state g mid)
+    → IfOk r (λ rows. Shown sql params (state g mid) (state g new) (items rows))
+    → IfOk r (λ rows. IsTrue (state g old).is_open × Shown sql params (state g old) (state g new) (items rows))
+shown_first g old mid new sql params items (Ok rows) plain same h = (same.0.was_open, shown_before sql params (state g old) (state g mid) (state g new) (items rows) plain same h)
+shown_first g old mid new sql params items (Err e) plain same h = tt
 
 -- what is told of the rows is told of the answer
 pub text_is : {E : Type 0} (r : Result (Option (List ℕ)) E) (k : Contents) (name : List ℕ) (rows : List Row) → IfOk r (λ o. (k : Contents) (name : List ℕ) → ShowsText k name rows → o ≡ get k.texts name) → ShowsText k name rows → IfOk r (λ o. o ≡ get k.texts name)
@@ -119,7 +93,6 @@ version_is (Err e) k rows h shows = tt
 -- a row whose value is read as no text does not show this version
 pub unreadable : (k : Contents) (rows : List Row) (row : Row) (t : List ℕ) → 1 ≤ length rows → row ≡ slice_index_or rows 0 row → t ≡ [] → (0 < length row → (b : List ℕ) × (column row 0 ≡ Text b) × IsUtf8 b → ⊥) → ShowsText k version_name rows → IsVersion k t
 unreadable k rows row t some is empty never shows =
-    let at = shows.some row (has_at rows 0 row (omega arith) is) in
     record {
       is = inr (
         empty,
@@ -128,16 +101,37 @@ unreadable k rows row t some is empty never shows =
             let one : bytes (column row 0) ≡ b = cc in
             never (some_column row _ at.0) (b, at.0 ∙ ap Text one, utf8),
       );
-      other = λ not_one has.
-          let same : ◌≡◌ {A = Option (List ℕ)} (Some (bytes (column row 0))) (Some version_one) = sym at.1 ∙ has in
-          let one : bytes (column row 0) ≡ version_one = cc in
-          never (some_column row _ at.0) (version_one, at.0 ∙ ap Text one, IsUtf8-from_ascii version_one low);
+      not_one = other version_one low_one;
+      not_two = other version_two low_two;
     }
   where
-    low : (i : ℕ) → slice_index version_one i < 128
-    low zero = omega arith
-    low (suc i) = omega arith
+    low_one : (i : ℕ) → slice_index version_one i < 128
+    low_one zero = omega arith
+    low_one (suc i) = omega arith
+
+    low_two : (i : ℕ) → slice_index version_two i < 128
+    low_two zero = omega arith
+    low_two (suc i) = omega arith
 
     some_column : (r : Row) (b : List ℕ) → column r 0 ≡ Text b → 0 < length r
     some_column [] b h = absurd (let e = h in cc)
     some_column (v ∷ r) b h = omega arith
+
+    at : (column row 0 ≡ Text (bytes (column row 0))) × (get k.texts version_name ≡ Some (bytes (column row 0)))
+    at = shows.some row (has_at rows 0 row (omega arith) is)
+
+    other : (v : List ℕ) → ((i : ℕ) → slice_index v i < 128) → (t ≡ v → ⊥) → get k.texts version_name ≡ Some v → ⊥
+    other v low not has =
+        let same : ◌≡◌ {A = Option (List ℕ)} (Some (bytes (column row 0))) (Some v) = sym at.1 ∙ has in
+        let one : bytes (column row 0) ≡ v = cc in
+        never (some_column row _ at.0) (v, at.0 ∙ ap Text one, IsUtf8-from_ascii v low)
+
+pub if_text : {X E P : Type 0} (r : Result X E) → P → OnOk r P
+if_text (Ok x) p = p
+if_text (Err e) p = tt
+
+-- what was told of a group after a call that changed nothing was so before it
+pub told_before : {S E : Type 0} (g : Ghosts S) (old mid : Held S) (r : Result (List Record) E) (group after : List ℕ) → (state g mid).now ≡ (state g old).now
+    → IfOk r (λ rs. rs ≡ records_after (contents_now g mid) group after) → IfOk r (λ rs. rs ≡ records_after (contents_now g old) group after)
+told_before g old mid (Ok rs) group after same h = h ∙ ap (λ (d : Database). records_after (contents_of d.trees) group after) same
+told_before g old mid (Err e) group after same h = tt

@@ -13,14 +13,17 @@ use Rattle.sqlite_catalog.proofs.LayoutLemmas.{laid_out, objects_rise}
 use Rattle.sqlite.specs.Store.{Ghosts}
 use Rattle.sqlite.specs.declared.error.ErrorCode.TheVariants as code
 use Rattle.sqlite.specs.declared.error.Error.{Error}
-use Rattle.sqlite.specs.declared.error.Error.TheVariants.{SqliteFailure}
+use Rattle.sqlite.specs.declared.error.Error.TheVariants.{SqliteFailure, SqlInputError}
 use Rattle.sqlite.specs.State.{store_error}
 use Rattle.sqlite.specs.Steps.{IsFresh, FailsToOpen}
 use Rattle.sqlite.specs.Held.{Held}
-use Rattle.sqlite_keeper.specs.Taking.{IsOther, IsLetGo, told_as}
+use Rattle.sqlite_keeper.specs.Taking.{IsOther, IsForeign, IsLost, HasCause, IsLetGo, opening_fault, told_as}
 use Rattle.sqlite_keeper.specs.declared.keeper.AdoptFault.{AdoptFault}
 use Rattle.sqlite_keeper.specs.declared.keeper.AdoptFault.TheVariants as adopt
-use Rattle.sqlite_keeper.specs.Tables.{keeper_schema}
+use Rattle.sqlite_trees.specs.declared.store.Shape.TheVariants as shape
+use Rattle.sqlite_rules.specs.Lists.{Has}
+use Rattle.sqlite_rules.proofs.ListLemmas.{all_has}
+use Rattle.sqlite_schema.specs.declared.schema.Table.{Table}
 use Rattle.sqlite_keeper.specs.Contents.{Rises}
 
 pub open_of : (v : View) → (v.is_open ≡ false → IsTrue v.is_broken) → v.is_broken ≡ false → IsTrue v.is_open
@@ -36,13 +39,12 @@ fresh old new law back numbered sound clean =
     let kept = back.kept clean in
     record { sound = sound; numbered = numbered; clean = (back.undone is_open).0 ∙ sym (kept.committed is_open); unmarked = kept.marks is_open }
 
-pub rows_rise : (v : View) (trees : Trees) (schema : Schema) → trees ≡ v.trees → IsListed (v.trees catalog_tree) v.shape v.reals → IsOrdered v.shape v.trees → AreListed (trees catalog_tree) schema → schema ≡ keeper_schema
-    → Rises (trees 0) × Rises (trees 2)
-rows_rise v trees schema same listed ordered are is =
-    let laid = laid_out listed (objects_rise v listed ordered) (subst (λ (t : Trees). AreListed (t catalog_tree) keeper_schema) same (subst (AreListed (trees catalog_tree)) is are)) in
-    let zero = subst (λ s. IsShaped s (v.trees 0)) laid.tables.0 (ordered 0) in
-    let two = subst (λ s. IsShaped s (v.trees 2)) laid.tables.1.0 (ordered 2) in
-    (subst (λ (t : Trees). Rises (t 0)) (sym same) (record { up = zero.0; ints = zero.1 }), subst (λ (t : Trees). Rises (t 2)) (sym same) (record { up = two.0; ints = two.1 }))
+pub rows_rise : (v : View) (trees : Trees) (schema : Schema) → trees ≡ v.trees → IsListed (v.trees catalog_tree) v.shape v.reals → IsOrdered v.shape v.trees → AreListed (trees catalog_tree) schema
+    → (t : Table) → Has schema.tables t → Rises (trees t.tree)
+rows_rise v trees schema same listed ordered are t has =
+    let laid = laid_out listed (objects_rise v listed ordered) (subst (λ (d : Trees). AreListed (d catalog_tree) schema) same are) in
+    let it = subst (λ s. IsShaped s (v.trees t.tree)) (all_has (λ (u : Table). v.shape u.tree ≡ shape.Table) schema.tables t laid.tables has) (ordered t.tree) in
+    subst (λ (d : Trees). Rises (d t.tree)) (sym same) (record { up = it.0; ints = it.1 })
 
 -- a store that is broken after it was rolled back was shut before, or the disk has failed meanwhile
 pub lost : {More : Type 0} (was is broken : Bool) → (IsTrue was → IsTrue is ⊎ More) → (IsTrue is → broken ≡ false) → IsTrue broken → (was ≡ false) ⊎ More
@@ -78,8 +80,21 @@ quiet_on g old mid new p q = record {
   outcomes = λ db left. p.outcomes db (q.outcomes db left);
 }
 
+-- a failure of SQLite tells want of memory, or that the store can't be opened
+has_cause : {S : Type 0} (g : Ghosts S) (old : Held S) (left : S) (e : Error) → IsLost g old left ⊎ IsForeign g old → HasCause g old left (opening_fault e)
+has_cause g old left (SqliteFailure code.OutOfMemory) why = tt
+has_cause g old left (SqliteFailure code.CannotOpen) why = why
+has_cause g old left (SqliteFailure code.DatabaseBusy) why = why
+has_cause g old left (SqliteFailure code.NotADatabase) why = why
+has_cause g old left (SqliteFailure code.NameTaken) why = why
+has_cause g old left (SqliteFailure code.DatabaseCorrupt) why = why
+has_cause g old left (SqliteFailure code.DiskFull) why = why
+has_cause g old left (SqlInputError _) why = why
+has_cause g old left _ why = why
+
 -- a store that was not taken is let go for its fault
 pub let_go_as : {S : Type 0} (g : Ghosts S) (old : Held S) (left : S) (fault : AdoptFault) → doubt (g.view old.store).is_clean ≤ doubt (g.view left).is_clean
-    → (IsClean (g.view left) → (found : List ℕ) → fault ≡ adopt.Version found → IsOther g old found) → IsLetGo g old left (told_as fault)
-let_go_as g old left (adopt.Version found) less other = record { clean = less; cause = λ clean. other clean found refl }
-let_go_as g old left adopt.NoMemory less other = record { clean = less; cause = λ clean. tt }
+    → (IsClean (g.view left) → (found : List ℕ) → fault ≡ adopt.Version found → IsOther g old found) → (IsClean (g.view left) → (e : Error) → fault ≡ adopt.Refused e → IsForeign g old) → IsLetGo g old left (told_as fault)
+let_go_as g old left (adopt.Version found) less other foreign = record { clean = less; cause = λ clean. other clean found refl }
+let_go_as g old left (adopt.Refused e) less other foreign = record { clean = less; cause = λ clean. has_cause g old left e (inr (foreign clean e refl)) }
+let_go_as g old left adopt.NoMemory less other foreign = record { clean = less; cause = λ clean. tt }

@@ -1,5 +1,12 @@
--- A list of objects is that of one schema: where it is the keeper's, each schema that it lists is.
-use Rattle.std.proofs.Common.{◌≡◌, ℕ, zero, suc, ◌+◌, pos, List, [], ◌∷◌, filter, slice_get, slice_index, Some, codes, inl, inr, refl, sym, ap, subst, ◌∙◌, arith}
+-- A list of objects is that of one schema.
+use Rattle.std.proofs.Common.{map, true, false, true≢false, ◌≡◌, ℕ, zero, suc, ◌+◌, pos, List, [], ◌∷◌, filter, slice_get, Some, inl, inr, refl, sym, ap, subst, ◌∙◌, arith}
+use Rattle.std.specs.Char.{to_ascii_lowercase}
+use Rattle.std.specs.Ordering.{is_eq}
+use Rattle.std.proofs.lemmas.Cmp.{tied_itself}
+use Rattle.budget_ports.proofs.Places.{text_total}
+use Rattle.sqlite_trees.specs.Tree.{IsAscending}
+use Rattle.sqlite_schema.specs.Names.{same_name}
+use Rattle.sqlite_rules.proofs.ListLemmas.{all_has}
 use Rattle.std.specs.List.{AllZip}
 use Rattle.sqlite_value.specs.declared.value.Value.{Value}
 use Rattle.sqlite_value.specs.declared.value.Value.TheVariants.{Null, Int, Real, Text, Blob}
@@ -9,8 +16,8 @@ use Rattle.sqlite_rules.specs.Lists.{Has}
 use Rattle.sqlite.specs.Table.{Table}
 use Rattle.sqlite_schema.specs.declared.schema.Index.{Index}
 use Rattle.sqlite.specs.Schema.{Schema}
-use Rattle.sqlite_catalog.specs.Listing.{AreListed, IsTableRow, IsIndexRow, IsViewRow, IsDefined, automatic, is_index_row}
-use Rattle.sqlite_keeper.specs.Tables.{keeper_schema, no_schema}
+use Rattle.sqlite_catalog.specs.Listing.{AreListed, IsTableRow, IsIndexRow, IsViewRow, IsDefined, automatic, is_index_row, is_view_row}
+use Rattle.sqlite_keeper.specs.Tables.{AreSingle, IsSingle, IsSimple, no_schema}
 
 zip_same : {X Y : Type 0} (P : X → Y → Type 0) → ((x : X) (y z : Y) → P x y → P x z → y ≡ z) → (xs : List X) (ys zs : List Y) → AllZip P xs ys → AllZip P xs zs → ys ≡ zs
 zip_same P same [] [] [] p q = refl
@@ -41,52 +48,51 @@ one_table r t u p q =
     let tree = same_tree (rowid r) t.tree u.tree p.described.id q.described.id in
     p.defined.2 ∙ (λ i. record (made i) { tree = tree i }) ∙ sym q.defined.2
 
-apart : {P : Type 0} → codes "items" ≡ codes "named" → P
-apart e = let h : ◌≡◌ {A = ℕ} 105 110 = ap (λ l. slice_index l 0) e in absurd (omega arith)
+same_self : (name : List ℕ) → same_name name name ≡ true
+unfolding same_name
+same_self name = ap is_eq (tied_itself text_total (map to_ascii_lowercase name))
 
--- of the keeper's two tables the name tells which
-which : (t u : Table) → Has keeper_schema.tables t → Has keeper_schema.tables u → t.name ≡ u.name → t ≡ u
-which t u (inl a) (inl b) same = a ∙ sym b
-which t u (inl a) (inr (inl b)) same = apart (sym (ap (λ (t : Table). t.name) a) ∙ same ∙ ap (λ (t : Table). t.name) b)
-which t u (inl a) (inr (inr never)) same = absurd never
-which t u (inr (inl a)) (inl b) same = apart (sym (sym (ap (λ (t : Table). t.name) a) ∙ same ∙ ap (λ (t : Table). t.name) b))
-which t u (inr (inl a)) (inr (inl b)) same = a ∙ sym b
-which t u (inr (inl a)) (inr (inr never)) same = absurd never
-which t u (inr (inr never)) b same = absurd never
+unlike : (s t : Table) → same_name s.name t.name ≡ false → s.name ≡ t.name → ⊥
+unlike s t apart same = true≢false (sym (same_self s.name) ∙ ap (same_name s.name) same ∙ apart)
 
-first_alone : {X : Type 0} (x y : X) (at : ℕ) → slice_get (x ∷ []) at ≡ Some y → (at ≡ 0) × (x ≡ y)
-first_alone x y zero h = (refl, cc)
-first_alone x y (suc at) h = absurd cc
+-- two tables of one name are one
+same_named : (ts : List Table) → IsAscending (λ s t. same_name s.name t.name ≡ false) ts → (t u : Table) → Has ts t → Has ts u → t.name ≡ u.name → t ≡ u
+same_named [] apart t u p q same = absurd p
+same_named (x ∷ ts) apart t u (inl a) (inl b) same = a ∙ sym b
+same_named (x ∷ ts) apart t u (inl a) (inr q) same = absurd (unlike x u (all_has (λ y. same_name x.name y.name ≡ false) ts u apart.0 q) (sym (ap (λ (t : Table). t.name) a) ∙ same))
+same_named (x ∷ ts) apart t u (inr p) (inl b) same = absurd (unlike x t (all_has (λ y. same_name x.name y.name ≡ false) ts t apart.0 p) (sym (same ∙ ap (λ (t : Table). t.name) b)))
+same_named (x ∷ ts) apart t u (inr p) (inr q) same = same_named ts apart.1 t u p q same
 
-key_alone : (t : Table) → Has keeper_schema.tables t → (at : ℕ) (key : List ℕ) → slice_get t.uniques at ≡ Some key → (at ≡ 0) × (t.primary ≡ key)
-key_alone t (inl is) at key h = subst (λ (t : Table). slice_get t.uniques at ≡ Some key → (at ≡ 0) × (t.primary ≡ key)) (sym is) (first_alone (1 ∷ 2 ∷ []) key at) h
-key_alone t (inr (inl is)) at key h = subst (λ (t : Table). slice_get t.uniques at ≡ Some key → (at ≡ 0) × (t.primary ≡ key)) (sym is) (first_alone (1 ∷ []) key at) h
-key_alone t (inr (inr never)) at key h = absurd never
+first_alone : (keys : List (List ℕ)) → IsSingle keys → (at bt : ℕ) (k l : List ℕ) → slice_get keys at ≡ Some k → slice_get keys bt ≡ Some l → (at ≡ bt) × (k ≡ l)
+first_alone [] single at bt k l p q = absurd cc
+first_alone (x ∷ []) single zero zero k l p q = (refl, cc)
+first_alone (x ∷ []) single zero (suc bt) k l p q = absurd cc
+first_alone (x ∷ []) single (suc at) bt k l p q = absurd cc
+first_alone (x ∷ y ∷ more) single at bt k l p q = absurd single
 
-one_defined : (t : Table) (i j : Index) (sql : Value) → Has keeper_schema.tables t → i.tree ≡ j.tree → IsDefined t i sql → IsDefined t j sql → i ≡ j
-one_defined t i j Null listed tree p q =
-    let a = key_alone t listed p.0 p.1 p.2 in
-    let b = key_alone t listed q.0 q.1 q.2 in
-    p.3 ∙ (λ k. automatic t ((a.0 ∙ sym b.0) k) ((sym a.1 ∙ b.1) k) (tree k)) ∙ sym q.3
-one_defined t i j (Int n) listed tree p q = absurd p
-one_defined t i j (Real x) listed tree p q = absurd p
-one_defined t i j (Text sql) listed tree p q =
+one_defined : (t : Table) (i j : Index) (sql : Value) → IsSingle t.uniques → i.tree ≡ j.tree → IsDefined t i sql → IsDefined t j sql → i ≡ j
+one_defined t i j Null single tree p q =
+    let a = first_alone t.uniques single p.0 q.0 p.1 q.1 p.2 q.2 in
+    p.3 ∙ (λ k. automatic t (a.0 k) (a.1 k) (tree k)) ∙ sym q.3
+one_defined t i j (Int n) single tree p q = absurd p
+one_defined t i j (Real x) single tree p q = absurd p
+one_defined t i j (Text sql) single tree p q =
     let made : ◌≡◌ {A = Index} p.0 q.0 = (let e = sym p.1 ∙ q.1 in cc) in
     p.2 ∙ (λ k. record (made k) { tree = tree k; table = t.tree }) ∙ sym q.2
-one_defined t i j (Blob b) listed tree p q = absurd p
+one_defined t i j (Blob b) single tree p q = absurd p
 
-one_index : (r : Row) (i j : Index) → IsIndexRow keeper_schema.tables r i → IsIndexRow keeper_schema.tables r j → i ≡ j
-one_index r i j p q =
-    let table : p.table ≡ q.table = which p.table q.table p.listed q.listed (same_words (column r 3) p.table.name q.table.name p.described.owner_is q.described.owner_is) in
+one_index : (ts : List Table) → AreSingle ts → IsAscending (λ s t. same_name s.name t.name ≡ false) ts → (r : Row) (i j : Index) → IsIndexRow ts r i → IsIndexRow ts r j → i ≡ j
+one_index ts singles apart r i j p q =
+    let table : p.table ≡ q.table = same_named ts apart p.table q.table p.listed q.listed (same_words (column r 3) p.table.name q.table.name p.described.owner_is q.described.owner_is) in
     let tree = same_tree (rowid r) i.tree j.tree p.described.id q.described.id in
-    one_defined p.table i j (column r 4) p.listed tree p.defined (subst (λ (t : Table). IsDefined t j (column r 4)) (sym table) q.defined)
+    one_defined p.table i j (column r 4) (all_has (λ t. IsSingle t.uniques) ts p.table singles p.listed) tree p.defined (subst (λ (t : Table). IsDefined t j (column r 4)) (sym table) q.defined)
 
-pub relisted : (objects : List Row) (schema : Schema) → AreListed objects keeper_schema → AreListed objects schema → schema ≡ keeper_schema
-relisted objects schema ours are =
-    let tables : schema.tables ≡ keeper_schema.tables = zip_same IsTableRow one_table _ schema.tables keeper_schema.tables are.tables ours.tables in
-    let indexes : schema.indexes ≡ keeper_schema.indexes = zip_same (IsIndexRow keeper_schema.tables) one_index _ schema.indexes keeper_schema.indexes (subst (λ ts. AllZip (IsIndexRow ts) (filter is_index_row objects) schema.indexes) tables are.indexes) ours.indexes in
-    let views : schema.views ≡ [] = zip_none IsViewRow IsViewRow _ schema.views ours.views are.views in
-    λ k. record { tables = tables k; indexes = indexes k; views = views k }
+pub relisted : (objects : List Row) (listed schema : Schema) → IsSimple listed → AreListed objects listed → AreListed objects schema → schema ≡ listed
+relisted objects listed schema simple ours are =
+    let tables : schema.tables ≡ listed.tables = zip_same IsTableRow one_table _ schema.tables listed.tables are.tables ours.tables in
+    let indexes : schema.indexes ≡ listed.indexes = zip_same (IsIndexRow listed.tables) (one_index listed.tables simple.tables ours.named) _ schema.indexes listed.indexes (subst (λ ts. AllZip (IsIndexRow ts) (filter is_index_row objects) schema.indexes) tables are.indexes) ours.indexes in
+    let views : schema.views ≡ [] = zip_none IsViewRow IsViewRow _ schema.views (subst (λ vs. AllZip IsViewRow (filter is_view_row objects) vs) simple.views ours.views) are.views in
+    λ k. record { tables = tables k; indexes = indexes k; views = (views ∙ sym simple.views) k }
 
 -- and where nothing is listed, no schema that it lists has anything
 pub unlisted : (objects : List Row) (schema : Schema) → AreListed objects no_schema → AreListed objects schema → schema ≡ no_schema

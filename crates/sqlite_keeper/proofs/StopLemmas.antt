@@ -1,5 +1,5 @@
 -- Why a write within a transaction stops.
-use Rattle.std.proofs.Common.{◌≡◌, ◌⊎◌, ◌≤◌, ℕ, false, List, Option, Some, Ok, Err, None, inl, inr, sym, ap, subst, ◌∙◌, append-nil, length, IsTrue, IsSome, Result}
+use Rattle.std.proofs.Common.{arith, true≢false, true, ◌≡◌, ◌⊎◌, ◌≤◌, ℕ, false, List, Option, Some, Ok, Err, None, inl, inr, sym, ap, subst, ◌∙◌, append-nil, length, IsTrue, IsSome, Result}
 use Rattle.sqlite_value.specs.Order.{Row}
 use Rattle.sqlite_trees.specs.declared.error.StoreError.{StoreError}
 use Rattle.sqlite_trees.specs.declared.error.StoreError.TheVariants.{OutOfMemory, Io, Corrupt, Full, Broken, Unstorable}
@@ -11,12 +11,15 @@ use Rattle.sqlite_resolve.specs.declared.error.CompileError.{CompileError}
 use Rattle.sqlite.specs.declared.error.Error.{Error}
 use Rattle.sqlite.specs.Calls.{IsWrite}
 use Rattle.sqlite.specs.Does.{Does}
+use Rattle.sqlite.specs.Steps.{FailsToCommit}
+use Rattle.sqlite.specs.Store.{Ghosts}
+use Rattle.sqlite.specs.Held.{Held, state}
 use Rattle.sqlite.specs.Listing.{understood}
 use Rattle.sqlite.specs.State.{State, Fails, HasCause, store_error, IsNoStatement, IsNotRun, IsUnchanged, IsMisplaced, ExecutesIn, ExecutesInside, EndsScope, text_of, shows_rows}
 use Rattle.sqlite.specs.Clock.{timed}
 use Rattle.sqlite.proofs.Callers.{IsPlain, command_of, statement_of}
 use Rattle.sqlite_keeper.specs.Adopting.{IsReason}
-use Rattle.sqlite_keeper.proofs.PutLemmas.{mode}
+use Rattle.store_tables.specs.Grouped.{mode}
 
 -- the text has nothing behind it, has so many parameters, and shows no rows
 abbrev pub Acts : List ℕ → ℕ → Result Compiled CompileError → Type 0
@@ -90,3 +93,18 @@ module _ (sql : List ℕ) (params : Row) (old new : State) (e : Error) (schema :
         let ran_as : Ran None command sql params = subst (λ k. Ran None k sql params) (ap command_of (sym known_as) ∙ is) (subst (λ t. Ran None run.0.command t params) (ap (statement_of sql) (sym known_as) ∙ whole) ran_plain) in
         ran_reason small limited ran_as)
   ]
+
+-- a commit of an open transaction fails for a reason
+pub commit_reason : (old new : State) (e : Error) → IsTrue old.is_open → old.in_transaction ≡ true → FailsToCommit old new e → IsReason old new e
+commit_reason old new e is_open inside (inl h) = fails_reason ⊥ old new e is_open (λ never. never) h
+commit_reason old new e is_open inside (inr h) = absurd (true≢false (sym inside ∙ h.1))
+
+-- a reason stays one when more happens
+pub reason_on : (old mid new : State) (e : Error) → IsReason old mid e → mid.faults ≤ new.faults → IsReason old new e
+reason_on old mid new e (inl memory) less = inl memory
+reason_on old mid new e (inr (inl more)) less = inr (inl (omega (arith, more)))
+reason_on old mid new e (inr (inr limit)) less = inr (inr limit)
+
+-- a transaction begins with the faults and the limit of its connection
+pub reason_begun : {S : Type 0} (g : Ghosts S) (old tx new : Held S) (e : Error) → tx ≡ record old { in_transaction = true } → IsReason (state g tx) (state g new) e → IsReason (state g old) (state g new) e
+reason_begun {S = S} g old tx new e is h = subst (λ (h : Held S). IsReason (state g h) (state g new) e) is h

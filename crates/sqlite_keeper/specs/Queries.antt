@@ -1,28 +1,37 @@
 -- The queries of the keeper, and what their rows are.
-use Rattle.std.specs.Prelude.{◌≡◌, ◌⊎◌, ◌≤◌, IsTrue, Err, ℕ, Bool, true, false, List, [], ◌∷◌, map, None, Some}
+use Rattle.std.specs.Prelude.{◌≡◌, ◌⊎◌, ◌≤◌, IsTrue, Result, Ok, Err, length, ℕ, Bool, true, false, List, [], ◌∷◌, map}
 use Rattle.std.specs.List.{AllByRecursion}
 use Rattle.std.specs.Ordering.{is_lt}
 use Rattle.std.specs.declared.cmp.Ordering.TheVariants.{Less}
-use Rattle.std.specs.FinMap.{get}
 use Rattle.sqlite_disk.specs.Disk.{MoreFaults}
 use Rattle.sqlite_value.specs.Order.{Row, column, bytes}
-use Rattle.sqlite_value.specs.declared.value.Value.TheVariants.{Text}
 use Rattle.sqlite_trees.specs.Tree.{Trees}
 use Rattle.sqlite_schema.specs.declared.schema.Schema.{Schema}
 use Rattle.sqlite_resolve.specs.declared.error.CompileError.{CompileError}
 use Rattle.sqlite.specs.Store.{Ghosts}
-use Rattle.sqlite.specs.State.{IsUnchanged, IsRolledBack}
+use Rattle.sqlite.specs.State.{HasCleanDisk, IsUnchanged, IsRolledBack}
+use Rattle.sqlite.specs.Effect.{Database, IsDatabase}
 use Rattle.sqlite.specs.Held.{Held, state}
-use Rattle.sqlite_rules.specs.Lists.{Has}
 use Rattle.sqlite.specs.Given.{IsPlain}
 use Rattle.sqlite.specs.Listing.{understood, reads_listing}
 use Rattle.budget_ports.specs.declared.keeper.Record.{Record}
-use Rattle.sqlite_keeper.specs.Contents.{Contents, Text as Bytes, text_cmp}
-use Rattle.sqlite_keeper.specs.Tables.{keeper_schema}
+use Rattle.sqlite_typing.specs.Types.{accepts_program}
+use Rattle.sqlite_resolve.specs.declared.compiled.Compiled.{Compiled}
+use Rattle.store_tables.specs.Named.{NamedAt, IsNamed, NamedTexts, TellsText, texts_in, get_text, get_filter, get_project}
+use Rattle.store_tables.specs.Texts.{query_of}
+use Rattle.sqlite_keeper.specs.Adopting.{version_row}
+use Rattle.store_tables.specs.Texts.{Tables}
+use Rattle.store_tables.specs.Since.{FindsGroup}
+use Rattle.sqlite_keeper.specs.Contents.{Contents, Text as Bytes, text_cmp, Rises, Rests, IsKept, contents_of}
 
--- over the keeper's tables the text is a statement without RETURNING, which reads neither the time nor the list of the tables
-abbrev pub IsQuery : List ℕ → Type 0
-IsQuery sql = IsPlain (understood keeper_schema sql) × (reads_listing keeper_schema sql ≡ false)
+-- over these tables the text is a statement without RETURNING, which reads neither the time nor the list of the tables
+pub record IsQuery (schema : Schema) (sql : List ℕ) : Type 0 where
+  pub is_plain : IsPlain (understood schema sql)
+  pub unlisted : reads_listing schema sql ≡ false
+
+-- while the connection is open and clean, nothing is pending, and the text is a query over its tables
+abbrev pub MayAsk : {S : Type 0} → Ghosts S → List ℕ → Held S → Type 0
+MayAsk g sql h = HasCleanDisk (state g h) → IsTrue (state g h).is_open → Rests g h × IsQuery h.schema sql
 
 -- over these tables the text is no statement
 abbrev pub IsUnread : Schema → List ℕ → Type 0
@@ -36,10 +45,34 @@ pub record LeavesAll {S : Type 0} (g : Ghosts S) (old new : Held S) : Type 0 whe
   pub limit : (state g new).step_limit ≡ (state g old).step_limit
   pub closes : IsTrue (state g old).is_open → IsTrue (state g new).is_open ⊎ MoreFaults (state g old).faults (state g new).faults
 
+-- the text has nothing behind it, and takes one value
+abbrev pub TakesOne : List ℕ → Result Compiled CompileError → Type 0
+TakesOne sql (Ok c) = (length sql ≤ c.tail) × (length c.names ≡ 1)
+TakesOne sql (Err e) = ⊥
+
+-- the text that asks for the version is a query of one value, which the table has the type for
+pub record AsksVersion (spot : NamedAt) : Type 0 where
+  pub takes : TakesOne get_text (understood spot.schema get_text)
+  pub typed : accepts_program spot.schema [] (query_of spot.tree get_filter get_project []) version_row ≡ true
+
+-- the table of texts is there, of whichever version the store is
+pub record HasTexts (d : Database) : Type 0 where
+  pub spot : NamedAt
+  pub is : IsNamed spot
+  pub texts : NamedTexts spot
+  pub asks : AsksVersion spot
+  pub schema : d.schema ≡ spot.schema
+  pub sound : IsDatabase d
+  pub rises : Rises (d.trees spot.tree)
+  pub told : (contents_of d.trees).texts ≡ texts_in (d.trees spot.tree)
+
+-- while the connection is open and clean, nothing is pending, and there is a table of texts
+abbrev pub HasWords : {S : Type 0} → Ghosts S → Held S → Type 0
+HasWords g h = HasCleanDisk (state g h) → IsTrue (state g h).is_open → Rests g h × HasTexts (state g h).now
+
 -- rows that show the text of a name
-pub record ShowsText (k : Contents) (name : Bytes) (rows : List Row) : Type 0 where
-  pub none : rows ≡ [] → get k.texts name ≡ None
-  pub some : (x : Row) → Has rows x → (column x 0 ≡ Text (bytes (column x 0))) × (get k.texts name ≡ Some (bytes (column x 0)))
+abbrev pub ShowsText : Contents → Bytes → List Row → Type 0
+ShowsText k name rows = TellsText k.texts name rows
 
 -- the record that a row shows
 abbrev pub record_in : Row → Record
@@ -68,3 +101,9 @@ is_next (n ∷ more) name = is_lt (text_cmp (last_name (n ∷ more)) name)
 abbrev pub Climb : List Bytes → Type 0
 Climb [] = Unit {0}
 Climb (n ∷ more) = AllByRecursion (λ m. text_cmp n m ≡ Less) more × Climb more
+
+-- nothing is pending over these tables, and the rows show the id of the group with this name, or none where no group has it
+pub record Finds (t : Tables) {S : Type 0} (g : Ghosts S) (h : Held S) (group : Bytes) (rows : List Row) : Type 0 where
+  pub rests : Rests g h
+  pub kept : IsKept t (state g h).now
+  pub found : FindsGroup ((state g h).now.trees t.grps_tree) group rows

@@ -1,5 +1,5 @@
 //! The keeper over a connection.
-ghost use Rattle.std.specs.Prelude.{◌≡◌, ◌≢◌, ◌≤◌, ◌⊎◌, true, false, if◌then◌else◌, Some, Result, Err, IsTrue, IsErrOf, IfOk, IfErr, OnOk, OnErr};
+ghost use Rattle.std.specs.Prelude.{◌≡◌, ◌≤◌, true, false, if◌then◌else◌, Result, Err, IsTrue, IsErrOf, IfOk, IfErr, OnOk, OnErr};
 ghost use Rattle.std.specs.FinMap.{get, keys};
 ghost use Rattle.sqlite.specs.State.{HasCleanDisk};
 ghost use Rattle.sqlite.specs.Held.{state};
@@ -8,13 +8,14 @@ ghost use Rattle.budget_ports.specs.Faults.{count_after};
 ghost use Rattle.budget_ports.specs.Keeper.{has_failed, Commits, IsAlone, IsKnown, LeavesNoMore, Rise, HaveKeys};
 ghost use Rattle.budget_ports.specs.Contents.{records_after, appended, with_text};
 ghost use Rattle.budget_ports.specs.declared.keeper.PortFault.TheVariants.{Failed as HasFailed};
-ghost use Rattle.sqlite_keeper.specs.Contents.{contents_now};
+ghost use Rattle.sqlite_keeper.specs.Contents.{Contents, Sound, contents_now};
 ghost use Rattle.sqlite_keeper.specs.Keeping.{TellsAll, MayBeLeft};
-ghost use Rattle.sqlite_keeper.specs.Tables.{keeper_schema, no_schema};
-ghost use Rattle.sqlite_keeper.specs.Adopting.{IsInOrder, IsNew, TellsVersion, IsToTake, HasReason, LeavesOrMakes, LeavesOrBegins, new_contents, version_name, version_one};
+ghost use Rattle.sqlite_keeper.specs.Adopting.{IsInOrder, MayBecome, HasReason, IsStopped, LeavesOr};
+ghost use Rattle.sqlite_keeper.specs.Adopted.{IsTaken, IsGivenBack};
 
-use crate::adopting::{is_memory, make, try_version};
-use crate::layout::{is_blank, is_ours};
+use crate::adopting::{is_memory, try_version};
+use crate::layout::{is_blank, is_first, is_ours};
+use crate::making::make;
 use crate::reading::{try_get, try_names, try_since};
 use crate::writing::{try_append, try_put};
 use budget_ports::{Keeper, PortFault, Record};
@@ -23,7 +24,7 @@ use sqlite::{Alter, Connection, Error};
 use std::alloc::Global;
 use std::marker::Model;
 
-/// A keeper over a connection to a store with the keeper's two tables.
+/// A keeper over a connection to a store with the keeper's tables.
 ///
 /// It tells its contents while it is not shut, its tables are the keeper's alone, and the connection
 /// is open over a disk that has returned what was written. A shut keeper tells nothing and
@@ -70,6 +71,11 @@ pub enum AdoptFault {
         /// The text `version` of the store.
         found: Txt,
     },
+    /// It has other tables, and with them it refuses what makes it a store of this version.
+    Refused {
+        /// Why the statement was refused.
+        error: Error,
+    },
     /// There was not enough memory.
     NoMemory,
 }
@@ -84,56 +90,42 @@ pub struct Unadopted<S: Alter> {
 }
 
 impl<S: Alter> SqliteKeeper<S> {
-    /// Takes a store: one of this version as it is, and where it has no tables it makes them.
+    /// Takes a store: one of this version as it is, one of the version before as one of this, and where it has no tables it makes them.
     ///
-    /// The first statement asks for the text `version`. Where it is `1` the store is taken, and
-    /// where it is another, or there is none, the fault tells it. Where the connection refuses the
-    /// statement and the store lacks the keeper's tables, they and the version are made in one
-    /// commit. Where it has them, or the making is refused as well, the keeper is shut, its count
-    /// is 1, and the contents are as before while the connection is open. Want of memory is a fault
-    /// instead.
+    /// The first statement asks for the text `version`. Where it is `2` the store is taken. Where it is `1`, one commit makes the
+    /// tables of this version, copies each record, empties the table of the version before and puts `2`. Where the text is another,
+    /// or there is none, the fault tells it. Where the connection refuses the statement and the store lacks the tables of both
+    /// versions, those of this one and the text `version` are made in one commit. Where it has them, or what is to be made is refused
+    /// as well, the keeper is shut, its count is 1, and the contents are as before while the connection is open. A refusal over tables
+    /// of no version is a fault instead, and so is want of memory.
     ///
-    /// Over an open connection to a store of this layout, or to one where nothing is listed, a
-    /// keeper is shut only if the disk failed or returned something else, or a limit was set on the
-    /// steps of a query. What `in_order` gives is what `ordered` asks.
+    /// Over an open connection to a store of this version, or to one where nothing is listed, a keeper is shut only if the disk failed
+    /// or returned something else, a limit was set on the steps of a query, or the store tells the version before. What `in_order`
+    /// gives is what `ordered` asks.
     pub fn adopt(alloc: Global, connection: Connection<S>) -> Result<SqliteKeeper<S>, Unadopted<S>>
         requires idle { connection.in_transaction ≡ false }
         requires ordered { IsInOrder S.Store connection }
-        ensures count { IfOk result (λ k. k.faults ≡ (if k.is_shut then 1 else 0)) }
-        ensures kept { IfOk result (λ k. connection.schema ≡ keeper_schema → k.is_shut ≡ false → HasCleanDisk (state S.Store k.conn) → TellsAll S.Store k × (contents_now S.Store k.conn ≡ contents_now S.Store connection) × (get (contents_now S.Store connection).texts version_name ≡ Some version_one)) }
-        ensures made { IfOk result (λ k. connection.schema ≡ no_schema → k.is_shut ≡ false → HasCleanDisk (state S.Store k.conn) → TellsAll S.Store k × (contents_now S.Store k.conn ≡ new_contents)) }
-        ensures alone { IfOk result (λ k. IsAlone (TellsAll S.Store k) (contents_now S.Store k.conn) (MayBeLeft S.Store k)) }
-        ensures ours { IfOk result (λ k. k.is_ours ≡ true → (connection.schema ≡ keeper_schema) ⊎ (connection.schema ≡ no_schema)) }
-        ensures clean { IfOk result (λ k. doubt (state S.Store connection).is_clean ≤ doubt (state S.Store k.conn).is_clean) }
-        ensures version { IfErr result (λ u. connection.schema ≡ keeper_schema → HasCleanDisk (state S.Store u.connection) → TellsVersion (contents_now S.Store connection) u.fault) }
-        ensures new { IfErr result (λ u. connection.schema ≡ no_schema → HasCleanDisk (state S.Store u.connection) → u.fault ≡ AdoptFault.NoMemory) }
-        ensures reason { IfOk result (λ k. k.is_shut ≡ true → (connection.schema ≡ keeper_schema) ⊎ (connection.schema ≡ no_schema) → IsTrue (state S.Store connection).is_open → HasCleanDisk (state S.Store k.conn) → HasReason (state S.Store connection) (state S.Store k.conn)) }
-        ensures opened { IfOk result (λ k. k.is_shut ≡ false → (connection.schema ≡ keeper_schema) ⊎ (connection.schema ≡ no_schema) → HasCleanDisk (state S.Store k.conn) → IsTrue (state S.Store connection).is_open) }
-        ensures told { IfErr result (λ u. u.fault ≢ AdoptFault.NoMemory → connection.schema ≡ keeper_schema → HasCleanDisk (state S.Store u.connection) → IsTrue (state S.Store connection).is_open) }
-        ensures shut { IfOk result (λ k. k.is_shut ≡ true → (connection.schema ≡ keeper_schema) ⊎ (connection.schema ≡ no_schema) → HasCleanDisk (state S.Store k.conn) → IsTrue (state S.Store k.conn).is_open → contents_now S.Store k.conn ≡ contents_now S.Store connection) }
-        ensures left { IfOk result (λ k. IsToTake S.Store connection k.conn → HasCleanDisk (state S.Store k.conn) → LeavesOrBegins S.Store connection k.conn) }
-        ensures left_back { IfErr result (λ u. IsToTake S.Store connection u.connection → HasCleanDisk (state S.Store u.connection) → LeavesOrBegins S.Store connection u.connection) }
-        ensures clean_back { IfErr result (λ u. doubt (state S.Store connection).is_clean ≤ doubt (state S.Store u.connection).is_clean) }
-        ensures idle { IfErr result (λ u. u.connection.in_transaction ≡ false) }
-        ensures same { IfErr result (λ u. connection.schema ≡ keeper_schema ⊎ connection.schema ≡ no_schema → HasCleanDisk (state S.Store u.connection) → IsTrue (state S.Store u.connection).is_open → contents_now S.Store u.connection ≡ contents_now S.Store connection) }
+        ensures taken { IfOk result (IsTaken S.Store connection) }
+        ensures back { IfErr result (λ u. IsGivenBack S.Store connection u.fault u.connection) }
     {
         let mut connection = connection;
         let _settled = connection.is_autocommit();
         let has_tables = is_ours(connection.schema());
+        let is_before = is_first(connection.schema());
         let is_new = is_blank(connection.schema());
         match try_version(alloc, &mut connection) {
             Ok(found) => {
+                if found.as_str() == "2" {
+                    return Ok(SqliteKeeper::over(alloc, connection, has_tables));
+                }
                 if found.as_str() != "1" {
                     let fault = AdoptFault::Version { found };
                     return Err(Unadopted { fault, connection });
                 }
-                Ok(SqliteKeeper {
-                    conn: connection,
-                    alloc,
-                    is_shut: false,
-                    is_ours: has_tables,
-                    faults: 0,
-                })
+                if has_tables {
+                    return Ok(SqliteKeeper::shut(alloc, connection));
+                }
+                SqliteKeeper::begin(alloc, connection, false, is_before)
             }
             Err(error) => {
                 if is_memory(&error) {
@@ -143,7 +135,10 @@ impl<S: Alter> SqliteKeeper<S> {
                 if has_tables {
                     return Ok(SqliteKeeper::shut(alloc, connection));
                 }
-                SqliteKeeper::begin(alloc, connection, is_new)
+                if is_before {
+                    return Ok(SqliteKeeper::shut(alloc, connection));
+                }
+                SqliteKeeper::begin(alloc, connection, true, is_new)
             }
         }
     }
@@ -161,44 +156,58 @@ impl<S: Alter> SqliteKeeper<S> {
         }
     }
 
-    /// Makes the tables, and takes the store.
+    /// A keeper that has not failed.
+    fn over(alloc: Global, connection: Connection<S>, is_ours: bool) -> SqliteKeeper<S>
+        requires { IsTrue is_ours → Sound S.Store connection }
+        ensures { result ≡ record { conn = connection; is_shut = false; is_ours = is_ours; faults = 0 } }
+    {
+        SqliteKeeper {
+            conn: connection,
+            alloc,
+            is_shut: false,
+            is_ours,
+            faults: 0,
+        }
+    }
+
+    /// Makes a store what it becomes, and takes it.
     fn begin(
         alloc: Global,
         connection: Connection<S>,
         is_new: bool,
+        is_known: bool,
     ) -> Result<SqliteKeeper<S>, Unadopted<S>>
         requires idle { connection.in_transaction ≡ false }
-        requires new { IsTrue is_new → IsNew S.Store connection }
+        requires known { IsTrue is_known → (c : Contents) × MayBecome S.Store is_new connection c }
         ensures count { IfOk result (λ k. k.faults ≡ (if k.is_shut then 1 else 0)) }
-        ensures made { IfOk result (λ k. IsTrue is_new → k.is_shut ≡ false → HasCleanDisk (state S.Store k.conn) → TellsAll S.Store k × (contents_now S.Store k.conn ≡ new_contents)) }
+        ensures made { IfOk result (λ k. (c : Contents) → MayBecome S.Store is_new connection c → k.is_shut ≡ false → HasCleanDisk (state S.Store k.conn) → IsTrue (state S.Store k.conn).is_open × (contents_now S.Store k.conn ≡ c)) }
         ensures alone { IfOk result (λ k. IsAlone (TellsAll S.Store k) (contents_now S.Store k.conn) (MayBeLeft S.Store k)) }
-        ensures ours { IfOk result (λ k. k.is_ours ≡ true → IsTrue is_new) }
-        ensures shut { IfOk result (λ k. k.is_shut ≡ true → IsTrue is_new → HasCleanDisk (state S.Store k.conn) → IsTrue (state S.Store k.conn).is_open → ((state S.Store k.conn).now ≡ (state S.Store connection).now) × IsTrue (state S.Store connection).is_open) }
-        ensures reason { IfOk result (λ k. k.is_shut ≡ true → IsTrue is_new → IsTrue (state S.Store connection).is_open → HasCleanDisk (state S.Store k.conn) → HasReason (state S.Store connection) (state S.Store k.conn)) }
+        ensures ours { IfOk result (λ k. k.is_shut ≡ false → k.is_ours ≡ is_known) }
+        ensures shut_ours { IfOk result (λ k. k.is_shut ≡ true → k.is_ours ≡ false) }
+        ensures shut { IfOk result (λ k. k.is_shut ≡ true → (c : Contents) → MayBecome S.Store is_new connection c → HasCleanDisk (state S.Store k.conn) → IsTrue (state S.Store k.conn).is_open → ((state S.Store k.conn).now ≡ (state S.Store connection).now) × IsTrue (state S.Store connection).is_open) }
+        ensures known { IfOk result (λ k. k.is_shut ≡ true → is_known ≡ true) }
+        ensures reason { IfOk result (λ k. k.is_shut ≡ true → IsTrue is_new → (c : Contents) → MayBecome S.Store true connection c → IsTrue (state S.Store connection).is_open → HasCleanDisk (state S.Store k.conn) → HasReason (state S.Store connection) (state S.Store k.conn)) }
         ensures opened { IfOk result (λ k. k.is_shut ≡ false → HasCleanDisk (state S.Store k.conn) → IsTrue (state S.Store connection).is_open) }
         ensures counts { IfOk result (λ k. (state S.Store connection).faults ≤ (state S.Store k.conn).faults) }
-        ensures left { IfOk result (λ k. IsTrue is_new → HasCleanDisk (state S.Store k.conn) → IsTrue (state S.Store k.conn).is_open → LeavesOrMakes S.Store connection k.conn) }
-        ensures left_back { IfErr result (λ u. IsTrue is_new → HasCleanDisk (state S.Store u.connection) → IsTrue (state S.Store u.connection).is_open → LeavesOrMakes S.Store connection u.connection) }
-        ensures fault { IfErr result (λ u. u.fault ≡ AdoptFault.NoMemory) }
+        ensures left { IfOk result (λ k. (c : Contents) → MayBecome S.Store is_new connection c → HasCleanDisk (state S.Store k.conn) → LeavesOr S.Store c connection k.conn) }
+        ensures left_back { IfErr result (λ u. (c : Contents) → MayBecome S.Store is_new connection c → HasCleanDisk (state S.Store u.connection) → LeavesOr S.Store c connection u.connection) }
+        ensures fault { IfErr result (λ u. IsStopped is_known u.fault) }
         ensures idle { IfErr result (λ u. u.connection.in_transaction ≡ false) }
-        ensures same { IfErr result (λ u. IsTrue is_new → HasCleanDisk (state S.Store u.connection) → IsTrue (state S.Store u.connection).is_open → (state S.Store u.connection).now ≡ (state S.Store connection).now) }
-        ensures told { IfErr result (λ u. IsTrue is_new → HasCleanDisk (state S.Store u.connection) → IsTrue (state S.Store u.connection).is_open → IsTrue (state S.Store connection).is_open) }
+        ensures same { IfErr result (λ u. (c : Contents) → MayBecome S.Store is_new connection c → HasCleanDisk (state S.Store u.connection) → IsTrue (state S.Store u.connection).is_open → (state S.Store u.connection).now ≡ (state S.Store connection).now) }
+        ensures told { IfErr result (λ u. HasCleanDisk (state S.Store u.connection) → IsTrue (state S.Store u.connection).is_open → IsTrue (state S.Store connection).is_open) }
         ensures clean { IfErr result (λ u. doubt (state S.Store connection).is_clean ≤ doubt (state S.Store u.connection).is_clean) }
         ensures ok_clean { IfOk result (λ k. doubt (state S.Store connection).is_clean ≤ doubt (state S.Store k.conn).is_clean) }
     {
         let mut connection = connection;
-        let _settled = connection.is_autocommit();
-        match make(&mut connection) {
-            Ok(()) => Ok(SqliteKeeper {
-                conn: connection,
-                alloc,
-                is_shut: false,
-                is_ours: is_new,
-                faults: 0,
-            }),
+        match make(&mut connection, is_new) {
+            Ok(()) => Ok(SqliteKeeper::over(alloc, connection, is_known)),
             Err(error) => {
                 if is_memory(&error) {
                     let fault = AdoptFault::NoMemory;
+                    return Err(Unadopted { fault, connection });
+                }
+                if !is_known {
+                    let fault = AdoptFault::Refused { error };
                     return Err(Unadopted { fault, connection });
                 }
                 Ok(SqliteKeeper::shut(alloc, connection))

@@ -5,6 +5,7 @@ mod adopting;
 mod asking;
 mod keeper;
 mod layout;
+mod making;
 mod order;
 mod reading;
 mod shut;

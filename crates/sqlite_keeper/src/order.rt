@@ -6,7 +6,7 @@ ghost use Rattle.sqlite_catalog.specs.Listing.{IsSound};
 ghost use Rattle.sqlite_trees.specs.View.{doubt, IsClean, IsQuiet};
 ghost use Rattle.sqlite_keeper.specs.Adopting.{IsInOrder};
 ghost use Rattle.sqlite_keeper.specs.Taking.{IsLost, HasComeBack};
-ghost use Rattle.sqlite_keeper.specs.Tables.{keeper_schema, no_schema};
+ghost use Rattle.sqlite_keeper.specs.Tables.{IsSimple, no_schema};
 
 use sqlite::{Alter, Connection, Error, ErrorCode};
 use std::alloc::Global;
@@ -34,8 +34,8 @@ pub fn in_order<S: Alter + Drop>(
     ensures idle { IfOk result (λ c. c.in_transaction ≡ false) }
     ensures settled { IfOk result (λ c. HasCleanDisk (state S.Store c) → IsTrue (state S.Store c).is_open → (state S.Store c).now ≡ (state S.Store c).committed) }
     ensures rows { IfOk result (λ c. HasCleanDisk (state S.Store c) → IsTrue (state S.Store c).is_open × ((state S.Store c).now.trees ≡ (state S.Store connection).committed.trees)) }
-    ensures ours { IfOk result (λ c. HasCleanDisk (state S.Store c) → IsSound keeper_schema (state S.Store connection).committed.trees → c.schema ≡ keeper_schema) }
-    ensures blank { IfOk result (λ c. HasCleanDisk (state S.Store c) → c.schema ≡ no_schema → IsSound no_schema (state S.Store connection).committed.trees) }
+    ensures listed { IfOk result (λ c. HasCleanDisk (state S.Store c) → (s : _) → IsSimple s → IsSound s (state S.Store connection).committed.trees → c.schema ≡ s) }
+    ensures sound { IfOk result (λ c. HasCleanDisk (state S.Store c) → IsSound c.schema (state S.Store connection).committed.trees) }
     ensures unlisted { IfOk result (λ c. HasCleanDisk (state S.Store c) → IsSound no_schema (state S.Store connection).committed.trees → c.schema ≡ no_schema) }
     ensures unlimited { IfOk result (λ c. c.step_limit ≡ None) }
     ensures opened { IfOk result (λ c. HasCleanDisk (state S.Store c) → IsTrue (state S.Store connection).is_open) }

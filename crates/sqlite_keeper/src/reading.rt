@@ -5,10 +5,12 @@ ghost use Rattle.std.specs.Ordering.{is_lt};
 ghost use Rattle.sqlite.specs.State.{HasCleanDisk};
 ghost use Rattle.sqlite.specs.Held.{state};
 ghost use Rattle.sqlite_trees.specs.View.{doubt};
+ghost use Rattle.store_tables.specs.Texts.{Tables};
 ghost use Rattle.budget_ports.specs.Contents.{records_after};
 ghost use Rattle.budget_ports.specs.Keeper.{Rise};
 ghost use Rattle.sqlite_keeper.specs.Contents.{Contents, Sound, contents_now, MayLeave, text_cmp};
-ghost use Rattle.sqlite_keeper.specs.Queries.{ShowsText, record_in, name_in, last_key, is_next, Climb};
+ghost use Rattle.sqlite_keeper.specs.Contents.{Stands};
+ghost use Rattle.sqlite_keeper.specs.Queries.{Finds, ShowsText, record_in, name_in, last_key, is_next, Climb};
 
 use crate::asking::ask;
 use budget_ports::Record;
@@ -73,6 +75,36 @@ fn records_in(alloc: Global, rows: &[Row]) -> Result<Items<Record>, Error>
     Ok(Items::new(found))
 }
 
+/// The records of a group whose key is above `after`, where the group is found.
+fn since_of<S: Alter>(
+    alloc: Global,
+    conn: &mut Connection<S>,
+    found: &[Row],
+    after: &Txt,
+) -> Result<Items<Record>, Error>
+    ensures records { HasCleanDisk (state S.Store conn.new) → (t : Tables) (group : _) → Finds t S.Store conn.old group found.now → IfOk result (λ rs. rs ≡ records_after (contents_now S.Store conn.old) group after.now) }
+    ensures rise { IfOk result Rise }
+    ensures sound { Sound S.Store conn.old → Sound S.Store conn.new }
+    ensures told { HasCleanDisk (state S.Store conn.new) → IsTrue (state S.Store conn.new).is_open → IsTrue (state S.Store conn.old).is_open }
+    ensures same { HasCleanDisk (state S.Store conn.new) → Sound S.Store conn.old → IsTrue (state S.Store conn.new).is_open → contents_now S.Store conn.new ≡ contents_now S.Store conn.old }
+    ensures known { HasCleanDisk (state S.Store conn.new) → Stands S.Store conn.old → OnOk result (IsTrue (state S.Store conn.new).is_open) }
+    ensures left { HasCleanDisk (state S.Store conn.new) → Sound S.Store conn.old → (k : Contents) → MayLeave S.Store conn.new k → MayLeave S.Store conn.old k }
+    ensures clean { doubt (state S.Store conn.old).is_clean ≤ doubt (state S.Store conn.new).is_clean }
+{
+    match found {
+        [] => Ok(Items::new(Vec::new(alloc))),
+        [row, ..] => {
+            let id: i64 = row.get(0)?;
+            let rows = ask(
+                conn,
+                "SELECT stamp, body FROM entries WHERE grp = ?1 AND stamp > ?2 ORDER BY stamp",
+                params![id, after.as_str()],
+            )?;
+            records_in(alloc, &rows)
+        }
+    }
+}
+
 /// The records of a group whose key is above `after`.
 pub(crate) fn try_since<S: Alter>(
     alloc: Global,
@@ -89,12 +121,12 @@ pub(crate) fn try_since<S: Alter>(
     ensures left { HasCleanDisk (state S.Store conn.new) → Sound S.Store conn.old → (k : Contents) → MayLeave S.Store conn.new k → MayLeave S.Store conn.old k }
     ensures clean { doubt (state S.Store conn.old).is_clean ≤ doubt (state S.Store conn.new).is_clean }
 {
-    let rows = ask(
+    let found = ask(
         conn,
-        "SELECT stamp, body FROM items WHERE grp = ?1 AND stamp > ?2 ORDER BY stamp",
-        params![group.as_str(), after.as_str()],
+        "SELECT id FROM grps WHERE name = ?1",
+        params![group.as_str()],
     )?;
-    records_in(alloc, &rows)
+    since_of(alloc, conn, &found, after)
 }
 
 /// Whether the name is above the last one.

@@ -1,16 +1,16 @@
 //! What the program does with a store that it has opened.
-ghost use Rattle.std.specs.Prelude.{◌≡◌, ◌≤◌, ◌⊎◌, true, false, if◌then◌else◌, Some, IsTrue, IfOk, IfErr};
+ghost use Rattle.std.specs.Prelude.{◌≡◌, ◌≢◌, ◌≤◌, ◌⊎◌, true, false, if◌then◌else◌, Some, IsTrue, IfOk, IfErr};
 ghost use Rattle.std.specs.FinMap.{get};
 ghost use Rattle.budget_ports.specs.Keeper.{IsAlone};
 ghost use Rattle.sqlite.specs.State.{HasCleanDisk};
 ghost use Rattle.sqlite.specs.Held.{state};
 ghost use Rattle.sqlite_catalog.specs.Listing.{IsSound};
-ghost use Rattle.sqlite_keeper.specs.Tables.{keeper_schema, no_schema};
+ghost use Rattle.sqlite_keeper.specs.Tables.{first_schema, no_schema};
 ghost use Rattle.sqlite_keeper.specs.Contents.{contents_of, contents_now};
 ghost use Rattle.sqlite_keeper.specs.Keeping.{TellsAll, MayBeLeft};
-ghost use Rattle.sqlite_keeper.specs.Adopting.{new_contents, version_name, version_one};
+ghost use Rattle.sqlite_keeper.specs.Adopting.{moved, new_contents, version_name, version_one, version_two};
 ghost use Rattle.sqlite_trees.specs.View.{doubt, IsClean};
-ghost use Rattle.sqlite_keeper.specs.Taking.{IsOursOrBlank, HasFailedSince, IsLetGo, opening_fault, told_as};
+ghost use Rattle.sqlite_keeper.specs.Taking.{IsSecondStore, IsStoreOrBlank, IsKeptOrBlank, HasFailedSince, IsLetGo, opening_fault, told_as};
 
 use crate::keeper::{AdoptFault, SqliteKeeper, Unadopted};
 use crate::order::{Unread, in_order};
@@ -20,7 +20,7 @@ use std::alloc::Global;
 use std::fs;
 use std::io::ErrorKind;
 
-/// Why a store could not be opened, or not be read again, as far as SQLite tells it.
+/// Why a store could not be opened, not be read again, or not be made one of this version, as far as SQLite tells it.
 #[derive(Clone, Copy, Debug, PartialEq, Eq)]
 pub enum OpeningCause {
     /// Nothing can be opened or made at its path, or no log beside it.
@@ -29,6 +29,8 @@ pub enum OpeningCause {
     InUse,
     /// It is no SQLite file, or one with tables of a kind that is not read.
     NoStore,
+    /// It has other tables, and with them it refuses a store's.
+    OtherTables,
     /// It is an SQLite file that is damaged.
     Damaged,
     /// There is no room for what is to be written.
@@ -40,7 +42,7 @@ pub enum OpeningCause {
 /// Why there is no keeper over a store.
 #[derive(Debug, Drop)]
 pub enum StoreFault {
-    /// The store could not be opened, or not be read again.
+    /// The store could not be opened, not be read again, or not be made one of this version.
     Unopened {
         /// Why not.
         cause: OpeningCause,
@@ -54,7 +56,7 @@ pub enum StoreFault {
     NoMemory,
 }
 
-/// What a failure of SQLite says of a store that is to be opened, or read again.
+/// What a failure of SQLite says of a store that is to be opened, read again, or made one of this version.
 pub fn opening_fault(error: &Error) -> StoreFault
     ensures { result ≡ opening_fault error.now }
 {
@@ -63,6 +65,8 @@ pub fn opening_fault(error: &Error) -> StoreFault
         Error::SqliteFailure(ErrorCode::CannotOpen) => OpeningCause::NotOpened,
         Error::SqliteFailure(ErrorCode::DatabaseBusy) => OpeningCause::InUse,
         Error::SqliteFailure(ErrorCode::NotADatabase) => OpeningCause::NoStore,
+        Error::SqliteFailure(ErrorCode::NameTaken) => OpeningCause::OtherTables,
+        Error::SqlInputError(_) => OpeningCause::OtherTables,
         Error::SqliteFailure(ErrorCode::DatabaseCorrupt) => OpeningCause::Damaged,
         Error::SqliteFailure(ErrorCode::DiskFull) => OpeningCause::NoRoom,
         _ => OpeningCause::Failed,
@@ -91,6 +95,7 @@ fn left_by<S: Alter + Drop>(unadopted: Unadopted<S>) -> Untaken<S>
     let store = connection.into_store();
     let fault = match fault {
         AdoptFault::Version { found } => StoreFault::Version { found },
+        AdoptFault::Refused { error } => opening_fault(&error),
         AdoptFault::NoMemory => StoreFault::NoMemory,
     };
     Untaken { fault, store }
@@ -99,28 +104,30 @@ fn left_by<S: Alter + Drop>(unadopted: Unadopted<S>) -> Untaken<S>
 /// A keeper over a store that was opened: what was not committed is rolled back, the store is read
 /// again in order, and taken as `SqliteKeeper::adopt` does. Where it is not, it comes back as it was left.
 ///
-/// A keeper that tells has what was committed last, or, where nothing was listed, what a new store has;
-/// over the keeper's tables it tells, unless it is shut or the disk has returned something else.
+/// A keeper that tells has what was committed last, told to be of this version where it was of the one before, or, where nothing
+/// was listed, what a new store has; over the tables of either version it tells, unless it is shut, the disk has returned something
+/// else, or the tables are not those that the version says.
 ///
-/// Unless the disk has returned something else: over the keeper's tables, or where nothing was
-/// listed, a keeper is shut only if the disk has failed since the store was read again. And the
+/// Unless the disk has returned something else: over tables that do not tell the version before, or where nothing was listed, a
+/// keeper is shut only if the disk has failed since the store was read again. And the
 /// faults are told each for its reason: `Unopened` where the connection was shut or the disk failed
-/// meanwhile, `Version` where something is listed, and if it is the keeper's tables, where they
+/// meanwhile, or tables of neither version stand there, `Version` where something is listed, and if it is the tables of either version, where they
 /// tell another version or none. Want of memory needs no reason.
 pub fn take<S: Alter + Drop>(
     alloc: Global,
     connection: Connection<S>,
 ) -> Result<SqliteKeeper<S>, Untaken<S>>
-    ensures again { IfOk result (λ k. TellsAll S.Store k → (contents_now S.Store k.conn ≡ contents_of (state S.Store connection).committed.trees) ⊎ ((contents_now S.Store k.conn ≡ new_contents) × IsSound no_schema (state S.Store connection).committed.trees)) }
-    ensures kept { IfOk result (λ k. IsSound keeper_schema (state S.Store connection).committed.trees → k.is_shut ≡ false → HasCleanDisk (state S.Store k.conn) → TellsAll S.Store k × (contents_now S.Store k.conn ≡ contents_of (state S.Store connection).committed.trees) × (get (contents_now S.Store k.conn).texts version_name ≡ Some version_one)) }
+    ensures again { IfOk result (λ k. TellsAll S.Store k → (contents_now S.Store k.conn ≡ contents_of (state S.Store connection).committed.trees) ⊎ (((contents_now S.Store k.conn ≡ moved (contents_of (state S.Store connection).committed.trees)) × IsSound first_schema (state S.Store connection).committed.trees) ⊎ ((contents_now S.Store k.conn ≡ new_contents) × IsSound no_schema (state S.Store connection).committed.trees))) }
+    ensures kept { IfOk result (λ k. IsSecondStore (state S.Store connection).committed.trees → k.is_shut ≡ false → HasCleanDisk (state S.Store k.conn) → TellsAll S.Store k × (contents_now S.Store k.conn ≡ contents_of (state S.Store connection).committed.trees) × (get (contents_now S.Store k.conn).texts version_name ≡ Some version_two)) }
+    ensures moved { IfOk result (λ k. IsSound first_schema (state S.Store connection).committed.trees → k.is_shut ≡ false → HasCleanDisk (state S.Store k.conn) → get (contents_of (state S.Store connection).committed.trees).texts version_name ≢ Some version_two → TellsAll S.Store k × (contents_now S.Store k.conn ≡ moved (contents_of (state S.Store connection).committed.trees)) × (get (contents_of (state S.Store connection).committed.trees).texts version_name ≡ Some version_one)) }
     ensures made { IfOk result (λ k. IsSound no_schema (state S.Store connection).committed.trees → k.is_shut ≡ false → HasCleanDisk (state S.Store k.conn) → TellsAll S.Store k × (contents_now S.Store k.conn ≡ new_contents)) }
     ensures alone { IfOk result (λ k. IsAlone (TellsAll S.Store k) (contents_now S.Store k.conn) (MayBeLeft S.Store k)) }
     ensures count { IfOk result (λ k. k.faults ≡ (if k.is_shut then 1 else 0)) }
-    ensures reason { IfOk result (λ k. k.is_shut ≡ true → IsOursOrBlank (state S.Store connection).committed.trees → HasCleanDisk (state S.Store k.conn) → HasFailedSince S.Store connection k.conn) }
-    ensures shut { IfOk result (λ k. k.is_shut ≡ true → IsOursOrBlank (state S.Store connection).committed.trees → HasCleanDisk (state S.Store k.conn) → IsTrue (state S.Store k.conn).is_open → contents_now S.Store k.conn ≡ contents_of (state S.Store connection).committed.trees) }
+    ensures reason { IfOk result (λ k. k.is_shut ≡ true → IsKeptOrBlank (state S.Store connection).committed.trees → HasCleanDisk (state S.Store k.conn) → HasFailedSince S.Store connection k.conn) }
+    ensures shut { IfOk result (λ k. k.is_shut ≡ true → IsStoreOrBlank (state S.Store connection).committed.trees → HasCleanDisk (state S.Store k.conn) → IsTrue (state S.Store k.conn).is_open → contents_now S.Store k.conn ≡ contents_of (state S.Store connection).committed.trees) }
     ensures opened { IfOk result (λ k. HasCleanDisk (state S.Store k.conn) → IsTrue (state S.Store connection).is_open) }
     ensures let_go { IfErr result (λ u. IsLetGo S.Store connection u.store u.fault) }
-    ensures back { IfErr result (λ u. IsOursOrBlank (state S.Store connection).committed.trees → IsClean (S.Store.view u.store) → IsTrue (S.Store.view u.store).is_open → contents_of (S.Store.view u.store).trees ≡ contents_of (state S.Store connection).committed.trees) }
+    ensures back { IfErr result (λ u. IsStoreOrBlank (state S.Store connection).committed.trees → IsClean (S.Store.view u.store) → IsTrue (S.Store.view u.store).is_open → contents_of (S.Store.view u.store).trees ≡ contents_of (state S.Store connection).committed.trees) }
 {
     match in_order(alloc, connection) {
         Ok(ordered) => match SqliteKeeper::adopt(alloc, ordered) {

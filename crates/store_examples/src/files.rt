@@ -1,5 +1,5 @@
 //! A store in a real file.
-use crate::stores::{LATER, NEW, TABLES, fault_text, over};
+use crate::stores::{FIRST, LATER, MOVED, NEW, ROWS, fault_text, over};
 use sqlite::Connection;
 use sqlite_keeper::open;
 use std::fs;
@@ -45,13 +45,13 @@ fn opened_text(rt: &HostRuntime, text: &str) -> Result<String, Fail> {
 }
 
 /// What becomes of a file after these statements, without a log beside it.
-fn opened_after(rt: &HostRuntime, sql: &str) -> Result<String, Fail> {
+fn opened_after(rt: &HostRuntime, sql: &str, script: &str) -> Result<String, Fail> {
     fs::remove_file(rt, TEXT)?;
     let mut connection = Connection::open(rt, TEXT)?;
     connection.execute_batch(sql)?;
     connection.close()?;
     fs::remove_file(rt, LOG)?;
-    opened(rt, TEXT, "")
+    opened(rt, TEXT, script)
 }
 
 /// What becomes of a file that a keeper has open.
@@ -75,9 +75,24 @@ fn refused_files_are_left_alone(rt: HostRuntime) -> Result<(), Fail> {
     );
     assert_eq!(rt; fs::read_to_string(&rt, TEXT)?.as_str(), "this is no store");
     assert!(rt; !fs::exists(&rt, LOG)?);
-    let sql = format!(in rt.alloc(); "{TABLES}; INSERT INTO named VALUES ('version', '7')")?;
-    assert_eq!(rt; opened_after(&rt, sql.as_str())?.as_str(), "version 7");
-    assert!(rt; !fs::exists(&rt, LOG)?);
+    let sql = format!(in rt.alloc(); "{FIRST}; INSERT INTO named VALUES ('version', '7')")?;
+    for (sql, told) in [
+        (sql.as_str(), "version 7"),
+        (
+            "CREATE TABLE entries (a INTEGER) STRICT",
+            "unopened OtherTables",
+        ),
+        (
+            "CREATE TABLE named (a INTEGER) STRICT",
+            "unopened OtherTables",
+        ),
+    ] {
+        assert_eq!(rt; opened_after(&rt, sql, "")?.as_str(), told, "of {sql}");
+        assert!(rt; !fs::exists(&rt, LOG)?, "of {sql}");
+    }
+    let sql = format!(in rt.alloc(); "{FIRST}; {ROWS}")?;
+    assert_eq!(rt; opened_after(&rt, sql.as_str(), MOVED)?.as_str(), "");
+    assert_eq!(rt; opened(&rt, TEXT, MOVED)?.as_str(), "");
     assert_eq!(rt; opened_twice(&rt)?.as_str(), "unopened InUse");
     fs::remove_dir_all(&rt, REFUSED)?;
     Ok(())

@@ -5,6 +5,8 @@
 #[cfg(test)]
 mod files;
 #[cfg(test)]
+mod moves;
+#[cfg(test)]
 mod script;
 #[cfg(test)]
 mod stops;

@@ -1,6 +1,6 @@
 //! Stores over files that stop at some call.
 use crate::script::answer;
-use crate::stores::{TABLES, fault_text, taken};
+use crate::stores::{FIRST, fault_text, taken};
 use budget_ports::Keeper;
 use sqlite::{Connection, FileStore, Files, Options};
 use sqlite_disk::{Crash, Disk, Fuse, Memory};
@@ -9,10 +9,13 @@ use std::alloc::Global;
 use std::test::Fail;
 
 /// Files in memory whose calls fail from some call on.
-type Fused = Fuse<Memory>;
+pub type Fused = Fuse<Memory>;
 
 /// Opens the files, or hands them back.
-fn open(alloc: Global, files: Files<Fused>) -> Result<Connection<FileStore<Fused>>, Files<Fused>> {
+pub fn open(
+    alloc: Global,
+    files: Files<Fused>,
+) -> Result<Connection<FileStore<Fused>>, Files<Fused>> {
     if !files.may_be_used() {
         return Err(files);
     }
@@ -57,7 +60,7 @@ fn started(alloc: Global, calls: u64) -> (usize, Files<Fused>) {
 }
 
 /// What files tell otherwise than a script says, after a stop.
-fn after_stop(alloc: Global, files: Files<Fused>, script: &str) -> Result<String, Fail> {
+pub fn after_stop(alloc: Global, files: Files<Fused>, script: &str) -> Result<String, Fail> {
     let mut files = files;
     files.log.crash();
     files.db.crash();
@@ -113,7 +116,7 @@ fn taken_twice(alloc: Global, sql: &str) -> Result<String, Fail> {
 /// A store that is refused comes back: its files are closed and opened again, and it is refused as before.
 #[test]
 fn refused_stores_come_back(rt: HostRuntime) -> Result<(), Fail> {
-    let sql = format!(in rt.alloc(); "{TABLES}; INSERT INTO named VALUES ('version', 'one')")?;
+    let sql = format!(in rt.alloc(); "{FIRST}; INSERT INTO named VALUES ('version', 'one')")?;
     let told = taken_twice(rt.alloc(), sql.as_str())?;
     assert_eq!(rt; told.as_str(), "version one, version one");
     Ok(())

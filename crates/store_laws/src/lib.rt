@@ -5,5 +5,7 @@
 #![tactic(auto)]
 
 mod laws;
+mod moving;
 
 pub use laws::{append_to_store, ask_store, get_from_store, names_of_store, put_into_store};
+pub use moving::move_store;

@@ -4,7 +4,7 @@ use Rattle.book_rows.specs.declared.fault.EditFault.{EditFault}
 use Rattle.book_rows.specs.declared.write.Write.{Write}
 use Rattle.edit_history.specs.declared.history.Turn.TheVariants.{New}
 use Rattle.device_core.specs.declared.edit.Edit.{Edit}
-use Rattle.device_core.specs.declared.edit.Edit.TheVariants.{Book, Pair, Rule, Schedule, Import}
+use Rattle.device_core.specs.declared.edit.Edit.TheVariants.{Book, Pair, Rule, Schedule, Import, GoalsApply}
 use Rattle.device_core.specs.Device.{State, writing, edited}
 use Rattle.device_core.specs.Several.{WritesAreJoined}
 use Rattle.sync_laws.specs.Devices.{IsAnsweredBy, EditsAreOfTheirKind}
@@ -29,4 +29,5 @@ of_their_kind law = record {
   rules = λ s edit reading. answered_by law s (Rule edit) reading _ refl;
   schedules = λ s edit reading. answered_by law s (Schedule edit) reading _ refl;
   imports = λ s edit reading. answered_by law s (Import edit) reading _ refl;
+  goals = λ s month reading. answered_by law s (GoalsApply month) reading _ refl;
 }

@@ -18,10 +18,11 @@ use Rattle.schedules.specs.declared.edit.ScheduleEdit.{ScheduleEdit}
 use Rattle.schedules.specs.Edits.{schedule_writes}
 use Rattle.bank_import.specs.declared.edit.ImportEdit.{ImportEdit}
 use Rattle.bank_import.specs.Edits.{import_writes}
+use Rattle.goal_templates.specs.Goals.{goal_writes}
 use Rattle.edit_history.specs.declared.history.Turn.{Turn}
 use Rattle.edit_history.specs.declared.history.Turn.TheVariants.{New}
 use Rattle.device_core.specs.declared.edit.Edit.{Edit}
-use Rattle.device_core.specs.declared.edit.Edit.TheVariants.{Book, Pair, Rule, Schedule, Import}
+use Rattle.device_core.specs.declared.edit.Edit.TheVariants.{Book, Pair, Rule, Schedule, Import, GoalsApply}
 use Rattle.device_core.specs.declared.edit.LineRefusal.TheVariants.{Edit as OfEdit, Clock as OfClock}
 use Rattle.device_core.specs.Books.{rows_of}
 use Rattle.device_core.specs.Device.{State, Accepted, IsAhead, at_rest, accepted_as, begun, writing, edited, undone, redone}
@@ -58,6 +59,7 @@ pub record EditsAreOfTheirKind : Type 0 where
   pub rules : (s : State) (edit : RuleEdit) (reading : ℕ) → IsAnsweredBy s (Rule edit) reading (rule_writes (rows_of s.messages) edit)
   pub schedules : (s : State) (edit : ScheduleEdit) (reading : ℕ) → IsAnsweredBy s (Schedule edit) reading (schedule_writes (rows_of s.messages) edit)
   pub imports : (s : State) (edit : ImportEdit) (reading : ℕ) → IsAnsweredBy s (Import edit) reading (import_writes (rows_of s.messages) edit)
+  pub goals : (s : State) (month reading : ℕ) → IsAnsweredBy s (GoalsApply month) reading (goal_writes (rows_of s.messages) month)
 
 -- each number is smaller than those behind it
 abbrev pub Climb : List ℕ → Type 0

@@ -6,4 +6,4 @@ use Rattle.schedules.proofs.raw.first_by_years.Goals as goal
 pub returns : goal.returns
 returns c =
     first_by (is_month_step (12 * c.args.step) (places c.args.start [])) (is_year_step c.args.step c.args.start) c.args.from c.first_by_months.result
-    (λ d. year_is c.args.step c.args.start d c.requires.least) c.first_by_months.ensures
+    (λ d. year_is c.args.step c.args.start d c.requires.least) (c.first_by_months.ensures [] c.meant_days.ensures)

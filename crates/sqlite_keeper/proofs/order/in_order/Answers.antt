@@ -1,4 +1,4 @@
-use Rattle.std.proofs.Common.{◌≡◌, ◌∙◌, false, inl, inr, sym, subst, subst₂, arith}
+use Rattle.std.proofs.Common.{◌≡◌, ◌∙◌, false, inl, inr, sym, subst, arith}
 use Rattle.sqlite.specs.Held.{state}
 use Rattle.sqlite_catalog.specs.Listing.{IsSound}
 use Rattle.sqlite_trees.specs.View.{IsClean}
@@ -12,12 +12,12 @@ over-requires g c clean =
     fresh (g.S.Store.view c.args.connection.store) (g.S.Store.view store) (g.met.S.Store.broken_if_shut store) c.into_store-store.ensures.undone (c.into_store-store.ensures.numbered clean) (sym (c.if-is_broken.ensures clean)) clean
 
 pub returns-in-Ok-clause-ordered : goal.returns-in-Ok-clause-ordered
-returns-in-Ok-clause-ordered g c clean is_open is =
+returns-in-Ok-clause-ordered g c clean is_open =
     let store = c.into_store-store.result in
     let early : IsClean (g.S.Store.view store) = omega (arith, c.in-Ok.ensures.clean) in
     let sound : (g.S.Store.view store).is_broken ≡ false = sym (c.if-is_broken.ensures early) in
     rows_rise (g.S.Store.view store) (state g.S.Store c.in-Ok.again).now.trees c.in-Ok.again.schema (c.in-Ok.ensures.trees clean) (g.met.S.Alter.listed store sound) (g.met.S.Store.ordered store sound)
-    (c.schema-schema.ensures.live is_open).0.lists.listed is
+    (c.schema-schema.ensures.live is_open).0.lists.listed
 
 pub returns-in-Ok-clause-rows : goal.returns-in-Ok-clause-rows
 returns-in-Ok-clause-rows g c clean =
@@ -27,24 +27,24 @@ returns-in-Ok-clause-rows g c clean =
     let is_open = open_of (g.S.Store.view store) (g.met.S.Store.broken_if_shut store) sound in
     ((c.in-Ok.ensures.opens clean).0.is_open, c.in-Ok.ensures.trees clean ∙ (c.into_store-store.ensures.undone.undone is_open).0)
 
-pub returns-in-Ok-clause-blank : goal.returns-in-Ok-clause-blank
-returns-in-Ok-clause-blank g c clean is =
+pub returns-in-Ok-clause-sound : goal.returns-in-Ok-clause-sound
+returns-in-Ok-clause-sound g c clean =
     let store = c.into_store-store.result in
     let early : IsClean (g.S.Store.view store) = omega (arith, c.in-Ok.ensures.clean) in
     let sound : (g.S.Store.view store).is_broken ≡ false = sym (c.if-is_broken.ensures early) in
     let is_open = open_of (g.S.Store.view store) (g.met.S.Store.broken_if_shut store) sound in
     let rows = c.in-Ok.ensures.trees clean ∙ (c.into_store-store.ensures.undone.undone is_open).0 in
-    subst₂ IsSound is rows (c.schema-schema.ensures.live (c.in-Ok.ensures.opens clean).0.is_open).0
+    subst (IsSound c.in-Ok.again.schema) rows (c.schema-schema.ensures.live (c.in-Ok.ensures.opens clean).0.is_open).0
 
-pub returns-in-Ok-clause-ours : goal.returns-in-Ok-clause-ours
-returns-in-Ok-clause-ours g c clean listed =
+pub returns-in-Ok-clause-listed : goal.returns-in-Ok-clause-listed
+returns-in-Ok-clause-listed g c clean schema simple listed =
     let store = c.into_store-store.result in
     let early : IsClean (g.S.Store.view store) = omega (arith, c.in-Ok.ensures.clean) in
     let sound : (g.S.Store.view store).is_broken ≡ false = sym (c.if-is_broken.ensures early) in
     let is_open = open_of (g.S.Store.view store) (g.met.S.Store.broken_if_shut store) sound in
     let rows = c.in-Ok.ensures.trees clean ∙ (c.into_store-store.ensures.undone.undone is_open).0 in
     let live = subst (IsSound c.in-Ok.again.schema) rows (c.schema-schema.ensures.live (c.in-Ok.ensures.opens clean).0.is_open).0 in
-    relisted _ c.in-Ok.again.schema listed.lists.listed live.lists.listed
+    relisted _ schema c.in-Ok.again.schema simple listed.lists.listed live.lists.listed
 
 pub returns-in-Ok-clause-unlisted : goal.returns-in-Ok-clause-unlisted
 returns-in-Ok-clause-unlisted g c clean listed =

@@ -1,26 +1,48 @@
-use Rattle.std.proofs.Common.{[], map, subst}
+use Rattle.std.proofs.Common.{[], map, arith}
 use Rattle.std.specs.FinMap.{keys}
 use Rattle.sqlite.specs.Held.{state}
-use Rattle.sqlite.specs.State.{Shown}
-use Rattle.sqlite.specs.Effect.{IsDatabase}
+use Rattle.sqlite.specs.State.{HasCleanDisk, Shown}
+use Rattle.store_tables.specs.Named.{names_text}
 use Rattle.sqlite_keeper.specs.Contents.{contents_now}
 use Rattle.sqlite_keeper.specs.Queries.{name_in, Climb}
-use Rattle.sqlite_keeper.proofs.Texts.{names_text, names_plain, names_unlisted}
-use Rattle.sqlite_keeper.proofs.RowRules.{rules_of}
-use Rattle.sqlite_keeper.proofs.GetLemmas.{same_if_ok}
-use Rattle.sqlite_keeper.proofs.SinceLemmas.{shown_by_names, those_are}
+use Rattle.sqlite_keeper.proofs.Kept.{kept_texts, sound_words}
+use Rattle.sqlite_keeper.proofs.GetLemmas.{shows_names, same_if_ok, if_text}
+use Rattle.sqlite_keeper.proofs.ReadLemmas.{may_name, stands_after, left_same, names_told}
 use Rattle.sqlite_keeper.proofs.reading.try_names.Goals as goal
 
-pub ask-requires : goal.ask-requires
-ask-requires g c = (names_plain, names_unlisted)
+pub returns-in_err-rows-clause-sound : goal.returns-in_err-rows-clause-sound
+returns-in_err-rows-clause-sound g c sound clean is_open =
+    (stands_after g.S.Store c.args.conn.now c.ask.new.conn sound c.ask.ensures.clean (c.ask.ensures.told clean) (c.ask.ensures.rests clean (may_name g.S.Store c.args.conn.now (sound_words g.S.Store c.args.conn.now sound))) clean is_open).0
+
+pub returns-in_err-rows-clause-same : goal.returns-in_err-rows-clause-same
+returns-in_err-rows-clause-same g c clean sound is_open =
+    (stands_after g.S.Store c.args.conn.now c.ask.new.conn sound c.ask.ensures.clean (c.ask.ensures.told clean) (c.ask.ensures.rests clean (may_name g.S.Store c.args.conn.now (sound_words g.S.Store c.args.conn.now sound))) clean is_open).1
+
+pub returns-in_err-rows-clause-left : goal.returns-in_err-rows-clause-left
+returns-in_err-rows-clause-left g c clean sound k left = left_same g.S.Store c.args.conn.now c.ask.new.conn k (c.ask.ensures.left clean (may_name g.S.Store c.args.conn.now (sound_words g.S.Store c.args.conn.now sound))) left
+
+pub returns-clause-sound : goal.returns-clause-sound
+returns-clause-sound g c sound clean is_open =
+    (stands_after g.S.Store c.args.conn.now c.ask.new.conn sound c.ask.ensures.clean (c.ask.ensures.told clean) (c.ask.ensures.rests clean (may_name g.S.Store c.args.conn.now (sound_words g.S.Store c.args.conn.now sound))) clean is_open).0
+
+pub returns-clause-same : goal.returns-clause-same
+returns-clause-same g c clean sound is_open =
+    (stands_after g.S.Store c.args.conn.now c.ask.new.conn sound c.ask.ensures.clean (c.ask.ensures.told clean) (c.ask.ensures.rests clean (may_name g.S.Store c.args.conn.now (sound_words g.S.Store c.args.conn.now sound))) clean is_open).1
+
+pub returns-clause-left : goal.returns-clause-left
+returns-clause-left g c clean sound k left = left_same g.S.Store c.args.conn.now c.ask.new.conn k (c.ask.ensures.left clean (may_name g.S.Store c.args.conn.now (sound_words g.S.Store c.args.conn.now sound))) left
+
+pub returns-clause-known : goal.returns-clause-known
+returns-clause-known g c clean sound = if_text c.names_in.result (c.in_ok-rows.ensures.known clean (may_name g.S.Store c.args.conn.now (sound_words g.S.Store c.args.conn.now sound)))
 
 pub returns-clause-names : goal.returns-clause-names
 returns-clause-names g c clean sound =
-    let h = c.in_ok-rows.ensures.shown clean sound in
+    let early : HasCleanDisk (state g.S.Store c.args.conn.now) = omega (arith, c.ask.ensures.clean) in
+    let h = c.in_ok-rows.ensures.shown clean (may_name g.S.Store c.args.conn.now (sound_words g.S.Store c.args.conn.now sound)) in
+    let kept = (sound early h.0).kept in
     let old = state g.S.Store c.args.conn.now in
     let new = state g.S.Store c.ask.new.conn in
     let rows = c.deref.result.now in
-    let shown : Shown names_text [] old new c.deref.result.now = rw (c.deref.ensures.value) h.2 in
-    let sound_rows = rules_of old.now.trees (subst (λ s. IsDatabase (record { schema = s; trees = old.now.trees })) h.0.schema h.1) in
+    let shown : Shown names_text [] old new rows = rw (c.deref.ensures.value) h.1 in
     same_if_ok c.names_in.result Climb (map name_in rows) (keys (contents_now g.S.Store c.args.conn.now).texts) c.names_in.ensures.names c.names_in.ensures.rise
-    (those_are old.now.trees sound_rows h.0.named rows (shown_by_names old new rows h.0.schema shown))
+    (names_told (contents_now g.S.Store c.args.conn.now) rows (shows_names old new (kept_texts kept.0 old.now kept.1) rows shown))

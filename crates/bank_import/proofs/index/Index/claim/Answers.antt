@@ -32,26 +32,24 @@ pub returns-in-ByPayee-clause-found : goal.returns-in-ByPayee-clause-found
 returns-in-ByPayee-clause-found c =
     let tk : Text → Bool = λ q. set.contains text_cmp c.args.taken.now q in
     let r = c.args.facts.now in
-    let all = c.self.inside.all.items in
-    let to = items_of (option_copied c.get-in-ByPayee.result) in
-    let e : id_of (turn c.args.pass r tk to) ≡ id_of (turn c.args.pass r tk c.args.self.now) =
+    let all = c.args.self.now in
+    let to = items_of (option_copied c.near.result) in
+    let e : id_of (turn c.args.pass r tk to) ≡ id_of (turn c.args.pass r tk all) =
     ap (λ p. id_of (turn p r tk to)) c.in-ByPayee.is
-    ∙ ap (λ g. id_of (turn ByPayee r tk g)) (ap items_of c.get-in-ByPayee.ensures.value ∙ c.self.invariant.by_amount r.amount)
+    ∙ ap (λ g. id_of (turn ByPayee r tk g)) c.near.ensures
     ∙ ap id_of (turn_of_payee r tk all)
-    ∙ ap (λ x. id_of (turn ByPayee r tk x)) c.self.view_is
-    ∙ sym (ap (λ p. id_of (turn p r tk c.args.self.now)) c.in-ByPayee.is) in
+    ∙ sym (ap (λ p. id_of (turn p r tk all)) c.in-ByPayee.is) in
     subst (λ (x : Option Text). IfOk c.claim_in-in-ByPayee.result (λ o. o ≡ x)) e c.claim_in-in-ByPayee.ensures.found
 
 pub returns-in-ByAmount-clause-found : goal.returns-in-ByAmount-clause-found
 returns-in-ByAmount-clause-found c =
     let tk : Text → Bool = λ q. set.contains text_cmp c.args.taken.now q in
     let r = c.args.facts.now in
-    let all = c.self.inside.all.items in
-    let to = items_of (option_copied c.get-in-ByAmount.result) in
-    let e : id_of (turn c.args.pass r tk to) ≡ id_of (turn c.args.pass r tk c.args.self.now) =
+    let all = c.args.self.now in
+    let to = items_of (option_copied c.near-in-ByAmount.result) in
+    let e : id_of (turn c.args.pass r tk to) ≡ id_of (turn c.args.pass r tk all) =
     ap (λ p. id_of (turn p r tk to)) c.in-ByAmount.is
-    ∙ ap (λ g. id_of (turn ByAmount r tk g)) (ap items_of c.get-in-ByAmount.ensures.value ∙ c.self.invariant.by_amount r.amount)
+    ∙ ap (λ g. id_of (turn ByAmount r tk g)) c.near-in-ByAmount.ensures
     ∙ ap id_of (turn_of_amount r tk all)
-    ∙ ap (λ x. id_of (turn ByAmount r tk x)) c.self.view_is
-    ∙ sym (ap (λ p. id_of (turn p r tk c.args.self.now)) c.in-ByAmount.is) in
+    ∙ sym (ap (λ p. id_of (turn p r tk all)) c.in-ByAmount.is) in
     subst (λ (x : Option Text). IfOk c.claim_in-in-ByAmount.result (λ o. o ≡ x)) e c.claim_in-in-ByAmount.ensures.found

@@ -11,3 +11,10 @@ returns-in-Err-clause-left g c k left =
     let sound : Sound g.S.Store c.self.inside.conn = c.self.invariant left.unshut left.ours in
     subst (λ (v : Keeping g.row.S.Denot). MayBeLeft g.S.Store v k) c.self.view_is
     (record { unshut = left.unshut; ours = left.ours; clean = early; left = c.try_names.ensures.left left.clean sound k left.left })
+
+pub returns-in-Ok-clause-left : goal.returns-in-Ok-clause-left
+returns-in-Ok-clause-left g c k left =
+    let early : HasCleanDisk (state g.S.Store c.self.inside.conn) = let clean = left.clean in omega (arith, c.try_names.ensures.clean) in
+    let sound : Sound g.S.Store c.self.inside.conn = c.self.invariant left.unshut left.ours in
+    subst (λ (v : Keeping g.row.S.Denot). MayBeLeft g.S.Store v k) c.self.view_is
+    (record { unshut = left.unshut; ours = left.ours; clean = early; left = c.try_names.ensures.left left.clean sound k left.left })

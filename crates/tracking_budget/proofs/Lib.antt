@@ -1,0 +1,11 @@
+pub mod GoingBack
+pub mod Saved
+pub mod Sizes
+pub mod Sides
+pub mod Totals
+pub mod Sheets
+pub mod Adding
+pub mod Prefixes
+pub mod Naming
+pub mod Telling
+pub mod Ordered
