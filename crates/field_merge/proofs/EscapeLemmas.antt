@@ -1,14 +1,17 @@
 -- Escapes: what stands before, at and behind a backslash.
 use Rattle.std.proofs.Common.{◌≡◌, ◌≢◌, ℕ, zero, suc, ◌+◌, ◌<◌, Bool, true, false, cond, ◌||◌, ◌==◌, eqb, List, [], ◌∷◌, ◌++◌, length, get_or, take, drop, Option, None, Some, MatchOption, Bor, not, ◌≤◌, nat_lt, refl, ap, sym, subst, ◌∙◌, arith, append_assoc, length-append, one-add}
-use Rattle.std.specs.List.{position, position_or_len}
+use Rattle.std.specs.Prelude.{All}
+use Rattle.std.specs.List.{fold, position, position_or_len}
 use Rattle.std.proofs.lemmas.List.Folds.{list_any_at}
-use Rattle.std.proofs.lemmas.Bool.{ne_eqb, eq-eqb, eqb-true, ltb-false, or_parts}
+use Rattle.std.proofs.lemmas.Bool.{ne_eqb, eq-eqb, eqb-true, ltb-false, or_from, or_parts}
 use Rattle.std.proofs.lemmas.Bool.Decides.{nat_tests}
 use Rattle.std.proofs.lemmas.List.{append-nil, take_all, drop_all, drop_more}
 use Rattle.std.proofs.lemmas.List.Quantifiers.{position-Some}
 use Rattle.std.proofs.lemmas.Option.{cond_some}
 use Rattle.std.specs.Option.{is_some}
 use Rattle.std.specs.Bool.{OnTrue}
+use Rattle.field_values.specs.Names.{IsName, IsNameByte}
+use Rattle.field_values.proofs.Folded.{no_place}
 use Rattle.memchr.specs.Find.{IsFirstByte, is_byte}
 use Rattle.field_merge.specs.Escapes.{escaped, escaped_byte, is_special, is_letter, unescaped, place_after, bad_escape, has_backslash}
 
@@ -98,6 +101,29 @@ pub escaped-none : (xs : List ℕ) → position is_special xs ≡ None → escap
 escaped-none xs h =
     let far : length xs ≤ position_or_len is_special xs = ltb-false _ _ (none_test (nat_lt (position_or_len is_special xs) (length xs)) _ h) in
     escaped-front xs ∙ (rw (take_all (position_or_len is_special xs) xs far, drop_all (position_or_len is_special xs) xs far) (append-nil xs))
+
+-- the same, where a test of all bytes finds none
+pub whole_folded : (xs : List ℕ) → fold (λ b byte. b || is_special byte) false xs ≡ false → escaped xs ≡ xs
+whole_folded xs h = escaped-none xs (no_place is_special xs h)
+
+pub escaped-safe : (text : List ℕ) → Fails is_special text → escaped text ≡ text
+escaped-safe [] h = refl
+escaped-safe (b ∷ text) h = let plain = escaped_byte-plain b h.0 in rw (plain, escaped-safe text h.1) refl
+
+-- a byte of a name that is no backslash
+pub no_special : (b : ℕ) → 32 ≤ b → (b == 92) ≡ false → is_special b ≡ false
+no_special b low slash = grind (arith, nat_tests)
+
+safe_name : (xs : List ℕ) → All IsNameByte xs → has_backslash xs ≡ false → Fails is_special xs
+safe_name [] all h = tt
+safe_name (x ∷ xs) all h =
+    let first : IsNameByte x = all zero 0 (omega arith) in
+    let both = or_parts (x == 92) (has_backslash xs) h in
+    (no_special x first.0 both.0, safe_name xs (λ k d l. all (suc k) d (omega arith)) both.1)
+
+-- a name without a backslash is written as it is
+pub whole_name : (name : List ℕ) → IsName name → has_backslash name ≡ false → escaped name ≡ name
+whole_name name is h = escaped-safe name (safe_name name is.bytes h)
 
 -- what a cut at the first special byte gives
 pub escaped-cut : (xs : List ℕ) (at : ℕ) → position is_special xs ≡ Some at → (at < length xs) × (is_special (get_or xs at 0) ≡ true) × (escaped xs ≡ take at xs ++ (escaped_byte (get_or xs at 0) ++ escaped (drop (at + 1) xs)))
@@ -209,7 +235,7 @@ pub bad_escape-tab : (ys : List ℕ) → bad_escape ys ≡ None → bad_escape (
 bad_escape-tab ys h = bad_escape-plain 9 ys refl ∙ ap (place_after 1) h
 
 -- a search for a byte finds none
-lacks_byte : (b : ℕ) (bs : List ℕ) → IsFirstByte (is_byte b) bs None → Lacks b bs
+pub lacks_byte : (b : ℕ) (bs : List ℕ) → IsFirstByte (is_byte b) bs None → Lacks b bs
 lacks_byte b bs h = Lacks-from_reads b bs (λ i below same. h i (omega arith) below (eq-eqb (get_or bs i 0) b same))
 
 pub plain_whole : (plain : Bool) (found : Option ℕ) (bs part : List ℕ) → IsFirstByte (is_byte 92) bs found → is_some found ≡ not plain → bs ≡ part → OnTrue plain (unescaped part ≡ part)
@@ -221,6 +247,25 @@ pub plain_good : (plain : Bool) (found : Option ℕ) (bs part : List ℕ) → Is
 plain_good true None bs part h e is = subst (λ (t : List ℕ). bad_escape t ≡ None) is (bad_escape-whole bs (lacks_byte 92 bs h))
 plain_good true (Some k) bs part h e is = cc
 plain_good false found bs part h e is = tt
+
+-- what is plain has no backslash
+no_backslash : (bs : List ℕ) → Lacks 92 bs → has_backslash bs ≡ false
+no_backslash [] h = refl
+no_backslash (x ∷ xs) h = or_from (x == 92) (has_backslash xs) h.0 (no_backslash xs h.1)
+
+pub plain_none : (plain : Bool) (found : Option ℕ) (bs part : List ℕ) → IsFirstByte (is_byte 92) bs found → is_some found ≡ not plain → bs ≡ part → OnTrue plain (has_backslash part ≡ false)
+plain_none true None bs part h e is = subst (λ (t : List ℕ). has_backslash t ≡ false) is (no_backslash bs (lacks_byte 92 bs h))
+plain_none true (Some k) bs part h e is = cc
+plain_none false found bs part h e is = tt
+
+lacks_slash : (xs : List ℕ) → has_backslash xs ≡ false → Lacks 92 xs
+lacks_slash [] h = tt
+lacks_slash (x ∷ xs) h = let both = or_parts (x == 92) (has_backslash xs) h in (both.0, lacks_slash xs both.1)
+
+-- what is known to have no backslash stands for itself
+pub known_whole : (known : Bool) (part : List ℕ) → (known ≡ true → has_backslash part ≡ false) → OnTrue known (unescaped part ≡ part)
+known_whole true part h = unescaped-whole part (lacks_slash part (h refl))
+known_whole false part h = tt
 
 -- what isn't plain has a backslash
 pub plain_not : (plain : Bool) (found : Option ℕ) (bs part : List ℕ) → IsFirstByte (is_byte 92) bs found → is_some found ≡ not plain → bs ≡ part → plain ≡ false → has_backslash part ≡ true

@@ -1,11 +1,12 @@
 -- The parts of a line.
-use Rattle.std.proofs.Common.{◌≡◌, ◌≢◌, ℕ, suc, ◌+◌, List, [], ◌∷◌, ◌++◌, length, Option, None, Some, MatchOption, Bor, refl, ap, sym, subst, ◌∙◌, arith, zero, IfOk, IfErr, append_assoc, Result, Ok, Err, true, false}
+use Rattle.std.proofs.Common.{◌≡◌, ◌≢◌, ℕ, suc, ◌+◌, ◌<◌, List, [], ◌∷◌, ◌++◌, length, get_or, take, drop, Option, None, Some, refl, ap, sym, subst, ◌∙◌, arith, zero, IfOk, IfErr, append_assoc, Result, Ok, Err, Bool, true, false}
 use Rattle.std.specs.Prelude.{count_by, ◌==◌, All}
-use Rattle.std.proofs.lemmas.Bool.{eqb-false, or_parts}
-use Rattle.std.proofs.lemmas.List.{append-nil}
+use Rattle.std.proofs.lemmas.Bool.{eq-eqb, eqb-false, eqb-true, or_parts}
+use Rattle.std.proofs.lemmas.List.{append-nil, drop_more, get_or-take, length-take-le, take-append-drop}
 use Rattle.std.proofs.lemmas.List.Splits.{length-slice_split, join_with_byte-slice_split}
 use Rattle.std.proofs.lemmas.List.Folds.{list_any-append}
 use Rattle.std.specs.List.{join_with_byte}
+use Rattle.std.specs.Bool.{OnTrue}
 use Rattle.std.specs.Result.{is_ok}
 use Rattle.field_values.specs.Names.{FieldNames, field_of, names_fault}
 use Rattle.field_values.specs.Value.{value_text}
@@ -18,13 +19,14 @@ use Rattle.hybrid_clock.specs.Reading.{read_stamp}
 use Rattle.field_values.specs.declared.name.NameFault.{NameFault}
 use Rattle.hybrid_clock.proofs.Texts.{read_valid}
 use Rattle.hybrid_clock.proofs.Writing.{text_reads}
+use Rattle.memchr.specs.Find.{IsFirstByte, is_byte}
 use Rattle.field_merge.specs.declared.message.Message.{Message}
 use Rattle.field_merge.specs.declared.line.LineFault.{LineFault}
 use Rattle.field_merge.specs.declared.line.LineFault.TheVariants.{Columns, NoMemory as OutOfMemory}
 use Rattle.field_merge.specs.Escapes.{escaped, unescaped, bad_escape, has_backslash, ArePlain}
 use Rattle.field_merge.specs.Messages.{IsMessage, message_line}
 use Rattle.field_merge.specs.Lines.{parts, with_names, with_stamp, of_parts, reading, TakesMemory}
-use Rattle.field_merge.proofs.EscapeLemmas.{Lacks, Lacks-from_reads, CutsAt, Fails-append, unescaped-escaped, escaped-no_tab, escaped-no_feed, bad_escape-escaped, bad_escape-tab}
+use Rattle.field_merge.proofs.EscapeLemmas.{Lacks, Lacks-from_reads, lacks_byte, Fails-append, unescaped-escaped, escaped-no_tab, escaped-no_feed, bad_escape-escaped, bad_escape-tab}
 
 pub parts-none : (xs : List ℕ) → Lacks 9 xs → parts xs ≡ xs ∷ []
 parts-none [] h = refl
@@ -34,10 +36,25 @@ pub parts-at : (xs ys : List ℕ) → Lacks 9 xs → parts (xs ++ 9 ∷ ys) ≡ 
 parts-at [] ys h = refl
 parts-at (x ∷ xs) ys h = let first = h.0 in rw (first, parts-at xs ys h.1) refl
 
--- what a cut at the first TAB gives
-pub parts-cut : (bs : List ℕ) (r : Option (Bor (List ℕ) × Bor (List ℕ))) → CutsAt 9 bs r → MatchOption r (parts bs ≡ bs ∷ []) (λ p. parts bs ≡ p.0.now ∷ parts p.1.now)
-parts-cut bs None h = parts-none bs (Lacks-from_reads 9 bs h)
-parts-cut bs (Some x) h = ap parts h.0 ∙ parts-at x.0.now x.1.now (Lacks-from_reads 9 x.0.now h.1)
+-- what a search for a TAB gives: none
+pub parts-whole : (bs line : List ℕ) → IsFirstByte (is_byte 9) bs None → bs ≡ line → parts line ≡ line ∷ []
+parts-whole bs line h is = subst (λ (t : List ℕ). parts t ≡ t ∷ []) is (parts-none bs (lacks_byte 9 bs h))
+
+-- or the first one, at which the line is cut
+abbrev pub FirstTab : List ℕ → ℕ → Type 0
+FirstTab line at = (at < length line) × (get_or line at 0 ≡ 9) × (parts line ≡ take at line ∷ parts (drop (at + 1) line))
+
+pub parts-cut : (bs line : List ℕ) (at : ℕ) → IsFirstByte (is_byte 9) bs (Some at) → bs ≡ line → FirstTab line at
+parts-cut bs line at h is =
+    let found : IsFirstByte (is_byte 9) line (Some at) = subst (λ (t : List ℕ). IsFirstByte (is_byte 9) t (Some at)) is h in
+    let within : at < length line = found.0.high in
+    let tab : get_or line at 0 ≡ 9 = eqb-true (get_or line at 0) 9 found.1 in
+    let front : Lacks 9 (take at line) = Lacks-from_reads 9 (take at line) (λ i l same.
+    let below : i < at = omega (arith, length-take-le at line (omega arith)) in
+    found.0.before i (omega arith) below (eq-eqb (get_or line i 0) 9 (sym (get_or-take at line i 0 below) ∙ same))) in
+    let cut : line ≡ take at line ++ 9 ∷ drop (at + 1) line =
+    sym (take-append-drop at line) ∙ ap (λ t. take at line ++ t) (drop_more line at 0 within ∙ ap (λ b. b ∷ drop (at + 1) line) tab) in
+    (within, tab, ap parts cut ∙ parts-at (take at line) (drop (at + 1) line) front)
 
 pub length_of_parts : (line : List ℕ) → length (parts line) ≡ count_by (λ b. b == 9) line + 1
 length_of_parts line = length-slice_split (λ b. b == 9) line
@@ -105,7 +122,7 @@ reading_of_line m valid =
     ∙ rw (unescaped-escaped (stamp_text m.stamp), unescaped-escaped m.field.dataset, unescaped-escaped m.field.row, unescaped-escaped m.field.column, unescaped-escaped (value_text m.value), text_reads m.stamp valid.stamp, names_fault-none m.field valid.field, value_of_text m.value valid.value) refl
 
 -- a body that is written part by part
-pub body_pushed : (old a b c d : List ℕ) → (((old ++ a) ++ 9 ∷ b) ++ 9 ∷ c) ++ 9 ∷ d ≡ old ++ (a ++ (9 ∷ (b ++ (9 ∷ (c ++ (9 ∷ d))))))
+pub body_pushed : (old a b c d : List ℕ) → ((((old ++ a) ++ 9 ∷ b) ++ 9 ∷ c) ++ 9 ∷ []) ++ d ≡ old ++ (a ++ (9 ∷ (b ++ (9 ∷ (c ++ (9 ∷ d))))))
 body_pushed old a b c d = simp append_assoc
 
 -- a line is a first part, a TAB and the rest
@@ -175,6 +192,11 @@ parts_plain line a b c d e cut h =
     let three = front_plain c (d ++ (9 ∷ e)) two.1 in
     let four = front_plain d e three.1 in
     record { first = one.0; second = two.0; third = three.0; fourth = four.0; fifth = four.1 }
+
+-- the same of a line that is known to have none
+pub plain_parts : (plain : Bool) (line a b c d e : List ℕ) → parts line ≡ a ∷ b ∷ c ∷ d ∷ e ∷ [] → OnTrue plain (has_backslash line ≡ false) → plain ≡ true → ArePlain a b c d e
+plain_parts true line a b c d e cut h is = parts_plain line a b c d e cut h
+plain_parts false line a b c d e cut h is = absurd (cc)
 
 -- where memory is taken, from where it is taken for the parts
 takes_memory : (line a b c d e : List ℕ) → parts line ≡ a ∷ b ∷ c ∷ d ∷ e ∷ [] → bad_escape line ≡ None → (ArePlain a b c d e → is_ok (of_parts (a ∷ b ∷ c ∷ d ∷ e ∷ []) None) ≡ true) → TakesMemory line

@@ -1,6 +1,8 @@
 //! The escapes of a line's parts: `\0`, `\t`, `\n` and `\\` for the bytes 0, 9, 10 and 92.
-ghost use Rattle.std.specs.Prelude.{None, true, false, ◌≡◌, ◌<◌, ◌≤◌, ◌++◌, ◌∷◌, length, IfOk, IsTrue, OnErr, OnOk, MatchOption, position, string_bytes};
+ghost use Rattle.std.specs.Prelude.{None, true, false, ◌≡◌, ◌<◌, ◌≤◌, ◌||◌, ◌++◌, ◌∷◌, length, IfOk, IsTrue, OnErr, OnOk, MatchOption, position, string_bytes};
 ghost use Rattle.std.specs.Bool.{OnTrue};
+ghost use Rattle.std.specs.List.{fold};
+ghost use Rattle.field_values.specs.Names.{IsName};
 ghost use Rattle.field_merge.specs.Escapes as spec;
 ghost use Rattle.field_merge.specs.Escapes.{escaped, escaped_byte, unescaped};
 
@@ -15,8 +17,29 @@ fn is_letter(byte: u8) -> bool
     matches!(byte, b'0' | b't' | b'n' | b'\\')
 }
 
-/// The place of the first backslash that begins no escape.
+/// Whether bytes stand for themselves, since there is no backslash among them.
+fn lacks_backslash(bytes: &[u8]) -> bool
+    ensures whole { OnTrue result (unescaped bytes.now ≡ bytes.now) }
+    ensures good { OnTrue result (spec.bad_escape bytes.now ≡ None) }
+    ensures none { OnTrue result (spec.has_backslash bytes.now ≡ false) }
+    ensures other { result ≡ false → spec.has_backslash bytes.now ≡ true }
+{
+    memchr(b'\\', bytes).is_none()
+}
+
+/// The place of the first backslash that begins no escape. Most texts have no backslash at all.
 pub fn bad_escape(text: &[u8]) -> Option<usize>
+    ensures { result ≡ spec.bad_escape text.now }
+{
+    if lacks_backslash(text) {
+        None
+    } else {
+        first_bad(text)
+    }
+}
+
+/// The same, where there is a backslash.
+fn first_bad(text: &[u8]) -> Option<usize>
     ensures { result ≡ spec.bad_escape text.now }
 {
     let mut at = 0;
@@ -53,20 +76,19 @@ fn cut_backslash(part: &str) -> Option<(&str, &str)>
 pub(crate) fn is_plain(part: &str) -> bool
     ensures whole { OnTrue result (unescaped part.now ≡ part.now) }
     ensures good { OnTrue result (spec.bad_escape part.now ≡ None) }
+    ensures none { OnTrue result (spec.has_backslash part.now ≡ false) }
     ensures other { result ≡ false → spec.has_backslash part.now ≡ true }
 {
-    memchr(b'\\', part.as_bytes()).is_none()
+    lacks_backslash(part.as_bytes())
 }
 
-/// The place of the first backslash that begins no escape. Most lines have no backslash at all.
-pub(crate) fn bad_escape_in(line: &str) -> Option<usize>
-    ensures { result ≡ spec.bad_escape line.now }
+/// Whether a part stands for itself, where it may be known that it has no backslash.
+pub(crate) fn is_plain_part(is_known: bool, part: &str) -> bool
+    requires { is_known ≡ true → spec.has_backslash part.now ≡ false }
+    ensures whole { OnTrue result (unescaped part.now ≡ part.now) }
+    ensures other { result ≡ false → spec.has_backslash part.now ≡ true }
 {
-    if is_plain(line) {
-        None
-    } else {
-        bad_escape(line.as_bytes())
-    }
+    is_known || is_plain(part)
 }
 
 /// What stands behind a backslash: the byte that the two stand for, and the text after them.
@@ -131,6 +153,14 @@ fn is_special(byte: u8) -> bool
     matches!(byte, 0 | 9 | 10 | 92)
 }
 
+/// Whether a part writes a byte of a text by an escape. It goes on behind one, so that a processor looks at many bytes at once.
+fn has_special(text: &[u8]) -> bool
+    ensures { result ≡ fold (λ b byte. b || spec.is_special byte) false text.now }
+{
+    text.iter()
+        .fold(false, |special, byte| special | is_special(*byte))
+}
+
 /// The place of the first byte that a part writes by an escape.
 fn first_special(text: &str) -> Option<usize>
     ensures { result ≡ position spec.is_special text.now }
@@ -169,7 +199,20 @@ fn cut_special(text: &str) -> Option<Cut<'_>>
 }
 
 /// Puts a text at the end of a line, as a part writes it. After `NoMemory` the line may have got a part of it.
+#[tactic(auto, using(crate::proofs::EscapeLemmas::whole_folded))]
 pub fn push_escaped(line: &mut String, text: &str) -> Result<(), NoMemory>
+    ensures line { OnOk result (string_bytes line.new ≡ string_bytes line.old ++ escaped text.now) }
+    ensures front { OnErr result (spec.BeginsWith (string_bytes line.old) (string_bytes line.new)) }
+{
+    if !has_special(text.as_bytes()) {
+        line.push_str(text)?;
+        return Ok(());
+    }
+    push_specials(line, text)
+}
+
+/// The same, where there may well be bytes that are written by an escape.
+fn push_specials(line: &mut String, text: &str) -> Result<(), NoMemory>
     ensures line { OnOk result (string_bytes line.new ≡ string_bytes line.old ++ escaped text.now) }
     ensures front { OnErr result (spec.BeginsWith (string_bytes line.old) (string_bytes line.new)) }
 {
@@ -181,4 +224,18 @@ pub fn push_escaped(line: &mut String, text: &str) -> Result<(), NoMemory>
     }
     line.push_str(rest)?;
     Ok(())
+}
+
+/// Puts a name of a field at the end of a line, as a part writes it. No byte of a name but a backslash is written by an escape.
+#[tactic(auto, using(crate::proofs::EscapeLemmas::whole_name))]
+pub(crate) fn push_name(line: &mut String, name: &str) -> Result<(), NoMemory>
+    requires { IsName name.now }
+    ensures line { OnOk result (string_bytes line.new ≡ string_bytes line.old ++ escaped name.now) }
+    ensures front { OnErr result (spec.BeginsWith (string_bytes line.old) (string_bytes line.new)) }
+{
+    if is_plain(name) {
+        line.push_str(name)?;
+        return Ok(());
+    }
+    push_specials(line, name)
 }

@@ -3,7 +3,7 @@
 ghost use Rattle.std.specs.Prelude.{◌≡◌, ◌&&◌, ◌||◌, IfOk, OnOk, OnErr, List, None, Some, cond, not, true, false};
 ghost use Rattle.std.specs.List.{find, list_any};
 ghost use Rattle.std.specs.BTreeMap.{get, insert_entry, is_at, values, IsOrdered};
-ghost use Rattle.std.specs.Option.{option_copied};
+ghost use Rattle.std.specs.Option.{is_some, option_copied};
 ghost use Rattle.std.specs.BTreeSet.{contains};
 ghost use Rattle.field_values.specs.Names.{FieldNames, names_cmp};
 ghost use Rattle.hybrid_clock.specs.Order.{stamp_cmp};
@@ -106,6 +106,16 @@ fn mark(changed: &mut BTreeSet<Field>, field: &Field) -> Result<(), NoMemory>
     Ok(())
 }
 
+/// Whether a message has this timestamp. One that is later than all of them is known by the last one to be new.
+pub(crate) fn is_known(messages: &Messages, stamp: &Stamp) -> bool
+    ensures { result ≡ is_some (get stamp_cmp messages.now stamp.now) }
+{
+    match messages.last_key_value() {
+        Some((last, _)) if *last < *stamp => false,
+        _ => messages.contains_key(stamp),
+    }
+}
+
 /// Takes in a copy of a message unless its timestamp is there already, marks
 /// its field where it is now the latest of it, and says whether it was new.
 pub(crate) fn take_in(
@@ -124,7 +134,7 @@ pub(crate) fn take_in(
     ensures fresh { IfOk result (λ fresh. fresh ≡ not (list_any (has_stamp message.now.stamp) (values messages.old))) }
     ensures marked { OnOk result ((before : List Message) → MarksChanged before (values messages.old) changed.old → MarksChanged before (values messages.new) changed.new) }
 {
-    if messages.contains_key(&message.stamp) {
+    if is_known(messages, &message.stamp) {
         return Ok(false);
     }
     if enter(alloc, messages, index, message.copy()?)? {

@@ -1,9 +1,11 @@
 //! The line of a message, read and written.
 ghost use Rattle.std.specs.Prelude.{◌≡◌, ◌≢◌, ◌==◌, ◌≤◌, ◌∷◌, ◌++◌, [], length, count_by, IfOk, IfErr, OnErr, OnOk, MatchOption, MatchResult, IsUtf8, Ok, Some, None, true, false, string_bytes};
-ghost use Rattle.field_values.specs.Names.{field_of, names_fault, AreNames};
-ghost use Rattle.field_values.specs.Value.{value_of, IsValue};
+ghost use Rattle.field_values.specs.Names.{field_of, names_fault, AreNames, IsName};
+ghost use Rattle.field_values.specs.Value.{value_of, value_text, HoldsNumber, IsValue};
+ghost use Rattle.field_values.specs.declared.value.Value.TheVariants.{Number};
 ghost use Rattle.hybrid_clock.specs.Stamp.{stamp_text, IsStamp};
 ghost use Rattle.hybrid_clock.specs.Reading.{read_stamp};
+ghost use Rattle.field_merge.specs.Escapes as spec;
 ghost use Rattle.field_merge.specs.Escapes.{escaped, unescaped, has_backslash, BeginsWith};
 ghost use Rattle.std.specs.Result.{is_ok};
 ghost use Rattle.field_merge.specs.Escapes.{ArePlain};
@@ -11,10 +13,12 @@ ghost use Rattle.field_merge.specs.Lines.{reading, parts, of_parts, IsLineFault,
 ghost use Rattle.field_merge.specs.Messages.{IsMessage, message_line, message_body};
 ghost use Rattle.field_merge.specs.declared.line.LineFault.TheVariants.{NoMemory as OutOfMemory};
 
-use crate::escape::{bad_escape_in, is_plain, push_escaped, unescape};
+use crate::escape::{bad_escape, is_plain, is_plain_part, push_escaped, push_name, unescape};
 use crate::message::Message;
 use field_values::{Field, NameFault, NoMemory, Txt, Value};
 use hybrid_clock::{Stamp, StampFault};
+use itoa::Buffer;
+use memchr::memchr;
 use std::alloc::Global;
 use std::str;
 
@@ -60,7 +64,10 @@ struct Parts<'a> {
 pub fn cut_part(line: &str) -> Option<(&str, &str)>
     ensures { MatchOption result (parts line.now ≡ line.now ∷ []) (λ p. parts line.now ≡ p.0.now ∷ parts p.1.now) }
 {
-    line.split_once('\t')
+    let at = memchr(b'\t', line.as_bytes())?;
+    let (part, _) = line.split_at(at);
+    let (_, rest) = line.split_at(at + 1);
+    Some((part, rest))
 }
 
 /// The parts of a line that has five.
@@ -99,13 +106,18 @@ fn count_parts(line: &[u8]) -> usize
     count_tabs(line) + 1
 }
 
-/// The timestamp that a part stands for.
-fn stamp_in(alloc: Global, part: &str) -> Result<Result<Stamp, StampFault>, NoMemory>
+/// The timestamp that a part stands for. `is_plain` is that the line is known to have no backslash.
+fn stamp_in(
+    alloc: Global,
+    part: &str,
+    is_plain: bool,
+) -> Result<Result<Stamp, StampFault>, NoMemory>
+    requires { is_plain ≡ true → has_backslash part.now ≡ false }
     ensures reading { IfOk result (λ read. read ≡ read_stamp (unescaped part.now)) }
     ensures valid { IfOk result (λ read. IfOk read IsStamp) }
     ensures memory { OnErr result (has_backslash part.now ≡ true) }
 {
-    if is_plain(part) {
+    if is_plain_part(is_plain, part) {
         return Ok(Stamp::parse(part.as_bytes()));
     }
     let text = unescape(alloc, part)?;
@@ -133,7 +145,14 @@ fn field_of_names(
 }
 
 /// The field that three parts stand for. Where none has a backslash they are not copied first.
-fn field_in(alloc: Global, parts: &Parts<'_>) -> Result<Result<Field, NameFault>, NoMemory>
+fn field_in(
+    alloc: Global,
+    parts: &Parts<'_>,
+    is_plain: bool,
+) -> Result<Result<Field, NameFault>, NoMemory>
+    requires dataset { is_plain ≡ true → has_backslash parts.now.dataset.now ≡ false }
+    requires row { is_plain ≡ true → has_backslash parts.now.row.now ≡ false }
+    requires column { is_plain ≡ true → has_backslash parts.now.column.now ≡ false }
     ensures reading { let names = field_of (unescaped parts.now.dataset.now) (unescaped parts.now.row.now) (unescaped parts.now.column.now) in
         IfOk result (λ read. MatchResult read
         (λ field. (field ≡ names) × AreNames names × (names_fault names ≡ None))
@@ -141,7 +160,10 @@ fn field_in(alloc: Global, parts: &Parts<'_>) -> Result<Result<Field, NameFault>
     ensures memory { OnErr result (has_backslash parts.now.dataset.now ≡ false → has_backslash parts.now.row.now ≡ false → has_backslash parts.now.column.now ≡ false
         → names_fault (field_of (unescaped parts.now.dataset.now) (unescaped parts.now.row.now) (unescaped parts.now.column.now)) ≡ None) }
 {
-    if is_plain(parts.dataset) && is_plain(parts.row) && is_plain(parts.column) {
+    if is_plain_part(is_plain, parts.dataset)
+        && is_plain_part(is_plain, parts.row)
+        && is_plain_part(is_plain, parts.column)
+    {
         return field_of_names(alloc, parts.dataset, parts.row, parts.column);
     }
     let dataset = unescape(alloc, parts.dataset)?;
@@ -151,11 +173,12 @@ fn field_in(alloc: Global, parts: &Parts<'_>) -> Result<Result<Field, NameFault>
 }
 
 /// The value that a part stands for.
-fn value_in(alloc: Global, part: &str) -> Result<Value, NoMemory>
+fn value_in(alloc: Global, part: &str, is_plain: bool) -> Result<Value, NoMemory>
+    requires { is_plain ≡ true → has_backslash part.now ≡ false }
     ensures value { IfOk result (λ v. v ≡ value_of (unescaped part.now)) }
     ensures valid { IfOk result IsValue }
 {
-    if is_plain(part) {
+    if is_plain_part(is_plain, part) {
         return Value::read(alloc, part);
     }
     let text = unescape(alloc, part)?;
@@ -164,7 +187,8 @@ fn value_in(alloc: Global, part: &str) -> Result<Value, NoMemory>
 
 /// The message that five parts stand for.
 #[tactic(auto, using(crate::proofs::LineLemmas::reads_well))]
-fn message_in(alloc: Global, parts: &Parts<'_>) -> Result<Message, LineFault>
+fn message_in(alloc: Global, parts: &Parts<'_>, is_plain: bool) -> Result<Message, LineFault>
+    requires { is_plain ≡ true → ArePlain parts.now.stamp.now parts.now.dataset.now parts.now.row.now parts.now.column.now parts.now.value.now }
     ensures ok { IfOk result (λ m. of_parts (parts.now.stamp.now ∷ parts.now.dataset.now ∷ parts.now.row.now
         ∷ parts.now.column.now ∷ parts.now.value.now ∷ []) None ≡ Ok m) }
     ensures valid { IfOk result IsMessage }
@@ -173,20 +197,32 @@ fn message_in(alloc: Global, parts: &Parts<'_>) -> Result<Message, LineFault>
     ensures memory { IfErr result (λ fault. fault ≡ OutOfMemory → ArePlain parts.now.stamp.now parts.now.dataset.now parts.now.row.now parts.now.column.now parts.now.value.now
         → is_ok (of_parts (parts.now.stamp.now ∷ parts.now.dataset.now ∷ parts.now.row.now ∷ parts.now.column.now ∷ parts.now.value.now ∷ []) None) ≡ true) }
 {
-    let stamp = match stamp_in(alloc, parts.stamp)? {
+    let stamp = match stamp_in(alloc, parts.stamp, is_plain)? {
         Ok(stamp) => stamp,
         Err(fault) => return Err(LineFault::Stamp(fault)),
     };
-    let field = match field_in(alloc, parts)? {
+    let field = match field_in(alloc, parts, is_plain)? {
         Ok(field) => field,
         Err(fault) => return Err(LineFault::Name(fault)),
     };
-    let value = value_in(alloc, parts.value)?;
+    let value = value_in(alloc, parts.value, is_plain)?;
     Ok(Message {
         stamp,
         field,
         value,
     })
+}
+
+/// The place of the first bad escape of a line, where it may be known that there is none.
+fn bad_escape_in(line: &str, is_plain: bool) -> Option<usize>
+    requires { is_plain ≡ true → spec.bad_escape line.now ≡ None }
+    ensures { result ≡ spec.bad_escape line.now }
+{
+    if is_plain {
+        None
+    } else {
+        bad_escape(line.as_bytes())
+    }
 }
 
 /// The message of a line. The line stands without its end: a LF in it is read as any other byte.
@@ -212,10 +248,11 @@ pub fn read_text(alloc: Global, line: &str) -> Result<Message, LineFault>
             found: count_parts(line.as_bytes()),
         });
     };
-    if let Some(at) = bad_escape_in(line) {
+    let is_plain = is_plain(line);
+    if let Some(at) = bad_escape_in(line, is_plain) {
         return Err(LineFault::Escape { at });
     }
-    message_in(alloc, &parts)
+    message_in(alloc, &parts, is_plain)
 }
 
 /// Bytes that are UTF-8, as a text.
@@ -239,39 +276,74 @@ fn push_stamp(line: &mut String, stamp: &Stamp) -> Result<(), NoMemory>
     Ok(())
 }
 
-/// Puts a TAB and an escaped text at the end of a line.
-fn push_part(line: &mut String, text: &str) -> Result<(), NoMemory>
-    ensures line { OnOk result (string_bytes line.new ≡ string_bytes line.old ++ 9 ∷ escaped text.now) }
+/// Puts a TAB and an escaped name at the end of a line.
+fn push_part(line: &mut String, name: &str) -> Result<(), NoMemory>
+    requires { IsName name.now }
+    ensures line { OnOk result (string_bytes line.new ≡ string_bytes line.old ++ 9 ∷ escaped name.now) }
     ensures front { OnErr result (BeginsWith (string_bytes line.old) (string_bytes line.new)) }
 {
     line.push('\t')?;
-    push_escaped(line, text)
+    push_name(line, name)
+}
+
+/// Puts the text of a number at the end of a line. No byte of it needs an escape.
+#[tactic(auto, using(crate::proofs::StampLemmas::number_pushed))]
+fn push_number(line: &mut String, number: i64) -> Result<(), NoMemory>
+    requires { HoldsNumber number }
+    ensures line { OnOk result (string_bytes line.new ≡ string_bytes line.old ++ escaped (value_text (Number number))) }
+    ensures front { OnErr result (BeginsWith (string_bytes line.old) (string_bytes line.new)) }
+{
+    let mut digits = Buffer::new();
+    line.push_str("N:")?;
+    line.push_str(digits.format(number))?;
+    Ok(())
+}
+
+/// Puts the text of a value at the end of a line, escaped.
+fn push_value(line: &mut String, value: &Value) -> Result<(), NoMemory>
+    requires { IsValue value.now }
+    ensures line { OnOk result (string_bytes line.new ≡ string_bytes line.old ++ escaped (value_text value.now)) }
+    ensures front { OnErr result (BeginsWith (string_bytes line.old) (string_bytes line.new)) }
+{
+    match value {
+        Value::Null => {
+            line.push_str("0:")?;
+            Ok(())
+        }
+        Value::Number(number) => push_number(line, *number),
+        Value::Text(text) => {
+            line.push_str("S:")?;
+            push_escaped(line, text.as_str())
+        }
+        Value::Other(text) => push_escaped(line, text.as_str()),
+    }
 }
 
 /// Puts a message's line without its timestamp at the end of a text: names and value, each escaped, with a TAB between them.
 /// After `NoMemory` the text may have got a part of it.
 #[tactic(auto, using(crate::proofs::LineLemmas::body_pushed))]
-pub fn push_body(alloc: Global, line: &mut String, message: &Message) -> Result<(), NoMemory>
+pub fn push_body(line: &mut String, message: &Message) -> Result<(), NoMemory>
     requires { IsMessage message.now }
     ensures line { OnOk result (string_bytes line.new ≡ string_bytes line.old ++ message_body message.now) }
     ensures front { OnErr result (BeginsWith (string_bytes line.old) (string_bytes line.new)) }
 {
-    push_escaped(line, message.field.dataset())?;
+    push_name(line, message.field.dataset())?;
     push_part(line, message.field.row())?;
     push_part(line, message.field.column())?;
-    push_part(line, message.value.text(alloc)?.as_str())
+    line.push('\t')?;
+    push_value(line, &message.value)
 }
 
 /// Puts a message's line at the end of a text. After `NoMemory` the text may have got a part of it.
 #[tactic(auto, using(crate::proofs::LineLemmas::line_pushed))]
-pub(crate) fn push_line(alloc: Global, line: &mut String, message: &Message) -> Result<(), NoMemory>
+pub(crate) fn push_line(line: &mut String, message: &Message) -> Result<(), NoMemory>
     requires { IsMessage message.now }
     ensures line { OnOk result (string_bytes line.new ≡ string_bytes line.old ++ message_line message.now) }
     ensures front { OnErr result (BeginsWith (string_bytes line.old) (string_bytes line.new)) }
 {
     push_stamp(line, &message.stamp)?;
     line.push('\t')?;
-    push_body(alloc, line, message)
+    push_body(line, message)
 }
 
 /// The line of a message, without its end. It has no LF, and reads as the message again.
@@ -282,6 +354,6 @@ pub fn write_line(alloc: Global, message: &Message) -> Result<Txt, NoMemory>
     ensures reads_back { IfOk result (λ t. reading t ≡ Ok message.now) }
 {
     let mut line = String::with_capacity(alloc, ROOM)?;
-    push_line(alloc, &mut line, message)?;
+    push_line(&mut line, message)?;
     Ok(Txt::new(line))
 }

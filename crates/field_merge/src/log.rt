@@ -9,7 +9,7 @@ ghost use Rattle.field_merge.specs.Log.{IsRising, at_stamp, field_text, has_fiel
 ghost use Rattle.field_merge.specs.Joining.{AreChanged, HasOneEach, HaveSame};
 ghost use Rattle.field_merge.specs.declared.message.Message.{Message};
 
-use crate::index::{Index, Messages, enter, take_in, winner_among};
+use crate::index::{Index, Messages, enter, is_known, take_in, winner_among};
 use crate::later::copies_after;
 use crate::message::Message;
 use crate::pieces::push_ended_line;
@@ -156,7 +156,7 @@ impl Log {
         ensures kept { OnOk result (self.new.spent ≡ false) }
         ensures spent { OnErr result (self.new.spent ≡ true) }
     {
-        if self.messages.contains_key(&message.stamp) {
+        if is_known(&self.messages, &message.stamp) {
             return Ok(Entered {
                 fresh: false,
                 latest: false,
@@ -248,7 +248,7 @@ impl Log {
     {
         let mut text = String::new(self.alloc);
         for message in self.index.values() {
-            push_ended_line(self.alloc, &mut text, message.message())?;
+            push_ended_line(&mut text, message.message())?;
         }
         Ok(Txt::new(text))
     }

@@ -38,25 +38,17 @@ impl<'a> Model for FieldLines<'a> {
 }
 
 /// Writes the line of a message and a line feed after a text.
-pub(crate) fn push_ended_line(
-    alloc: Global,
-    text: &mut String,
-    message: &Message,
-) -> Result<(), NoMemory>
+pub(crate) fn push_ended_line(text: &mut String, message: &Message) -> Result<(), NoMemory>
     requires { IsMessage message.now }
     ensures { OnOk result (string_bytes text.new ≡ string_bytes text.old ++ ended_line message.now) }
 {
-    push_line(alloc, text, message)?;
+    push_line(text, message)?;
     text.push_str("\n")?;
     Ok(())
 }
 
 /// Writes the line of the first of the messages after a text, where there is one, and says whether there is.
-fn push_first(
-    alloc: Global,
-    text: &mut String,
-    left: &mut Iter<'_, Arrival>,
-) -> Result<bool, NoMemory>
+fn push_first(text: &mut String, left: &mut Iter<'_, Arrival>) -> Result<bool, NoMemory>
     ensures lines { OnOk result (string_bytes text.new ++ flat_map ended_line (iter_rest left.new) ≡ string_bytes text.old ++ flat_map ended_line (iter_rest left.old)) }
     ensures fewer { length (iter_rest left.new) ≤ length (iter_rest left.old) }
     ensures some { IfOk result (λ some. MatchBool some (length (iter_rest left.new) < length (iter_rest left.old)) ((iter_rest left.old ≡ []) × (iter_rest left.new ≡ []))) }
@@ -65,7 +57,7 @@ fn push_first(
     let Some(message) = left.next() else {
         return Ok(false);
     };
-    push_ended_line(alloc, text, message.message())?;
+    push_ended_line(text, message.message())?;
     Ok(true)
 }
 
@@ -85,11 +77,11 @@ impl<'a> FieldLines<'a> {
         ensures size { IfOk result (λ piece. MatchOption piece (Unit {0}) (IsPiece self.new)) }
     {
         let mut text = String::with_capacity(self.alloc, ROOM)?;
-        if !push_first(self.alloc, &mut text, &mut self.left)? {
+        if !push_first(&mut text, &mut self.left)? {
             return Ok(None);
         }
         'lines: while text.len() < ENOUGH {
-            if !push_first(self.alloc, &mut text, &mut self.left)? {
+            if !push_first(&mut text, &mut self.left)? {
                 break;
             }
         }

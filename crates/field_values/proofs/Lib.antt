@@ -4,3 +4,4 @@ pub mod NameLemmas
 pub mod HeadLemmas
 pub mod FaultLemmas
 pub mod FieldOrder
+pub mod Folded

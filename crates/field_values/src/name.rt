@@ -1,5 +1,6 @@
 //! What a name of a field may be.
-ghost use Rattle.std.specs.Prelude.{◌≡◌, OnOk, IfErr, Some, None, position};
+ghost use Rattle.std.specs.Prelude.{◌≡◌, ◌||◌, OnOk, IfErr, Some, None, false, position};
+ghost use Rattle.std.specs.List.{fold};
 ghost use Rattle.field_values.specs.declared.name.NameFault.TheVariants.{NoMemory as OutOfMemory};
 ghost use Rattle.field_values.specs.Names.{is_bad_byte, name_fault};
 
@@ -40,11 +41,24 @@ impl From<NoMemory> for NameFault {
 /// The most bytes that a name has.
 pub const MOST_BYTES: usize = 255;
 
+/// Whether there is a byte that no name may have. It goes on behind one, so that a processor looks at many bytes at once.
+fn has_bad_byte(name: &[u8]) -> bool
+    ensures { result ≡ fold (λ b byte. b || is_bad_byte byte) false name.now }
+{
+    name.iter()
+        .fold(false, |bad, byte| bad | (*byte < 32 || *byte == 127))
+}
+
 /// The place of the first byte that no name may have.
+#[tactic(auto, using(crate::proofs::Folded::no_place))]
 fn bad_byte(name: &[u8]) -> Option<usize>
     ensures { result ≡ position is_bad_byte name.now }
 {
-    name.iter().position(|byte| *byte < 32 || *byte == 127)
+    if has_bad_byte(name) {
+        name.iter().position(|byte| *byte < 32 || *byte == 127)
+    } else {
+        None
+    }
 }
 
 /// Whether the bytes may be the name of this part, or what is first wrong with them.

@@ -1,9 +1,9 @@
 -- What it means that a text has the form.
-use Rattle.std.proofs.Common.{◌≡◌, ℕ, zero, suc, ◌+◌, ◌-◌, ◌<◌, ◌≤◌, Bool, true, false, not, cond, List, [], ◌∷◌, length, get_or, Option, None, Some, arith, refl, sym, ◌∙◌, inl, inr}
-use Rattle.std.proofs.lemmas.Bool.{cases_lt, or_cases, cond-false}
+use Rattle.std.proofs.Common.{◌≡◌, ℕ, zero, suc, ◌+◌, ◌-◌, ◌<◌, ◌≤◌, Bool, true, false, not, ◌&&◌, cond, List, [], ◌∷◌, length, get_or, Option, None, Some, arith, refl, sym, ◌∙◌, inl, inr}
+use Rattle.std.proofs.lemmas.Bool.{and_parts, cases_lt, or_cases, cond-false}
 use Rattle.std.proofs.lemmas.Bool.Decides.{nat_tests}
 use Rattle.std.proofs.lemmas.Iterator.Adapters.{position_from-zero}
-use Rattle.std.specs.List.{position_from}
+use Rattle.std.specs.List.{fold, position_from}
 use Rattle.std.specs.Prelude.{zip}
 use Rattle.std.specs.Char.{is_ascii_digit}
 use Rattle.std.specs.Int.{is_in_range}
@@ -46,6 +46,19 @@ fits t l e = fits_from 0 form t (sym l) (sym (position_from-zero is_misfit (zip 
 pub no_misfit : (t : List ℕ) → Fits form t → misfit t ≡ None
 unfolding misfit
 no_misfit t h = position_from-zero is_misfit (zip form t) ∙ none_from 0 form t h
+
+folded : (n : ℕ) (b : Bool) (xs : List (ℕ × ℕ)) → fold (λ b at. b && is_allowed at.0 at.1) b xs ≡ true → (b ≡ true) × (position_from is_misfit n xs ≡ None)
+folded n b [] e = (e, refl)
+folded n b (x ∷ xs) e =
+    let rest = folded (n + 1) (b && is_allowed x.0 x.1) xs e in
+    let both = and_parts b (is_allowed x.0 x.1) rest.0 in
+    let here = both.1 in
+    (both.0, rw here rest.1)
+
+-- where each byte is allowed at its place there is no misfit
+pub formed : (t : List ℕ) → fold (λ b at. b && is_allowed at.0 at.1) true (zip form t) ≡ true → misfit t ≡ None
+unfolding misfit
+formed t e = position_from-zero is_misfit (zip form t) ∙ (folded 0 true (zip form t) e).1
 
 pub fits_at : (ps bs : List ℕ) (i : ℕ) → i < length ps → Fits ps bs → is_allowed (get_or ps i 0) (get_or bs i 0) ≡ true
 fits_at [] bs i l h = absurd (omega arith)

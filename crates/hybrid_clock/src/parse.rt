@@ -1,5 +1,6 @@
 //! Reading the text of a timestamp.
-ghost use Rattle.std.specs.Prelude.{◌≡◌, ◌+◌, ◌<◌, None, Some, IfOk, IfSome, if◌then◌else◌, slice_index, drop, pos, ◌≤ℤ◌, unsigned_abs};
+ghost use Rattle.std.specs.Prelude.{◌≡◌, ◌+◌, ◌<◌, None, Some, IfOk, IfSome, if◌then◌else◌, slice_index, drop, pos, ◌≤ℤ◌, unsigned_abs, true, ◌&&◌, zip};
+ghost use Rattle.std.specs.List.{fold};
 ghost use Rattle.jiff_core.specs.Calendar.{days_from_civil};
 ghost use Rattle.jiff_core.specs.Date.{epoch_day};
 ghost use Rattle.hybrid_clock.specs.Stamp.{stamp_text, IsStamp};
@@ -62,9 +63,32 @@ fn is_allowed(place: u8, byte: u8) -> bool
     }
 }
 
+/// Whether the form allows each byte at its place. It goes on behind one that it doesn't, so that a processor compares many at once.
+fn is_formed(text: &[u8; 46]) -> bool
+    ensures { result ≡ fold (λ b at. b && is_allowed at.0 at.1) true (zip form text.now) }
+{
+    FORM.iter()
+        .zip(text.iter())
+        .fold(true, |formed, (place, byte)| {
+            formed & is_allowed(*place, *byte)
+        })
+}
+
 /// The first place whose byte the form does not allow there.
-#[tactic(auto, unfolding(crate::specs::Reading::misfit))]
+#[tactic(auto, using(crate::proofs::Form::formed))]
 fn misfit(text: &[u8; 46]) -> Option<usize>
+    ensures { result ≡ spec.misfit text.now }
+{
+    if is_formed(text) {
+        None
+    } else {
+        first_misfit(text)
+    }
+}
+
+/// The same, where there may well be one.
+#[tactic(auto, unfolding(crate::specs::Reading::misfit))]
+fn first_misfit(text: &[u8; 46]) -> Option<usize>
     ensures { result ≡ spec.misfit text.now }
 {
     FORM.iter()

@@ -34,7 +34,7 @@ fn body(alloc: Global, message: &Message) -> Result<Txt, NoMemory>
     ensures { IfOk result (λ t. t ≡ message_body message.now) }
 {
     let mut body = String::new(alloc);
-    push_body(alloc, &mut body, message)?;
+    push_body(&mut body, message)?;
     Ok(Txt::new(body))
 }
 

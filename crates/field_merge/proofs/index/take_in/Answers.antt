@@ -7,23 +7,23 @@ use Rattle.field_merge.proofs.Members.{none_from_any}
 use Rattle.field_merge.proofs.Stored.{any-own, join-fresh, join-there, marks-placed, names_flip}
 use Rattle.field_merge.proofs.index.take_in.Goals as goal
 
-pub returns-then-contains_key-clause-joined : goal.returns-then-contains_key-clause-joined
-returns-then-contains_key-clause-joined c =
+pub returns-then-is_known-clause-joined : goal.returns-then-is_known-clause-joined
+returns-then-is_known-clause-joined c =
     join-there (values c.args.messages.now) c.args.message.now
-    (any-own c.args.messages.now.entries c.requires.stands.own c.args.message.now.stamp ∙ sym c.contains_key.ensures ∙ c.if-contains_key.true)
+    (any-own c.args.messages.now.entries c.requires.stands.own c.args.message.now.stamp ∙ sym c.is_known.ensures ∙ c.if-is_known.true)
 
-pub returns-then-contains_key-clause-fresh : goal.returns-then-contains_key-clause-fresh
-returns-then-contains_key-clause-fresh c =
-    sym (ap not (any-own c.args.messages.now.entries c.requires.stands.own c.args.message.now.stamp ∙ sym c.contains_key.ensures ∙ c.if-contains_key.true))
+pub returns-then-is_known-clause-fresh : goal.returns-then-is_known-clause-fresh
+returns-then-is_known-clause-fresh c =
+    sym (ap not (any-own c.args.messages.now.entries c.requires.stands.own c.args.message.now.stamp ∙ sym c.is_known.ensures ∙ c.if-is_known.true))
 
 pub returns-in_ok-mark-clause-joined : goal.returns-in_ok-mark-clause-joined
 returns-in_ok-mark-clause-joined c =
-    let lacks = any-own c.args.messages.now.entries c.requires.stands.own c.args.message.now.stamp ∙ sym c.contains_key.ensures ∙ c.if-contains_key.false in
+    let lacks = any-own c.args.messages.now.entries c.requires.stands.own c.args.message.now.stamp ∙ sym c.is_known.ensures ∙ c.if-is_known.false in
     c.in_ok-enter.ensures.placed ∙ ap (placed by_stamp (values c.args.messages.now)) c.in_ok-copy.ensures ∙ join-fresh (values c.args.messages.now) c.args.message.now lacks
 
 pub returns-in_ok-mark-clause-fresh : goal.returns-in_ok-mark-clause-fresh
 returns-in_ok-mark-clause-fresh c =
-    sym (ap not (any-own c.args.messages.now.entries c.requires.stands.own c.args.message.now.stamp ∙ sym c.contains_key.ensures ∙ c.if-contains_key.false))
+    sym (ap not (any-own c.args.messages.now.entries c.requires.stands.own c.args.message.now.stamp ∙ sym c.is_known.ensures ∙ c.if-is_known.false))
 
 pub returns-in_ok-mark-clause-marked : goal.returns-in_ok-mark-clause-marked
 returns-in_ok-mark-clause-marked c =
@@ -31,7 +31,7 @@ returns-in_ok-mark-clause-marked c =
     let ms = values c.args.messages.now in
     let n = c.args.message.now in
     let copy = c.in_ok-copy.ensures in
-    let lacks = any-own c.args.messages.now.entries c.requires.stands.own c.args.message.now.stamp ∙ sym c.contains_key.ensures ∙ c.if-contains_key.false in
+    let lacks = any-own c.args.messages.now.entries c.requires.stands.own c.args.message.now.stamp ∙ sym c.is_known.ensures ∙ c.if-is_known.false in
     marks-placed before (values c.args.messages.now) (values c.enter.new.messages) c.args.changed.now c.mark.new.changed c.args.message.now c.in_ok-enter.field-0
     (none_from_any (has_stamp c.args.message.now.stamp) (values c.args.messages.now) lacks)
     (c.in_ok-enter.ensures.placed ∙ ap (placed by_stamp (values c.args.messages.now)) copy)
@@ -41,12 +41,12 @@ returns-in_ok-mark-clause-marked c =
 
 pub returns-else-branch-clause-joined : goal.returns-else-branch-clause-joined
 returns-else-branch-clause-joined c =
-    let lacks = any-own c.args.messages.now.entries c.requires.stands.own c.args.message.now.stamp ∙ sym c.contains_key.ensures ∙ c.if-contains_key.false in
+    let lacks = any-own c.args.messages.now.entries c.requires.stands.own c.args.message.now.stamp ∙ sym c.is_known.ensures ∙ c.if-is_known.false in
     c.in_ok-enter.ensures.placed ∙ ap (placed by_stamp (values c.args.messages.now)) c.in_ok-copy.ensures ∙ join-fresh (values c.args.messages.now) c.args.message.now lacks
 
 pub returns-else-branch-clause-fresh : goal.returns-else-branch-clause-fresh
 returns-else-branch-clause-fresh c =
-    sym (ap not (any-own c.args.messages.now.entries c.requires.stands.own c.args.message.now.stamp ∙ sym c.contains_key.ensures ∙ c.if-contains_key.false))
+    sym (ap not (any-own c.args.messages.now.entries c.requires.stands.own c.args.message.now.stamp ∙ sym c.is_known.ensures ∙ c.if-is_known.false))
 
 pub returns-else-branch-clause-marked : goal.returns-else-branch-clause-marked
 returns-else-branch-clause-marked c =
@@ -54,7 +54,7 @@ returns-else-branch-clause-marked c =
     let ms = values c.args.messages.now in
     let n = c.args.message.now in
     let copy = c.in_ok-copy.ensures in
-    let lacks = any-own c.args.messages.now.entries c.requires.stands.own c.args.message.now.stamp ∙ sym c.contains_key.ensures ∙ c.if-contains_key.false in
+    let lacks = any-own c.args.messages.now.entries c.requires.stands.own c.args.message.now.stamp ∙ sym c.is_known.ensures ∙ c.if-is_known.false in
     marks-placed before (values c.args.messages.now) (values c.enter.new.messages) c.args.changed.now c.args.changed.now c.args.message.now c.in_ok-enter.field-0
     (none_from_any (has_stamp c.args.message.now.stamp) (values c.args.messages.now) lacks)
     (c.in_ok-enter.ensures.placed ∙ ap (placed by_stamp (values c.args.messages.now)) copy)

@@ -2,7 +2,7 @@
 use Rattle.std.proofs.Common.{sym, arith}
 use Rattle.field_merge.specs.Escapes as spec
 use Rattle.field_merge.proofs.EscapeLemmas.{place_after-zero, bad_escape-on, bad_escape-over}
-use Rattle.field_merge.proofs.escape.bad_escape.Goals as goal
+use Rattle.field_merge.proofs.escape.first_bad.Goals as goal
 
 pub loop-at-init : goal.loop-at-init
 loop-at-init c = (omega arith, sym (place_after-zero (spec.bad_escape c.args.text.now)))

@@ -3,7 +3,7 @@ use Rattle.std.proofs.Common.{◌≡◌, ◌++◌, length, string_bytes}
 use denote.Text.{Utf8}
 use denote.Shadow.{shadow}
 use Rattle.field_merge.specs.Escapes.{escaped, BeginsWith}
-use Rattle.field_merge.proofs.escape.push_escaped.Given as goal
+use Rattle.field_merge.proofs.escape.push_specials.Given as goal
 
 abbrev pub invariant-specials : goal.invariant-specials
 invariant-specials l = record {
