@@ -56,6 +56,9 @@ impl Records {
         ensures ok { OnOk result (self.new ≡ with_records group.now self.old batch.now) }
         ensures err { OnErr result (self.new ≡ self.old) }
     {
+        if let [kept] = batch {
+            return self.add_one(group, kept);
+        }
         let mut added = Vec::new(self.alloc);
         match self.add_all(group, batch, &mut added) {
             Ok(()) => Ok(()),
@@ -82,11 +85,28 @@ impl Records {
         Ok(())
     }
 
-    /// Whether a record stands at this place.
+    /// Whether a record stands at this place. One behind all of them is known by the last one to have none.
     fn has(&self, key: &Place) -> bool
         ensures { result ≡ map.contains_key self.now key.now }
     {
-        self.bodies.contains_key(key)
+        match self.bodies.last_key_value() {
+            Some((last, _)) if *last < *key => false,
+            _ => self.bodies.contains_key(key),
+        }
+    }
+
+    /// Adds a record whose key is not there, or nothing where memory runs out.
+    fn add_one(&mut self, group: &Txt, kept: &Record) -> Result<(), NoMemory>
+        ensures ok { OnOk result (self.new ≡ with_record group.now self.old kept.now) }
+        ensures err { OnErr result (self.new ≡ self.old) }
+    {
+        let key = place(group, &kept.key)?;
+        if self.has(&key) {
+            return Ok(());
+        }
+        let body = kept.body.copy()?;
+        self.bodies.insert(key, body)?;
+        Ok(())
     }
 
     /// Adds a record whose key is not there, and its place to `added`.

@@ -6,6 +6,7 @@ ghost use Rattle.minute_trie.specs.Json.{map_text, members_text, child_text, has
 use crate::key::Digit;
 use crate::node::{HASH, Node};
 use field_values::NoMemory;
+use itoa::Buffer;
 
 /// Writes a node at the end of the text, with so many digits below it.
 #[cycle(write)]
@@ -60,7 +61,9 @@ fn write_child(
 fn write_key(name: &str, out: &mut String) -> Result<(), NoMemory>
     ensures { OnOk result (string_bytes out.new ≡ string_bytes out.old ++ key_text name.now) }
 {
-    write!(out, "\"{name}\":")?;
+    out.push_str("\"")?;
+    out.push_str(name)?;
+    out.push_str("\":")?;
     Ok(())
 }
 
@@ -68,8 +71,9 @@ fn write_key(name: &str, out: &mut String) -> Result<(), NoMemory>
 fn write_hash(hash: u32, out: &mut String) -> Result<(), NoMemory>
     ensures { OnOk result (string_bytes out.new ≡ string_bytes out.old ++ (hash_text hash ++ codes "}")) }
 {
-    let signed = hash.cast_signed();
+    let mut digits = Buffer::new();
     write_key(HASH, out)?;
-    write!(out, "{signed}}}")?;
+    out.push_str(digits.format(hash.cast_signed()))?;
+    out.push_str("}")?;
     Ok(())
 }

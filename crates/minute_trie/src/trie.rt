@@ -21,6 +21,9 @@ use hybrid_clock::Stamp;
 use serde_json::{Error, Value};
 use std::alloc::Global;
 
+/// Room for the text of most tries.
+const ROOM: usize = 1 << 12;
+
 /// A trie of hashes by minute.
 ///
 /// The trie of a list of timestamps has a root, and a node at each prefix of a key that is, as each
@@ -107,7 +110,7 @@ impl Trie {
     pub fn to_json(&self) -> Result<Txt, NoMemory>
         ensures { IfOk result (λ text. text ≡ trie_text (held self.now)) }
     {
-        let mut text = String::new(self.alloc);
+        let mut text = String::with_capacity(self.alloc, ROOM)?;
         write_node(&self.root, 16, &mut text)?;
         Ok(Txt::new(text))
     }

@@ -9,6 +9,12 @@ use field_merge::Message;
 use field_values::NoMemory;
 use std::alloc::Global;
 
+/// Room for the contents of most messages.
+const CONTENT_ROOM: usize = 128;
+
+/// Room for most envelopes.
+const ENVELOPE_ROOM: usize = CONTENT_ROOM + 64;
+
 /// Writes a number that one byte and so many more hold.
 #[tactic(auto, using(crate::proofs::Numbers::number_rules))]
 fn put_number(out: &mut Vec<u8>, more: u8, number: u64) -> Result<(), NoMemory>
@@ -56,7 +62,7 @@ pub(crate) fn content_of(alloc: Global, message: &Message) -> Result<Vec<u8>, No
     ensures texts { IfOk result (λ _. HasTexts message.now) }
 {
     let value = message.value.text(alloc)?;
-    let mut out = Vec::new(alloc);
+    let mut out = Vec::with_capacity(alloc, CONTENT_ROOM)?;
     put_text(&mut out, 1, message.field.dataset().as_bytes())?;
     put_text(&mut out, 2, message.field.row().as_bytes())?;
     put_text(&mut out, 3, message.field.column().as_bytes())?;
@@ -73,7 +79,7 @@ fn envelope_of(alloc: Global, message: &Message) -> Result<Vec<u8>, NoMemory>
     let content = content_of(alloc, message)?;
     let mut stamp = [0u8; 46];
     message.stamp.write_text(&mut stamp);
-    let mut out = Vec::new(alloc);
+    let mut out = Vec::with_capacity(alloc, ENVELOPE_ROOM)?;
     put_text(&mut out, 1, &stamp)?;
     put_bytes(&mut out, 3, &content)?;
     Ok(out)
