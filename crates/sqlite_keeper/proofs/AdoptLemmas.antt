@@ -114,10 +114,6 @@ version_found k t version v is some = elim version.is [
 ]
 
 -- a schema of one kind is not one of another
-pub not_blank : (s : Schema) → IsOurs s → s ≡ no_schema → ⊥
-not_blank s (inl is) none = let e : ◌≡◌ {A = ℕ} 4 0 = ap (λ (t : Schema). length t.tables) (sym is ∙ none) in cc
-not_blank s (inr is) none = let e : ◌≡◌ {A = ℕ} 5 0 = ap (λ (t : Schema). length t.tables) (sym is ∙ none) in cc
-
 pub not_first : (s : Schema) → IsOurs s → s ≡ first_schema → ⊥
 not_first s (inl is) first = let e : ◌≡◌ {A = ℕ} 4 2 = ap (λ (t : Schema). length t.tables) (sym is ∙ first) in cc
 not_first s (inr is) first = let e : ◌≡◌ {A = ℕ} 5 2 = ap (λ (t : Schema). length t.tables) (sym is ∙ first) in cc

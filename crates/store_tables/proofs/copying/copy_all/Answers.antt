@@ -18,7 +18,10 @@ loop-row-preserved g c =
           let early : HasCleanDisk (state g.S.Store mid) = omega (arith, c.copy_row.ensures.survives.clean, clean) in
           let before = c.loop-row.invariant.2 early t l m items was in
           let item = items c.row-item.result (has_at c.args.rows.now c.loop-row.row-index c.row-item.result c.loop-row-test.true c.row-item.is) in
-          copies_on t g.S.Store old mid new c.args.rows.now c.loop-row.row-index c.row-item.result c.loop-row-test.true c.row-item.is before (c.in_ok-copy_row.ensures.copied clean t l m item before.goes.within),
+          let one = c.in_ok-copy_row.ensures.copied clean t l m item before.0.goes.within before.1 in (
+            copies_on t g.S.Store old mid new c.args.rows.now c.loop-row.row-index c.row-item.result c.loop-row-test.true c.row-item.is before.0 one.0,
+            one.1,
+          ),
     )
 
 pub returns-in_err-copy_row-clause-fell : goal.returns-in_err-copy_row-clause-fell
@@ -29,4 +32,4 @@ returns-in_err-copy_row-clause-fell g c clean t l m items was =
     let early : HasCleanDisk (state g.S.Store mid) = omega (arith, c.copy_row.ensures.survives.clean, clean) in
     let before = c.loop-row.invariant.2 early t l m items was in
     let item = items c.row-item.result (has_at c.args.rows.now c.loop-row.row-index c.row-item.result c.loop-row-test.true c.row-item.is) in
-    fails c.from_residual.result (fell_later t g.S.Store old mid new c.args.rows.now _ was before (c.in_err-copy_row.ensures.fell clean t l m item before.goes.within))
+    fails c.from_residual.result (fell_later t g.S.Store old mid new c.args.rows.now _ was before.0 (c.in_err-copy_row.ensures.fell clean t l m item before.0.goes.within before.1))
