@@ -1,5 +1,5 @@
 -- A group whose id is known.
-use Rattle.std.specs.Prelude.{◌≡◌, ℤ, List, Option, None, Some}
+use Rattle.std.specs.Prelude.{◌≡◌, ⊤, ℤ, List, Option, None, Some}
 use Rattle.sqlite_value.specs.Value.{owned}
 use Rattle.sqlite_value.specs.Order.{Row}
 use Rattle.sqlite_value.specs.declared.value.ValueRef.{ValueRef}

@@ -1,10 +1,13 @@
-use Rattle.std.proofs.Common.{rules, arith, ◌∙◌}
+use Rattle.std.proofs.Common.{rules, arith, refl, tt, ◌∙◌}
 use Rattle.sqlite.specs.State.{HasCleanDisk, Survives}
 use Rattle.sqlite.specs.Held.{state}
 use Rattle.sqlite_rules.proofs.ListLemmas.{has_at}
 use Rattle.store_tables.proofs.WithinLemmas.{fails}
-use Rattle.store_tables.proofs.CopyLemmas.{copies_on, fell_later}
+use Rattle.store_tables.proofs.CopyLemmas.{begins, copies_on, fell_later}
 use Rattle.store_tables.proofs.copying.copy_all.Goals as goal
+
+pub loop-row-init : goal.loop-row-init
+loop-row-init g c = (refl, search rules, λ clean t l m items was. (begins t g.S.Store c.args.tx.now.conn.now c.args.rows.now was, tt))
 
 pub loop-row-preserved : goal.loop-row-preserved
 loop-row-preserved g c =
