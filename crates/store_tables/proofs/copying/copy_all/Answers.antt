@@ -1,4 +1,4 @@
-use Rattle.std.proofs.Common.{rules, arith, refl, tt, ◌∙◌}
+use Rattle.std.proofs.Common.{rules, arith, refl, ◌∙◌}
 use Rattle.sqlite.specs.State.{HasCleanDisk, Survives}
 use Rattle.sqlite.specs.Held.{state}
 use Rattle.sqlite_rules.proofs.ListLemmas.{has_at}

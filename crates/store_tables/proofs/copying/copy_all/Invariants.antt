@@ -15,4 +15,4 @@ invariant-loop-row g l =
     let now = l.tx.conn.now in
     (l.tx.conn.ghost_name ≡ l.fn.tx.conn.ghost_name) × Survives (state g.S.Store old) (state g.S.Store now) (λ _. ⊥)
     × (HasCleanDisk (state g.S.Store now) → (t : Tables) → Layout t → Texts t → ((x : _) → Has l.rows x → IsItemRow x) → Within t g.S.Store old
-        → CopiesOn t g.S.Store old now l.rows (drop l.row-index l.rows) × IsMet ((state g.S.Store now).now.trees t.grps_tree) l.known)
+    → CopiesOn t g.S.Store old now l.rows (drop l.row-index l.rows) × IsMet ((state g.S.Store now).now.trees t.grps_tree) l.known)
