@@ -17,7 +17,7 @@ use Rattle.sqlite_rules.specs.Lists.{Has}
 use Rattle.store_tables.specs.Tables.{grps, entries, named}
 use Rattle.store_tables.proofs.KnownTables.{known}
 use Rattle.sqlite_keeper.specs.Tables.{IsOurs, items, first_schema, no_schema}
-use Rattle.sqlite_keeper.specs.Contents.{Contents, Rests, Stands, Sound, HasTables, IsFirst, MayLeave, contents_of, contents_now}
+use Rattle.sqlite_keeper.specs.Contents.{Contents, Rests, Stands, HasTables, IsFirst, MayLeave, contents_of, contents_now}
 use Rattle.sqlite_keeper.specs.Queries.{LeavesAll, HasWords}
 use Rattle.sqlite_keeper.specs.Adopting.{IsInOrder, HasVersion, IsToTake, IsToKeep, TellsVersion, MayBecome, IsVersion, HasReason, IsStopped, LeavesOr, LeavesOrBegins, moved, new_contents, version_name, version_one, version_two}
 use Rattle.sqlite_keeper.specs.Adopted.{IsTaken, IsGivenBack}
@@ -49,9 +49,6 @@ module _ {S : Type 0} (g : Ghosts S) (h : Held S) (idle : h.in_transaction ≡ f
           named = ordered clean is_open (named t.named_tree) (there _ l.has_named);
         },
       )
-
-  pub ours_sound : IsOurs h.schema → Sound g h
-  ours_sound ours clean is_open = record { rests = resting clean is_open; kept = ours_kept ours clean is_open }
 
   pub first_is : h.schema ≡ first_schema → HasCleanDisk (state g h) → IsTrue (state g h).is_open → IsFirst (state g h).now
   first_is is clean is_open =
@@ -114,10 +111,6 @@ version_found k t version v is some = elim version.is [
 ]
 
 -- a schema of one kind is not one of another
-pub not_blank : (s : Schema) → IsOurs s → s ≡ no_schema → ⊥
-not_blank s (inl is) none = let e : ◌≡◌ {A = ℕ} 4 0 = ap (λ (t : Schema). length t.tables) (sym is ∙ none) in cc
-not_blank s (inr is) none = let e : ◌≡◌ {A = ℕ} 5 0 = ap (λ (t : Schema). length t.tables) (sym is ∙ none) in cc
-
 pub not_first : (s : Schema) → IsOurs s → s ≡ first_schema → ⊥
 not_first s (inl is) first = let e : ◌≡◌ {A = ℕ} 4 2 = ap (λ (t : Schema). length t.tables) (sym is ∙ first) in cc
 not_first s (inr is) first = let e : ◌≡◌ {A = ℕ} 5 2 = ap (λ (t : Schema). length t.tables) (sym is ∙ first) in cc

@@ -9,18 +9,6 @@ pub if_err : {T E : Type 0} {P Q : E → Type 0} (r : Result T E) → ((x : E) �
 if_err (Ok x) f p = tt
 if_err (Err e) f p = f e p
 
-pub if_both_ok : {T E : Type 0} {P Q R : T → Type 0} (r : Result T E) → ((x : T) → P x → Q x → R x) → IfOk r P → IfOk r Q → IfOk r R
-if_both_ok (Ok x) f p q = f x p q
-if_both_ok (Err e) f p q = tt
-
-pub if_all_ok : {T E : Type 0} {P Q R X : T → Type 0} (r : Result T E) → ((x : T) → P x → Q x → R x → X x) → IfOk r P → IfOk r Q → IfOk r R → IfOk r X
-if_all_ok (Ok x) f p q s = f x p q s
-if_all_ok (Err e) f p q s = tt
-
-pub if_both_err : {T E : Type 0} {P Q R : E → Type 0} (r : Result T E) → ((x : E) → P x → Q x → R x) → IfErr r P → IfErr r Q → IfErr r R
-if_both_err (Ok x) f p q = tt
-if_both_err (Err e) f p q = f e p q
-
 pub on_ok : {T E P Q : Type 0} (r : Result T E) → (P → Q) → OnOk r P → OnOk r Q
 on_ok (Ok x) f p = f p
 on_ok (Err e) f p = tt

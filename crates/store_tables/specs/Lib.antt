@@ -7,6 +7,7 @@ pub mod Entered
 pub mod Returned
 pub mod Stored
 pub mod Within
+pub mod Met
 pub mod Moving
 pub mod Copied
 pub mod Since

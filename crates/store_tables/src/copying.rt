@@ -1,5 +1,5 @@
 //! One record is added to the two tables, within a transaction.
-ghost use Rattle.std.specs.Prelude.{◌≡◌, [], IsTrue, IfOk, OnOk, OnErr};
+ghost use Rattle.std.specs.Prelude.{◌≡◌, [], Some, IsTrue, IfOk, OnOk, OnErr};
 ghost use Rattle.sqlite.specs.State.{HasCleanDisk, Survives};
 ghost use Rattle.sqlite.specs.Held.{state};
 ghost use Rattle.sqlite_value.specs.Value.{owned};
@@ -9,6 +9,7 @@ ghost use Rattle.store_tables.specs.Layout.{Layout};
 ghost use Rattle.sqlite_rules.specs.Lists.{Has};
 ghost use Rattle.store_tables.specs.Copied.{IsItemRow, CopiesOn, with_shown};
 ghost use Rattle.store_tables.specs.Joined.{Text, with_record};
+ghost use Rattle.store_tables.specs.Met.{IsMet};
 ghost use Rattle.store_tables.specs.Within.{Within, records_now, IsIdOf, Goes, Fell, ShowsGroups};
 
 use sqlite::types::ValueRef;
@@ -87,46 +88,69 @@ pub fn group_id<S: Alter>(tx: &mut Transaction<'_, S>, name: ValueRef<'_>) -> Re
     first_id(&rows)
 }
 
-/// Adds one record, with at most three statements: the tables read as they did with that one record more.
-pub fn add_record<'x, S: Alter>(
-    tx: &mut Transaction<'_, S>,
-    group: ValueRef<'x>,
-    key: ValueRef<'x>,
-    body: ValueRef<'x>,
-) -> Result<(), Error>
-    ensures same_reference { tx.new.conn.ghost_name ≡ tx.old.conn.ghost_name }
-    ensures added { HasCleanDisk (state S.Store tx.new.conn.now) → (t : Tables) → Layout t → Texts t → (name at text : Text) → owned group.entry ≡ Words name → owned key.entry ≡ Words at → owned body.entry ≡ Words text → Within t S.Store tx.old.conn.now → OnOk result (Goes t S.Store tx.old.conn.now tx.new.conn.now (with_record name (records_now t S.Store tx.old.conn.now) at text)) }
-    ensures fell { HasCleanDisk (state S.Store tx.new.conn.now) → (t : Tables) → Layout t → Texts t → (name : Text) → owned group.entry ≡ Words name → Within t S.Store tx.old.conn.now → OnErr result (Fell S.Store tx.old.conn.now tx.new.conn.now) }
-    ensures survives { Survives (state S.Store tx.old.conn.now) (state S.Store tx.new.conn.now) (λ _. ⊥) }
+/// Whether both are the same text.
+fn is_same(one: ValueRef<'_>, other: ValueRef<'_>) -> bool
+    ensures same { IsTrue result → owned one.entry ≡ owned other.entry }
+    ensures whole { (text : Text) → owned one.entry ≡ Words text → owned other.entry ≡ Words text → IsTrue result }
 {
-    match group_id(tx, group) {
-        Ok(id) => enter(tx, id, key, body),
-        Err(error) => Err(error),
+    match (one, other) {
+        (ValueRef::Text(left), ValueRef::Text(right)) => left == right,
+        _ => false,
     }
 }
 
-/// Adds the record that a row of a store of the first version shows.
-fn copy_row<S: Alter>(tx: &mut Transaction<'_, S>, row: &Row) -> Result<(), Error>
+/// The id of a group: the one that is known, where it is of the same group, else with at most two statements.
+fn id_of<'x, S: Alter>(
+    tx: &mut Transaction<'_, S>,
+    name: ValueRef<'x>,
+    known: Option<(ValueRef<'x>, i64)>,
+) -> Result<i64, Error>
     ensures same_reference { tx.new.conn.ghost_name ≡ tx.old.conn.ghost_name }
-    ensures copied { HasCleanDisk (state S.Store tx.new.conn.now) → (t : Tables) → Layout t → Texts t → IsItemRow row.now → Within t S.Store tx.old.conn.now → OnOk result (Goes t S.Store tx.old.conn.now tx.new.conn.now (with_shown (records_now t S.Store tx.old.conn.now) row.now)) }
-    ensures fell { HasCleanDisk (state S.Store tx.new.conn.now) → (t : Tables) → Layout t → Texts t → IsItemRow row.now → Within t S.Store tx.old.conn.now → OnErr result (Fell S.Store tx.old.conn.now tx.new.conn.now) }
+    ensures at { HasCleanDisk (state S.Store tx.new.conn.now) → (t : Tables) → Layout t → Texts t → (group : Text) → owned name.entry ≡ Words group → Within t S.Store tx.old.conn.now → IsMet ((state S.Store tx.old.conn.now).now.trees t.grps_tree) known.entry → IfOk result (λ id. Goes t S.Store tx.old.conn.now tx.new.conn.now (records_now t S.Store tx.old.conn.now) × IsIdOf ((state S.Store tx.new.conn.now).now.trees t.grps_tree) id group) }
+    ensures fell { HasCleanDisk (state S.Store tx.new.conn.now) → (t : Tables) → Layout t → Texts t → (group : Text) → owned name.entry ≡ Words group → Within t S.Store tx.old.conn.now → OnErr result (Fell S.Store tx.old.conn.now tx.new.conn.now) }
+    ensures survives { Survives (state S.Store tx.old.conn.now) (state S.Store tx.new.conn.now) (λ _. ⊥) }
+{
+    if let Some((last, id)) = known {
+        if is_same(last, name) {
+            return Ok(id);
+        }
+    }
+    group_id(tx, name)
+}
+
+/// Adds the record that a row of a store of the first version shows, with one statement where the known id is that of its group, and
+/// answers its group with its id.
+fn copy_row<'x, S: Alter>(
+    tx: &mut Transaction<'_, S>,
+    row: &'x Row,
+    known: Option<(ValueRef<'x>, i64)>,
+) -> Result<(ValueRef<'x>, i64), Error>
+    ensures same_reference { tx.new.conn.ghost_name ≡ tx.old.conn.ghost_name }
+    ensures copied { HasCleanDisk (state S.Store tx.new.conn.now) → (t : Tables) → Layout t → Texts t → IsItemRow row.now → Within t S.Store tx.old.conn.now → IsMet ((state S.Store tx.old.conn.now).now.trees t.grps_tree) known.entry → IfOk result (λ met. Goes t S.Store tx.old.conn.now tx.new.conn.now (with_shown (records_now t S.Store tx.old.conn.now) row.now) × IsMet ((state S.Store tx.new.conn.now).now.trees t.grps_tree) (Some met)) }
+    ensures fell { HasCleanDisk (state S.Store tx.new.conn.now) → (t : Tables) → Layout t → Texts t → IsItemRow row.now → Within t S.Store tx.old.conn.now → IsMet ((state S.Store tx.old.conn.now).now.trees t.grps_tree) known.entry → OnErr result (Fell S.Store tx.old.conn.now tx.new.conn.now) }
     ensures survives { Survives (state S.Store tx.old.conn.now) (state S.Store tx.new.conn.now) (λ _. ⊥) }
 {
     let group = row.get_ref(0)?;
     let key = row.get_ref(1)?;
     let body = row.get_ref(2)?;
-    add_record(tx, group, key, body)
+    let id = id_of(tx, group, known)?;
+    match enter(tx, id, key, body) {
+        Ok(()) => Ok((group, id)),
+        Err(error) => Err(error),
+    }
 }
 
-/// Adds the records that the rows of a store of the first version show, in turn.
+/// Adds the records that the rows of a store of the first version show, in turn: one statement a row, and at most two more where its
+/// group is not that of the row before.
 pub fn copy_all<S: Alter>(tx: &mut Transaction<'_, S>, rows: &[Row]) -> Result<(), Error>
     ensures same_reference { tx.new.conn.ghost_name ≡ tx.old.conn.ghost_name }
     ensures copied { HasCleanDisk (state S.Store tx.new.conn.now) → (t : Tables) → Layout t → Texts t → ((x : _) → Has rows.now x → IsItemRow x) → Within t S.Store tx.old.conn.now → OnOk result (CopiesOn t S.Store tx.old.conn.now tx.new.conn.now rows.now []) }
     ensures fell { HasCleanDisk (state S.Store tx.new.conn.now) → (t : Tables) → Layout t → Texts t → ((x : _) → Has rows.now x → IsItemRow x) → Within t S.Store tx.old.conn.now → OnErr result (Fell S.Store tx.old.conn.now tx.new.conn.now) }
     ensures survives { Survives (state S.Store tx.old.conn.now) (state S.Store tx.new.conn.now) (λ _. ⊥) }
 {
+    let mut known = None;
     for row in rows {
-        copy_row(tx, row)?;
+        known = Some(copy_row(tx, row, known)?);
     }
     Ok(())
 }
