@@ -1,10 +1,9 @@
-//! Which transactions of an account records match, by tables. Expected ids come from a few lines of Python that follow the rules.
-ghost use Rattle.std.specs.Prelude.{◌≡◌, ◌≤◌, IfOk, false};
+//! Which transactions of an account records match, by a table that was worked out by hand from the rules.
+ghost use Rattle.std.specs.Prelude.{◌≡◌, ◌≤◌, IfOk, OnOk, false};
 
-use crate::books::book_of;
 use bank_import::matches;
 use book_rows::{Book, TxRow};
-use field_values::{Copied, Steps, Txt};
+use field_values::{Copied, Field, Steps, Txt, Value};
 use std::alloc::Global;
 use std::marker::Brand;
 use std::sync::ledger::{Blank, Ledger};
@@ -36,47 +35,58 @@ a 20240110 5 - - > r 20240110 -5 - - > -
 b 20240110 -5 old -, a 20240110 -5 cafe - > r 20240110 -5 shop - > b
 a 20240110 -5 cafe -, b 20240110 -5 shop - > r 20240110 -5 old - > b";
 
-/// The field of a transaction's column, or nothing where its value is none.
-fn push_field(
-    lines: &mut String,
+/// Gives a transaction's column its value, or none where the text is `-`.
+fn put(
+    alloc: Global,
+    book: &mut Book,
     id: &str,
     column: &str,
     kind: &str,
-    value: &str,
-) -> Result<(), Fail> {
-    if value != "-" {
-        for part in ["; transactions ", id, " ", column, " ", kind, value] {
-            lines.push_str(part)?;
-        }
+    text: &str,
+) -> Result<(), Fail>
+    requires { book.old.spent ≡ false }
+    ensures { OnOk result (book.new.spent ≡ false) }
+{
+    if text == "-" {
+        return Ok(());
     }
-    Ok(())
+    let field = Field::make(alloc, "transactions", id, column)?;
+    let value = Value::read(alloc, format!(in alloc; "{kind}{text}")?.as_str())?;
+    Ok(book.set(&field, &value)?)
 }
 
-/// What stands before the first of the separators, and what stands behind it.
+/// What stands before the separator, and what stands behind it.
 fn cut<'a>(text: &'a str, by: &str) -> (&'a str, &'a str) {
     text.split_once(by).unwrap_or((text, "-"))
 }
 
-/// The fields of a row `ID DAY AMOUNT PAYEE STATEMENT-ID`.
-fn push_row(lines: &mut String, row: &str) -> Result<(), Fail> {
+/// Adds the transaction of a row `ID DAY AMOUNT PAYEE STATEMENT-ID`.
+fn add(alloc: Global, book: &mut Book, row: &str) -> Result<(), Fail>
+    requires { book.old.spent ≡ false }
+    ensures { OnOk result (book.new.spent ≡ false) }
+{
     let (id, rest) = cut(row, " ");
     let (day, rest) = cut(rest, " ");
     let (amount, rest) = cut(rest, " ");
     let (payee, statement_id) = cut(rest, " ");
-    push_field(lines, id, "acct", "S:", "bank")?;
-    push_field(lines, id, "date", "N:", day)?;
-    push_field(lines, id, "amount", "N:", amount)?;
-    push_field(lines, id, "description", "S:", payee)?;
-    push_field(lines, id, "financial_id", "S:", statement_id)
+    put(alloc, book, id, "acct", "S:", "bank")?;
+    put(alloc, book, id, "date", "N:", day)?;
+    put(alloc, book, id, "amount", "N:", amount)?;
+    put(alloc, book, id, "description", "S:", payee)?;
+    put(alloc, book, id, "financial_id", "S:", statement_id)
 }
 
-/// The fields of rows, behind a mapping of a payee.
-fn fields_of(alloc: Global, rows: &str) -> Result<String, Fail> {
-    let mut lines = String::from_str(alloc, "payee_mapping old targetId S:shop")?;
+/// The book of rows, with a mapping of a payee.
+fn book_of(alloc: Global, rows: &str) -> Result<Book, Fail>
+    ensures { IfOk result (λ b. b.spent ≡ false) }
+{
+    let mut book = Book::new(alloc);
+    let field = Field::make(alloc, "payee_mapping", "old", "targetId")?;
+    book.set(&field, &Value::read(alloc, "S:shop")?)?;
     for row in rows.split(", ") {
-        push_row(&mut lines, row)?;
+        add(alloc, &mut book, row)?;
     }
-    Ok(lines)
+    Ok(book)
 }
 
 /// Copies of all transactions of a book, by id.
@@ -95,8 +105,8 @@ fn rows_of<G: Ledger>(blank: Blank, alloc: Global, book: &Book) -> Result<Vec<Tx
 
 /// What the records of a row match, with a blank between them.
 fn matched(alloc: Global, known: &str, given: &str) -> Result<String, Fail> {
-    let book = book_of(alloc, fields_of(alloc, known)?.as_str())?;
-    let records = book_of(alloc, fields_of(alloc, given)?.as_str())?;
+    let book = book_of(alloc, known)?;
+    let records = book_of(alloc, given)?;
     let rows = rows_of::<Brand>(Blank::new(1), alloc, &records)?;
     let account = Txt::from_text(alloc, "bank")?;
     let mut told = String::new(alloc);
