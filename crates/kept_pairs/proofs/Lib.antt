@@ -9,3 +9,4 @@ pub mod Importing
 pub mod Meaning
 pub mod Near
 pub mod Columns
+pub mod Changing

@@ -4,3 +4,4 @@ pub mod Imports
 pub mod Meant
 pub mod Near
 pub mod Columns
+pub mod Changing

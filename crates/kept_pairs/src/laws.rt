@@ -3,6 +3,7 @@ ghost use Rattle.book_rows.specs.declared.rows.Rows.{Rows};
 ghost use Rattle.bank_import.specs.declared.edit.ImportEdit.{ImportEdit};
 ghost use Rattle.bank_import.specs.declared.entry.Entry.{Entry};
 ghost use Rattle.kept_pairs.specs.Imports.{ImportsWrite};
+ghost use Rattle.kept_pairs.specs.Changing.{ImportsWriteChanges};
 ghost use Rattle.kept_pairs.specs.Judged.{ImportsAreJudged};
 ghost use Rattle.kept_pairs.specs.Meant.{PayeesAreFound};
 ghost use Rattle.kept_pairs.specs.Near.{NearnessIsTold};
@@ -49,6 +50,13 @@ pub fn goals_keep_pairs_and_splits()
 /// changes. It is asked before that the ids of the rows that the import makes are new and differ.
 pub fn imports_write()
     ensures { ImportsWrite }
+{}
+
+/// A law: each write of an import that is accepted into a row that the book has changes it: it goes into a transaction, into one of the payee,
+/// the category, the notes, the payee as the statement has it, the id there and the schedule that was missing, or it sets that the bank has
+/// it, where that wasn't set. Each other write is of a new row, the name of a payee or a column of a transaction. No field is written twice.
+pub fn imports_write_changes()
+    ensures { ImportsWriteChanges }
 {}
 
 /// A law: the payee of the book that a record means is the one of the least id of those that were not deleted, stand for no account, and have
