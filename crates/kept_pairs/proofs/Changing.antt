@@ -166,6 +166,13 @@ missing_choice false own new v h = missing_text own new v h
 abbrev column_of : Text → Option Text → Text × Option Text
 column_of name text = (name, text)
 
+-- a column of texts, and what the transaction has in it
+record IsOwn (x : TxRow) (c : TxColumn) (own : Option Text) : Type 0 where
+  text : TxRow → Option Text
+  has : text x ≡ own
+  sets : (v : Value) → text (with_column c v x) ≡ text_of v
+  place : own ≡ None → Contains (texts_of x) (column_of (column_name c.0) None)
+
 module _ (rows : Rows) (id : Text) (x : TxRow) (there : get rows.txs id ≡ Some x) where
   abbrev Block : List Text → List Write → Type 0
   Block names ws = IsBlock (IsChange rows id) (Given id) names ws
@@ -177,14 +184,7 @@ module _ (rows : Rows) (id : Text) (x : TxRow) (there : get rows.txs id ≡ Some
       ∙ ap (λ b. cond b (Some (with_column c (value_in ids v) (unwrap_or (get rows.txs id) (blank id)))) (get rows.txs id)) (same_refl id)
       ∙ ap (λ o. Some (with_column c (value_in ids v) (unwrap_or o (blank id)))) there
 
-  -- a column of texts
-  record IsOwn (c : TxColumn) (own : Option Text) : Type 0 where
-    text : TxRow → Option Text
-    has : text x ≡ own
-    sets : (v : Value) → text (with_column c v x) ≡ text_of v
-    place : own ≡ None → Contains (texts_of x) (column_of (column_name c.0) None)
-
-  text_changes : (c : TxColumn) (own : Option Text) (v : WriteValue) → IsOwn c own → IsMissing own v → IsChange rows id (into (Given id) c v)
+  text_changes : (c : TxColumn) (own : Option Text) (v : WriteValue) → IsOwn x c own → IsMissing own v → IsChange rows id (into (Given id) c v)
   text_changes c own v is m = record {
     tx = x;
     there = there;
@@ -196,26 +196,26 @@ module _ (rows : Rows) (id : Text) (x : TxRow) (there : get rows.txs id ≡ Some
         none_some t.0 (sym (is.has ∙ m.0) ∙ sym (ap is.text e) ∙ is.sets (value_in ids v) ∙ t.1);
   }
 
-  piece : (c : TxColumn) (own : Option Text) (v : Option WriteValue) → IsOwn c own → ((u : WriteValue) → v ≡ Some u → IsMissing own u) → Block (column_name c.0 ∷ []) (value_write (Given id) (column_name c.0) v)
+  piece : (c : TxColumn) (own : Option Text) (v : Option WriteValue) → IsOwn x c own → ((u : WriteValue) → v ≡ Some u → IsMissing own u) → Block (column_name c.0 ∷ []) (value_write (Given id) (column_name c.0) v)
   piece c own None is m = block_none (IsChange rows id) (Given id) (column_name c.0 ∷ [])
   piece c own (Some u) is m = block_one (IsChange rows id) (Given id) (into (Given id) c u) refl (text_changes c own u is (m u refl))
 
-  description : IsOwn Description x.description
+  description : IsOwn x Description x.description
   description = record { text = λ y. y.description; has = refl; sets = λ v. refl; place = λ e. (0, omega arith, ap (column_of (codes "description")) e) }
 
-  category : IsOwn Category x.category
+  category : IsOwn x Category x.category
   category = record { text = λ y. y.category; has = refl; sets = λ v. refl; place = λ e. (1, omega arith, ap (column_of (codes "category")) e) }
 
-  notes : IsOwn Notes x.notes
+  notes : IsOwn x Notes x.notes
   notes = record { text = λ y. y.notes; has = refl; sets = λ v. refl; place = λ e. (2, omega arith, ap (column_of (codes "notes")) e) }
 
-  imported : IsOwn Imported x.imported_description
+  imported : IsOwn x Imported x.imported_description
   imported = record { text = λ y. y.imported_description; has = refl; sets = λ v. refl; place = λ e. (3, omega arith, ap (column_of (codes "imported_description")) e) }
 
-  financial : IsOwn Financial x.financial_id
+  financial : IsOwn x Financial x.financial_id
   financial = record { text = λ y. y.financial_id; has = refl; sets = λ v. refl; place = λ e. (4, omega arith, ap (column_of (codes "financial_id")) e) }
 
-  schedule : IsOwn Schedule x.schedule
+  schedule : IsOwn x Schedule x.schedule
   schedule = record { text = λ y. y.schedule; has = refl; sets = λ v. refl; place = λ e. (5, omega arith, ap (column_of (codes "schedule")) e) }
 
   cleared : (known : Bool) → x.cleared ≡ known → Block (codes "cleared" ∷ []) (clearing (Given id) known)
