@@ -10,3 +10,4 @@ pub mod Meaning
 pub mod Near
 pub mod Columns
 pub mod Changing
+pub mod Cutting

@@ -5,3 +5,4 @@ pub mod Meant
 pub mod Near
 pub mod Columns
 pub mod Changing
+pub mod Cutting

@@ -8,6 +8,7 @@ ghost use Rattle.kept_pairs.specs.Judged.{ImportsAreJudged};
 ghost use Rattle.kept_pairs.specs.Meant.{PayeesAreFound};
 ghost use Rattle.kept_pairs.specs.Near.{NearnessIsTold};
 ghost use Rattle.kept_pairs.specs.Columns.{ColumnsAreTold, PlainTextsReadBack};
+ghost use Rattle.kept_pairs.specs.Cutting.{TextsAreCut};
 ghost use Rattle.kept_pairs.specs.Kept.{
   RulesKeepPairsAndSplits,
   SchedulesKeepPairsAndSplits,
@@ -91,4 +92,11 @@ pub fn columns_are_told()
 /// and no line break, and the text doesn't begin with the first byte of a byte order mark.
 pub fn plain_texts_read_back()
     ensures { PlainTextsReadBack }
+{}
+
+/// A law: a statement is cut into the fields of its lines, however it is spelled: fields stand apart by commas; one without a comma, a quote
+/// and a line break may stand as it is, and any one in quotes, where each of its own quotes stands twice; lines end with carriage returns,
+/// line feeds or both, as many as there are, and the last one needs none. A byte order mark in front is passed over, and nothing is trimmed.
+pub fn texts_are_cut()
+    ensures { TextsAreCut }
 {}
