@@ -1,6 +1,6 @@
 -- Each write of an import changes what it is written into, and no field is written twice.
-use Rattle.std.proofs.Common.{◌≡◌, ℕ, zero, suc, ◌+◌, ◌<◌, ◌≤◌, Bool, true, false, cond, List, [], ◌∷◌, ◌++◌, length, get_or, Option, Some, None, Ok, refl, sym, ap, ◌∙◌, inl, inr, ◌⊎◌, subst, arith, codes}
-use Rattle.std.specs.Prelude.{◌≢◌, ◌&&◌, ◌||◌, not, unwrap_or, map as list_map}
+use Rattle.std.proofs.Common.{◌≡◌, ℕ, zero, suc, ◌+◌, ◌<◌, ◌≤◌, Bool, true, false, cond, List, [], ◌∷◌, ◌++◌, length, get_or, Option, Some, None, refl, sym, ap, ◌∙◌, inl, inr, ◌⊎◌, subst, arith, codes}
+use Rattle.std.specs.Prelude.{◌≢◌, ◌&&◌, not, unwrap_or, map as list_map}
 use Rattle.std.specs.Option.{option_map}
 use Rattle.std.specs.List.{Contains, slice_get}
 use Rattle.std.proofs.lemmas.List.Elements.{Contains-append_cases}
@@ -26,11 +26,12 @@ use Rattle.split_transfer.proofs.After.{get-with_write}
 use Rattle.split_transfer.proofs.Basics.{either, or_left, or_right, both_true, not_true, true_false, none_some, some_is, same_refl, same_is}
 use Rattle.split_transfer.proofs.Columns.{TxColumn, with_column, blank, Description, Category, Notes, Schedule, Cleared}
 use Rattle.rule_engine.specs.Conditions.{folded}
-use Rattle.bank_import.specs.declared.drafts.Draft.{Draft}
+use Rattle.bank_import.specs.declared.entry.Entry.{Entry}
 use Rattle.bank_import.specs.Statement.{statement}
-use Rattle.bank_import.specs.Matching.{facts_of, candidates, matched, matched_among}
-use Rattle.bank_import.specs.Drafts.{draft_of, place_of, new_names}
-use Rattle.bank_import.specs.Edits.{value_write, text_write, missing, payee_by, payee_value, takes_none, missing_category, texts_writes, clearing, filling, entry_writes, making, filling_at, record_writes, payee_writes, records_writes, drafts_writes, entries_writes}
+use Rattle.bank_import.specs.Matching.{facts_of, candidates, matched}
+use Rattle.bank_import.specs.Drafts.{place_of, new_names}
+use Rattle.bank_import.specs.Edits.{value_write, text_write, missing, payee_by, payee_value, takes_none, missing_category, texts_writes, clearing, filling, entry_writes, making, filling_at, record_writes, payee_writes, records_writes, entries_writes}
+use Rattle.bank_import.specs.Rest.{drafts_in, rows_in_drafts}
 use Rattle.bank_import.proofs.Runs.{law_of_matches}
 use Rattle.kept_pairs.specs.Changing.{texts_of, IsChange, columns, IsOfNew, AreChanges, ImportsWriteChanges}
 use Rattle.kept_pairs.proofs.Written.{Imported, Financial, into}
@@ -72,7 +73,7 @@ apart_behind (b ∷ before) after w v a c = apart_behind before after w v a.1 c
 -- ---- columns
 
 -- no name of some is among others
-outside : List Text → List Text → Bool
+abbrev outside : List Text → List Text → Bool
 outside [] others = true
 outside (name ∷ names) others = not (is_among text_cmp others name) && outside names others
 
@@ -233,7 +234,7 @@ module _ (rows : Rows) (id : Text) (x : TxRow) (there : get rows.txs id ≡ Some
   abbrev seven : List Text
   seven = codes "description" ∷ codes "category" ∷ codes "notes" ∷ codes "imported_description" ∷ codes "financial_id" ∷ codes "schedule" ∷ codes "cleared" ∷ []
 
-  filling_block : (names : List Text) (d : Draft) → Block seven (filling rows names id x d)
+  filling_block : (names : List Text) (d : _) → Block seven (filling rows names id x d)
   unfolding filling
   filling_block names d =
       let row = Given id in
@@ -244,17 +245,17 @@ module _ (rows : Rows) (id : Text) (x : TxRow) (there : get rows.txs id ≡ Some
       let f = missing x.financial_id d.row.financial_id in
       let s = missing x.schedule d.row.schedule in
       let a : Block (codes "description" ∷ codes "category" ∷ []) (value_write row (codes "description") payee ++ text_write row (codes "category") c) =
-        block_both (IsChange rows id) row (codes "description" ∷ []) (codes "category" ∷ []) (value_write row (codes "description") payee) (text_write row (codes "category") c) refl
-        (piece Description x.description payee description (missing_value x.description (payee_value names d) (payee_text names d.wanted d.row.description)))
-        (piece Category x.category (option_map (λ t. Plain (IsText t)) c) category (missing_choice (takes_none rows id x) x.category d.row.category)) in
+      block_both (IsChange rows id) row (codes "description" ∷ []) (codes "category" ∷ []) (value_write row (codes "description") payee) (text_write row (codes "category") c) refl
+      (piece Description x.description payee description (missing_value x.description (payee_value names d) (payee_text names d.wanted d.row.description)))
+      (piece Category x.category (option_map (λ t. Plain (IsText t)) c) category (missing_choice (takes_none rows id x) x.category d.row.category)) in
       let b : Block (codes "notes" ∷ codes "imported_description" ∷ codes "financial_id" ∷ codes "schedule" ∷ []) (texts_writes row n i f s) =
-        block_both (IsChange rows id) row (codes "notes" ∷ codes "imported_description" ∷ codes "financial_id" ∷ []) (codes "schedule" ∷ []) _ (text_write row (codes "schedule") s) refl
-        (block_both (IsChange rows id) row (codes "notes" ∷ codes "imported_description" ∷ []) (codes "financial_id" ∷ []) _ (text_write row (codes "financial_id") f) refl
-        (block_both (IsChange rows id) row (codes "notes" ∷ []) (codes "imported_description" ∷ []) (text_write row (codes "notes") n) (text_write row (codes "imported_description") i) refl
-        (piece Notes x.notes (option_map (λ t. Plain (IsText t)) n) notes (missing_text x.notes d.row.notes))
-        (piece Imported x.imported_description (option_map (λ t. Plain (IsText t)) i) imported (missing_text x.imported_description d.row.imported_description)))
-        (piece Financial x.financial_id (option_map (λ t. Plain (IsText t)) f) financial (missing_text x.financial_id d.row.financial_id)))
-        (piece Schedule x.schedule (option_map (λ t. Plain (IsText t)) s) schedule (missing_text x.schedule d.row.schedule)) in
+      block_both (IsChange rows id) row (codes "notes" ∷ codes "imported_description" ∷ codes "financial_id" ∷ []) (codes "schedule" ∷ []) _ (text_write row (codes "schedule") s) refl
+      (block_both (IsChange rows id) row (codes "notes" ∷ codes "imported_description" ∷ []) (codes "financial_id" ∷ []) _ (text_write row (codes "financial_id") f) refl
+      (block_both (IsChange rows id) row (codes "notes" ∷ []) (codes "imported_description" ∷ []) (text_write row (codes "notes") n) (text_write row (codes "imported_description") i) refl
+      (piece Notes x.notes (option_map (λ t. Plain (IsText t)) n) notes (missing_text x.notes d.row.notes))
+      (piece Imported x.imported_description (option_map (λ t. Plain (IsText t)) i) imported (missing_text x.imported_description d.row.imported_description)))
+      (piece Financial x.financial_id (option_map (λ t. Plain (IsText t)) f) financial (missing_text x.financial_id d.row.financial_id)))
+      (piece Schedule x.schedule (option_map (λ t. Plain (IsText t)) s) schedule (missing_text x.schedule d.row.schedule)) in
       block_both (IsChange rows id) row (codes "description" ∷ codes "category" ∷ codes "notes" ∷ codes "imported_description" ∷ codes "financial_id" ∷ codes "schedule" ∷ []) (codes "cleared" ∷ []) _ (clearing row x.cleared) refl
       (block_both (IsChange rows id) row (codes "description" ∷ codes "category" ∷ []) (codes "notes" ∷ codes "imported_description" ∷ codes "financial_id" ∷ codes "schedule" ∷ []) _ (texts_writes row n i f s) refl a b)
       (cleared x.cleared refl)
@@ -278,37 +279,37 @@ module _ (at : ℕ) where
   new_both : (names others : List Text) (ws vs : List Write) → outside names others ≡ true → New names ws → New others vs → New (names ++ others) (ws ++ vs)
   new_both names others ws vs out a b = block_both IsOfNew (Made at) names others ws vs out a b
 
-  making_block : (names : List Text) (d : Draft) → New columns (making names at d)
+  making_block : (names : List Text) (d : _) → New columns (making names at d)
   unfolding making
   making_block names d =
       let row = Made at in
       let a : New (codes "acct" ∷ codes "date" ∷ codes "amount" ∷ []) (entry_writes row d.row) =
-        new_both (codes "acct" ∷ codes "date" ∷ []) (codes "amount" ∷ []) (tx_write row (codes "acct") (text_or_null d.row.acct) ∷ tx_write row (codes "date") (day_or_null d.row.date) ∷ []) (tx_write row (codes "amount") (Number d.row.amount) ∷ []) refl
-        (new_both (codes "acct" ∷ []) (codes "date" ∷ []) (tx_write row (codes "acct") (text_or_null d.row.acct) ∷ []) (tx_write row (codes "date") (day_or_null d.row.date) ∷ []) refl
-        (new_one (codes "acct") (text_or_null d.row.acct) (0, omega arith, refl))
-        (new_one (codes "date") (day_or_null d.row.date) (1, omega arith, refl)))
-        (new_one (codes "amount") (Number d.row.amount) (2, omega arith, refl)) in
+      new_both (codes "acct" ∷ codes "date" ∷ []) (codes "amount" ∷ []) (tx_write row (codes "acct") (text_or_null d.row.acct) ∷ tx_write row (codes "date") (day_or_null d.row.date) ∷ []) (tx_write row (codes "amount") (Number d.row.amount) ∷ []) refl
+      (new_both (codes "acct" ∷ []) (codes "date" ∷ []) (tx_write row (codes "acct") (text_or_null d.row.acct) ∷ []) (tx_write row (codes "date") (day_or_null d.row.date) ∷ []) refl
+      (new_one (codes "acct") (text_or_null d.row.acct) (0, omega arith, refl))
+      (new_one (codes "date") (day_or_null d.row.date) (1, omega arith, refl)))
+      (new_one (codes "amount") (Number d.row.amount) (2, omega arith, refl)) in
       let e : New (codes "notes" ∷ codes "imported_description" ∷ codes "financial_id" ∷ codes "schedule" ∷ []) (texts_writes row d.row.notes d.row.imported_description d.row.financial_id d.row.schedule) =
-        new_both (codes "notes" ∷ codes "imported_description" ∷ codes "financial_id" ∷ []) (codes "schedule" ∷ []) _ (text_write row (codes "schedule") d.row.schedule) refl
-        (new_both (codes "notes" ∷ codes "imported_description" ∷ []) (codes "financial_id" ∷ []) _ (text_write row (codes "financial_id") d.row.financial_id) refl
-        (new_both (codes "notes" ∷ []) (codes "imported_description" ∷ []) (text_write row (codes "notes") d.row.notes) (text_write row (codes "imported_description") d.row.imported_description) refl
-        (new_text (codes "notes") d.row.notes (5, omega arith, refl))
-        (new_text (codes "imported_description") d.row.imported_description (6, omega arith, refl)))
-        (new_text (codes "financial_id") d.row.financial_id (7, omega arith, refl)))
-        (new_text (codes "schedule") d.row.schedule (8, omega arith, refl)) in
+      new_both (codes "notes" ∷ codes "imported_description" ∷ codes "financial_id" ∷ []) (codes "schedule" ∷ []) _ (text_write row (codes "schedule") d.row.schedule) refl
+      (new_both (codes "notes" ∷ codes "imported_description" ∷ []) (codes "financial_id" ∷ []) _ (text_write row (codes "financial_id") d.row.financial_id) refl
+      (new_both (codes "notes" ∷ []) (codes "imported_description" ∷ []) (text_write row (codes "notes") d.row.notes) (text_write row (codes "imported_description") d.row.imported_description) refl
+      (new_text (codes "notes") d.row.notes (5, omega arith, refl))
+      (new_text (codes "imported_description") d.row.imported_description (6, omega arith, refl)))
+      (new_text (codes "financial_id") d.row.financial_id (7, omega arith, refl)))
+      (new_text (codes "schedule") d.row.schedule (8, omega arith, refl)) in
       let p = value_write row (codes "description") (payee_value names d) in
       let c = text_write row (codes "category") d.row.category in
       let g : New (codes "acct" ∷ codes "date" ∷ codes "amount" ∷ codes "description" ∷ codes "category" ∷ []) (entry_writes row d.row ++ p ++ c) =
-        new_both (codes "acct" ∷ codes "date" ∷ codes "amount" ∷ codes "description" ∷ []) (codes "category" ∷ []) (entry_writes row d.row ++ p) c refl
-        (new_both (codes "acct" ∷ codes "date" ∷ codes "amount" ∷ []) (codes "description" ∷ []) (entry_writes row d.row) p refl a (new_piece (codes "description") (payee_value names d) (3, omega arith, refl)))
-        (new_text (codes "category") d.row.category (4, omega arith, refl)) in
+      new_both (codes "acct" ∷ codes "date" ∷ codes "amount" ∷ codes "description" ∷ []) (codes "category" ∷ []) (entry_writes row d.row ++ p) c refl
+      (new_both (codes "acct" ∷ codes "date" ∷ codes "amount" ∷ []) (codes "description" ∷ []) (entry_writes row d.row) p refl a (new_piece (codes "description") (payee_value names d) (3, omega arith, refl)))
+      (new_text (codes "category") d.row.category (4, omega arith, refl)) in
       new_both (codes "acct" ∷ codes "date" ∷ codes "amount" ∷ codes "description" ∷ codes "category" ∷ codes "notes" ∷ codes "imported_description" ∷ codes "financial_id" ∷ codes "schedule" ∷ []) (codes "cleared" ∷ [])
       (entry_writes row d.row ++ p ++ c ++ texts_writes row d.row.notes d.row.imported_description d.row.financial_id d.row.schedule) (clearing row false) refl
       (new_both (codes "acct" ∷ codes "date" ∷ codes "amount" ∷ codes "description" ∷ codes "category" ∷ []) (codes "notes" ∷ codes "imported_description" ∷ codes "financial_id" ∷ codes "schedule" ∷ [])
       (entry_writes row d.row ++ p ++ c) (texts_writes row d.row.notes d.row.imported_description d.row.financial_id d.row.schedule) refl g e)
       (new_one (codes "cleared") (flag true) (9, omega arith, refl))
 
-making_some : (names : List Text) (at : ℕ) (d : Draft) → 0 < length (making names at d)
+making_some : (names : List Text) (at : ℕ) (d : _) → 0 < length (making names at d)
 unfolding making
 making_some names at d = omega arith
 
@@ -337,11 +338,11 @@ given_made a b h = absurd (clash h)
     clash h = cc
 
 module _ (rows : Rows) (names : List Text) where
-  filling_told : (at : ℕ) (id : Text) (d : Draft) (o : Option TxRow) → get rows.txs id ≡ o → (w : Write) → Contains (filling_at rows names id d o) w → (w.row ≡ Given id) × IsChange rows id w
+  filling_told : (at : ℕ) (id : Text) (d : _) (o : Option TxRow) → get rows.txs id ≡ o → (w : Write) → Contains (filling_at rows names id d o) w → (w.row ≡ Given id) × IsChange rows id w
   filling_told at id d None e w c = nothing w c
   filling_told at id d (Some x) e w c = let b = filling_block rows id x e names d in (b.rows w c, b.good w c)
 
-  record_told : (at : ℕ) (d : Draft) (m : Option Text) (ms : List (Option Text)) (w : Write) → Contains (record_writes rows names at d m) w → IsTold rows at (m ∷ ms) w
+  record_told : (at : ℕ) (d : _) (m : Option Text) (ms : List (Option Text)) (w : Write) → Contains (record_writes rows names at d m) w → IsTold rows at (m ∷ ms) w
   record_told at d None ms w c = let b = making_block at names d in inr (at, omega arith, b.rows w c, b.good w c)
   record_told at d (Some id) ms w c = let f = filling_told at id d (get rows.txs id) refl w c in inl (id, 0, refl, f.0, f.1)
 
@@ -349,7 +350,7 @@ module _ (rows : Rows) (names : List Text) where
   later_told : (at more : ℕ) (m : Option Text) (ms : List (Option Text)) (w : Write) → IsTold rows (at + more) ms w → IsTold rows at (m ∷ ms) w
   later_told at more m ms w t = elim t [ inl a ↦ inl (a.0, suc a.1, a.2, a.3, a.4) | inr b ↦ inr (b.0, let l = b.1 in omega (arith, l), b.2, b.3) ]
 
-  records_told : (at : ℕ) (ds : List Draft) (ms : List (Option Text)) (w : Write) → Contains (records_writes rows names at ds ms) w → IsTold rows at ms w
+  records_told : (at : ℕ) (ds : List _) (ms : List (Option Text)) (w : Write) → Contains (records_writes rows names at ds ms) w → IsTold rows at ms w
   records_told at [] ms w c = nothing w c
   records_told at (d ∷ ds) [] w c = nothing w c
   records_told at (d ∷ ds) (m ∷ ms) w c =
@@ -359,16 +360,16 @@ module _ (rows : Rows) (names : List Text) where
         | inr j ↦ later_told at n m ms w (records_told (at + n) ds ms w j)
       ]
 
-  filling_apart : (id : Text) (d : Draft) (o : Option TxRow) → get rows.txs id ≡ o → AllApart (filling_at rows names id d o)
+  filling_apart : (id : Text) (d : _) (o : Option TxRow) → get rows.txs id ≡ o → AllApart (filling_at rows names id d o)
   filling_apart id d None e = tt
   filling_apart id d (Some x) e = (filling_block rows id x e names d).apart
 
-  record_apart : (at : ℕ) (d : Draft) (m : Option Text) → AllApart (record_writes rows names at d m)
+  record_apart : (at : ℕ) (d : _) (m : Option Text) → AllApart (record_writes rows names at d m)
   record_apart at d None = (making_block at names d).apart
   record_apart at d (Some id) = filling_apart id d (get rows.txs id) refl
 
   -- a write of a record and one of a later record
-  two_apart : (at : ℕ) (d : Draft) (m : Option Text) (ms : List (Option Text)) → MatchedOnce (m ∷ ms) → (w v : Write) → Contains (record_writes rows names at d m) w
+  two_apart : (at : ℕ) (d : _) (m : Option Text) (ms : List (Option Text)) → MatchedOnce (m ∷ ms) → (w v : Write) → Contains (record_writes rows names at d m) w
       → IsTold rows (at + length (record_writes rows names at d m)) ms v → v.row ≡ w.row → ⊥
   two_apart at d None ms once w v c t row =
       let is : w.row ≡ Made at = (making_block at names d).rows w c in
@@ -383,7 +384,7 @@ module _ (rows : Rows) (names : List Text) where
         | inr b ↦ given_made id b.0 (sym is ∙ sym row ∙ b.2)
       ]
 
-  records_apart : (at : ℕ) (ds : List Draft) (ms : List (Option Text)) → MatchedOnce ms → AllApart (records_writes rows names at ds ms)
+  records_apart : (at : ℕ) (ds : List _) (ms : List (Option Text)) → MatchedOnce ms → AllApart (records_writes rows names at ds ms)
   records_apart at [] ms once = tt
   records_apart at (d ∷ ds) [] once = tt
   records_apart at (d ∷ ds) (m ∷ ms) once =
@@ -415,35 +416,38 @@ payees_apart at (name ∷ names) = (
 
 -- ---- an import
 
-module _ (rows : Rows) (account : Text) (ds : List Draft) where
+module _ (rows : Rows) (account : Text) (es : List Entry) where
+  abbrev all_names : List Text
+  all_names = new_names (drafts_in rows account es)
+
   abbrev found : List (Option Text)
-  found = matched rows account (list_map (λ (d : Draft). d.row) ds)
+  found = matched rows account (rows_in_drafts (drafts_in rows account es))
 
   found_once : MatchedOnce found
   unfolding matched
-  found_once = (law_of_matches (candidates rows account) (list_map (facts_of rows) (list_map (λ (d : Draft). d.row) ds))).apart
+  found_once = (law_of_matches (candidates rows account) (list_map (facts_of rows) (rows_in_drafts (drafts_in rows account es)))).apart
 
   abbrev payees : List Write
-  payees = payee_writes 0 (new_names ds)
+  payees = payee_writes 0 all_names
 
   abbrev records : List Write
-  records = records_writes rows (new_names ds) (length (new_names ds)) ds found
+  records = records_writes rows all_names (length all_names) (drafts_in rows account es) found
 
-  payee_or_record : (w : Write) → Contains (drafts_writes rows account ds) w → IsPayee 0 (length (new_names ds)) w ⊎ IsTold rows (length (new_names ds)) found w
+  payee_or_record : (w : Write) → Contains (entries_writes rows account es) w → IsPayee 0 (length all_names) w ⊎ IsTold rows (length all_names) found w
   payee_or_record w c = elim (Contains-append_cases payees records w c) [
-    | inl i ↦ inl (payees_told 0 (new_names ds) w i)
-    | inr j ↦ inr (records_told rows (new_names ds) (length (new_names ds)) ds found w j)
+    | inl i ↦ inl (payees_told 0 all_names w i)
+    | inr j ↦ inr (records_told rows all_names (length all_names) (drafts_in rows account es) found w j)
   ]
 
-  all_apart : AllApart (drafts_writes rows account ds)
-  all_apart = apart_append payees records (payees_apart 0 (new_names ds)) (records_apart rows (new_names ds) (length (new_names ds)) ds found found_once) (λ w v i j row column.
-      let p = payees_told 0 (new_names ds) w i in
-      elim (records_told rows (new_names ds) (length (new_names ds)) ds found v j) [
+  all_apart : AllApart (entries_writes rows account es)
+  all_apart = apart_append payees records (payees_apart 0 all_names) (records_apart rows all_names (length all_names) (drafts_in rows account es) found found_once) (λ w v i j row column.
+      let p = payees_told 0 all_names w i in
+      elim (records_told rows all_names (length all_names) (drafts_in rows account es) found v j) [
         | inl a ↦ given_made a.0 p.0 (sym a.3 ∙ row ∙ p.3)
         | inr b ↦ let same = made_is b.0 p.0 (sym b.2 ∙ row ∙ p.3) in let l = b.1 in let m = p.2 in omega (arith, same, l, m)
       ])
 
-  are_changes : AreChanges rows (drafts_writes rows account ds)
+  are_changes : AreChanges rows (entries_writes rows account es)
   are_changes = record {
     changes = λ w id c row. elim (payee_or_record w c) [
       | inl p ↦ given_made id p.0 (sym row ∙ p.3)
@@ -461,4 +465,4 @@ write_changes rows edit ws h =
     let l = passed (live_account rows edit.account) _ _ h in
     let es = passed (statement edit.statement) _ _ l.2 in
     let is : entries_writes rows edit.account es.0 ≡ ws = inside _ _ es.2 in
-    subst (AreChanges rows) is (are_changes rows edit.account (list_map (draft_of rows edit.account) es.0))
+    subst (AreChanges rows) is (are_changes rows edit.account es.0)

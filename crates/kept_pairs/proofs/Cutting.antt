@@ -1,13 +1,12 @@
 -- How a text is cut into the fields of its lines, however it is spelled.
-use Rattle.std.proofs.Common.{◌≡◌, ℕ, zero, suc, ◌==◌, Bool, true, false, List, [], ◌∷◌, ◌++◌, Option, Some, None, refl, sym, ap, ap₂, ◌∙◌, inl, inr, ◌⊎◌, subst, arith, append_assoc}
-use Rattle.std.specs.Prelude.{◌≢◌, ◌&&◌, ◌||◌, map, flat_map, if◌then◌else◌}
-use Rattle.std.specs.List.{Contains, list_any}
+use Rattle.std.proofs.Common.{◌≡◌, ℕ, suc, ◌==◌, Bool, true, false, List, [], ◌∷◌, ◌++◌, Some, None, refl, sym, ap, ap₂, ◌∙◌, inl, inr, ◌⊎◌, subst, arith, append_assoc}
+use Rattle.std.specs.Prelude.{◌≢◌, ◌&&◌, map, flat_map, if◌then◌else◌}
+use Rattle.std.specs.List.{Contains}
 use Rattle.std.proofs.lemmas.List.{append-nil}
-use Rattle.std.proofs.lemmas.Bool.{cases_Bool, eqb-true, ne_eqb}
+use Rattle.std.proofs.lemmas.Bool.{eqb-true, ne_eqb}
 use Rattle.csv.specs.declared.parser.State.{State}
 use Rattle.csv.specs.declared.parser.State.TheVariants as st
 use Rattle.csv.specs.Machine.{next_record}
-use Rattle.csv.specs.Quoting.{needs_byte}
 use Rattle.csv.specs.Reading.{default_config, strip_bom, Reached, AreRecords, records}
 use Rattle.csv.specs.Writing.{default_writer, escaped}
 use Rattle.csv.proofs.RoundTrip.{plain-run, quoted-run, after-quote-same, start-same, record-same}
@@ -223,9 +222,9 @@ lines_cut s front (l ∷ ls) last rows is h end =
     by (b ∷ bs) is_end some breaks p later =
         let more = bs ++ (text_of ls ++ last) in
         let text : text_of (l ∷ ls) ++ last ≡ joined l.first l.rest ++ (b ∷ more) =
-          append_assoc (joined l.first l.rest ++ l.end) (text_of ls) last
-          ∙ append_assoc (joined l.first l.rest) l.end (text_of ls ++ last)
-          ∙ ap (λ (e : Text). joined l.first l.rest ++ (e ++ (text_of ls ++ last))) is_end in
+        append_assoc (joined l.first l.rest ++ l.end) (text_of ls) last
+        ∙ append_assoc (joined l.first l.rest) l.end (text_of ls ++ last)
+        ∙ ap (λ (e : Text). joined l.first l.rest ++ (e ++ (text_of ls ++ last))) is_end in
         one_more s (front ++ (text_of (l ∷ ls) ++ last)) (said l.first l.rest) (state_behind b) more (rows_of ls ++ rows)
         (p.reads (text_of (l ∷ ls) ++ last)
         ∙ ap (next_record default_config p.state [] []) text
