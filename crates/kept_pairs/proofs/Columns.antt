@@ -104,7 +104,7 @@ columns_told = record {
 -- ---- plain texts
 
 -- no byte of a plain field calls for quotes
-calm : (f : Text) → IsPlain f → list_any (needs_byte default_writer) f ≡ false
+pub calm : (f : Text) → IsPlain f → list_any (needs_byte default_writer) f ≡ false
 calm [] h = refl
 calm (b ∷ bs) h =
     let p = h b (0, omega arith, refl) in

@@ -9,3 +9,5 @@ pub mod Importing
 pub mod Meaning
 pub mod Near
 pub mod Columns
+pub mod Changing
+pub mod Cutting

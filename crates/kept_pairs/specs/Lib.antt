@@ -4,3 +4,5 @@ pub mod Imports
 pub mod Meant
 pub mod Near
 pub mod Columns
+pub mod Changing
+pub mod Cutting

@@ -3,10 +3,12 @@ ghost use Rattle.book_rows.specs.declared.rows.Rows.{Rows};
 ghost use Rattle.bank_import.specs.declared.edit.ImportEdit.{ImportEdit};
 ghost use Rattle.bank_import.specs.declared.entry.Entry.{Entry};
 ghost use Rattle.kept_pairs.specs.Imports.{ImportsWrite};
+ghost use Rattle.kept_pairs.specs.Changing.{ImportsWriteChanges};
 ghost use Rattle.kept_pairs.specs.Judged.{ImportsAreJudged};
 ghost use Rattle.kept_pairs.specs.Meant.{PayeesAreFound};
 ghost use Rattle.kept_pairs.specs.Near.{NearnessIsTold};
 ghost use Rattle.kept_pairs.specs.Columns.{ColumnsAreTold, PlainTextsReadBack};
+ghost use Rattle.kept_pairs.specs.Cutting.{TextsAreCut};
 ghost use Rattle.kept_pairs.specs.Kept.{
   RulesKeepPairsAndSplits,
   SchedulesKeepPairsAndSplits,
@@ -51,6 +53,13 @@ pub fn imports_write()
     ensures { ImportsWrite }
 {}
 
+/// A law: each write of an import that is accepted into a row that the book has changes it: it goes into a transaction, into one of the payee,
+/// the category, the notes, the payee as the statement has it, the id there and the schedule that was missing, or it sets that the bank has
+/// it, where that wasn't set. Each other write is of a new row, the name of a payee or a column of a transaction. No field is written twice.
+pub fn imports_write_changes()
+    ensures { ImportsWriteChanges }
+{}
+
 /// A law: the payee of the book that a record means is the one of the least id of those that were not deleted, stand for no account, and have
 /// its payee's name, whatever the case of letters; where there is none, or the record names none, it means none.
 pub fn imports_find_payees()
@@ -83,4 +92,11 @@ pub fn columns_are_told()
 /// and no line break, and the text doesn't begin with the first byte of a byte order mark.
 pub fn plain_texts_read_back()
     ensures { PlainTextsReadBack }
+{}
+
+/// A law: a statement is cut into the fields of its lines, however it is spelled: fields stand apart by commas; one without a comma, a quote
+/// and a line break may stand as it is, and any one in quotes, where each of its own quotes stands twice; lines end with carriage returns,
+/// line feeds or both, as many as there are, and the last one needs none. A byte order mark in front is passed over, and nothing is trimmed.
+pub fn texts_are_cut()
+    ensures { TextsAreCut }
 {}

@@ -9,6 +9,7 @@ mod laws;
 
 pub use laws::{
     columns_are_told, goals_keep_pairs_and_splits, imports_are_judged, imports_find_payees,
-    imports_write, nearness_is_told, plain_texts_read_back, rules_keep_pairs_and_splits,
-    schedules_keep_pairs_and_splits, statements_keep_pairs_and_splits,
+    imports_write, imports_write_changes, nearness_is_told, plain_texts_read_back,
+    rules_keep_pairs_and_splits, schedules_keep_pairs_and_splits, statements_keep_pairs_and_splits,
+    texts_are_cut,
 };
