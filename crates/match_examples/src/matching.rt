@@ -103,23 +103,34 @@ fn rows_of<G: Ledger>(blank: Blank, alloc: Global, book: &Book) -> Result<Vec<Tx
     Ok(rows)
 }
 
-/// What the records of a row match, with a blank between them.
+/// The same, with a counter of steps that nobody reads.
+fn copies_of(alloc: Global, book: &Book) -> Result<Vec<TxRow>, Fail> {
+    rows_of::<Brand>(Blank::new(1), alloc, book)
+}
+
+/// Ids, or `-` where there is none, with a blank between them.
+fn joined(alloc: Global, ids: &[Option<Txt>]) -> Result<String, Fail> {
+    let mut text = String::new(alloc);
+    for id in ids {
+        if !text.as_str().is_empty() {
+            text.push(' ')?;
+        }
+        match id {
+            Some(id) => text.push_str(id.as_str())?,
+            None => text.push('-')?,
+        }
+    }
+    Ok(text)
+}
+
+/// What the records of a row match.
 fn matched(alloc: Global, known: &str, given: &str) -> Result<String, Fail> {
     let book = book_of(alloc, known)?;
     let records = book_of(alloc, given)?;
-    let rows = rows_of::<Brand>(Blank::new(1), alloc, &records)?;
+    let rows = copies_of(alloc, &records)?;
     let account = Txt::from_text(alloc, "bank")?;
-    let mut told = String::new(alloc);
-    for id in matches(alloc, &book, &account, rows.as_slice())?.as_slice() {
-        if !told.as_str().is_empty() {
-            told.push(' ')?;
-        }
-        match id {
-            Some(id) => told.push_str(id.as_str())?,
-            None => told.push('-')?,
-        }
-    }
-    Ok(told)
+    let found = matches(alloc, &book, &account, rows.as_slice())?;
+    joined(alloc, found.as_slice())
 }
 
 #[test]

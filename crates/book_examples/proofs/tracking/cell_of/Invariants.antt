@@ -1,4 +1,4 @@
-use Rattle.book_examples.proofs.tracking.first_other.Given as goal
+use Rattle.book_examples.proofs.tracking.cell_of.Given as goal
 
 -- the counter's ledger is the blank one's
 abbrev pub ghosts-cell_over : goal.ghosts-cell_over

@@ -1,4 +1,4 @@
-use Rattle.match_examples.proofs.matching.matched.Given as goal
+use Rattle.match_examples.proofs.matching.copies_of.Given as goal
 
 -- the counter's ledger is the blank one's
 abbrev pub ghosts-rows_of : goal.ghosts-rows_of
