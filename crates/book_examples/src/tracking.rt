@@ -147,13 +147,18 @@ fn cell_of(alloc: Global, book: &Book, name: &Txt) -> Result<String, Fail>
     cell_over::<Brand>(Blank::new(1), alloc, book, name)
 }
 
+/// What the cell of a name tells in January, in the book of these fields.
+fn told(alloc: Global, fields: &str, name: &str) -> Result<String, Fail> {
+    let book = book_of(alloc, fields)?;
+    let name = Txt::from_text(alloc, name)?;
+    cell_of(alloc, &book, &name)
+}
+
 /// Of rows "name value", the first that is another one in the book of these fields, with its value.
 fn first_other(alloc: Global, fields: &str, rows: &str) -> Result<String, Fail> {
-    let book = book_of(alloc, fields)?;
     for row in rows.lines() {
         let (name, wanted) = row.split_once(' ').unwrap_or((row, ""));
-        let name = Txt::from_text(alloc, name)?;
-        let value = cell_of(alloc, &book, &name)?;
+        let value = told(alloc, fields, name)?;
         if value.as_str() != wanted {
             return Ok(format!(in alloc; "{row}: {value}")?);
         }
