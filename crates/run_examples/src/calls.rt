@@ -1,16 +1,8 @@
-//! Calls of `command_lines` and `device_core` that no run shows: copies, the reply to a refusal that no line brings about, what a line would be
-//! answered, and a device that begins anew.
-ghost use Rattle.std.specs.Prelude.{◌≡◌, ◌≤◌, [], OnOk, false};
-ghost use Rattle.device_core.specs.Edits.{IsEdit};
-
-use crate::table::T0;
+//! Calls of `command_lines` and `device_core` that no run shows: copies, and the reply to a refusal that no line brings about.
 use command_lines::{added_reply, faulty_reply, read_command, refusal_reply, reply_text};
-use device_core::{BookEdit, Device, Edit, EditFault, LineRefusal, RowName, Write, WriteValue};
-use field_values::{Steps, Txt, Value};
-use hybrid_clock::Node;
+use device_core::{EditFault, LineRefusal, RowName, Write, WriteValue};
+use field_values::{Txt, Value};
 use std::alloc::Global;
-use std::marker::Brand;
-use std::sync::ledger::{Blank, Ledger};
 use std::test::Fail;
 
 /// A line of each kind of command, of edit and of change, with `>` for a TAB.
@@ -142,46 +134,5 @@ fn copies_writes(rt: HostRuntime) -> Result<(), Fail> {
         value: WriteValue::Plain(Value::Number(-7)),
     };
     assert_eq!(rt; write.copy()?.value, WriteValue::Plain(Value::Number(-7)));
-    Ok(())
-}
-
-/// How many writes an edit is, with a counter of steps that nobody reads.
-fn made<G: Ledger>(blank: Blank, device: &mut Device, edit: &Edit) -> Result<u32, LineRefusal>
-    requires name { blank.name ≡ G.name }
-    requires parts { blank.parts ≡ G.parts }
-    requires some { 1 ≤ G.parts }
-    requires live { device.old.spent ≡ false }
-    requires idle { device.old.batch ≡ [] }
-    requires valid { IsEdit edit.now }
-    ensures live { OnOk result (device.new.spent ≡ false) }
-{
-    let mut steps = Steps::<G>::new(blank);
-    device.prepare(edit, T0, &mut steps)
-}
-
-/// How many writes a payee that is added would be, and how many it is.
-fn would_and_does(alloc: Global, device: &mut Device) -> Result<(u32, u32), Fail>
-    requires live { device.old.spent ≡ false }
-    requires idle { device.old.batch ≡ [] }
-    ensures live { OnOk result (device.new.spent ≡ false) }
-{
-    let name = Txt::from_text(alloc, "Market")?;
-    let edit = Edit::Book(BookEdit::PayeeAdd { id: None, name });
-    let would = device.would_prepare(&edit, T0)?;
-    let does = made::<Brand>(Blank::new(1), device, &edit)?;
-    Ok((would, does))
-}
-
-#[test]
-fn tells_what_would_be_done(rt: HostRuntime) -> Result<(), Fail> {
-    let mut device = Device::start(rt.alloc(), Node::make(b"aa")?, &[])?;
-    assert_eq!(rt; would_and_does(rt.alloc(), &mut device)?, (1, 1));
-    assert_eq!(rt; device.would_undo(T0)?, 1);
-    let redo = LineRefusal::Edit(EditFault::NothingToRedo);
-    assert_eq!(rt; device.would_redo(T0).err(), Some(redo));
-    device.restart();
-    let undo = LineRefusal::Edit(EditFault::NothingToUndo);
-    assert_eq!(rt; device.would_undo(T0).err(), Some(undo));
-    assert_eq!(rt; (device.log().len(), device.batch().len()), (1, 0));
     Ok(())
 }
