@@ -1,6 +1,6 @@
 -- The records that a keeper gives rise by key, and no key is empty.
-use Rattle.std.proofs.Common.{◌≡◌, inl, inr, ◌<◌, Bool, true, false, List, [], ◌∷◌, map, filter, length, refl, sym, true≢false, Ordering, Less, Equal, Greater, arith}
-use Rattle.std.specs.Ordering.{is_lt, is_eq, ordering_then}
+use Rattle.std.proofs.Common.{◌≡◌, inl, inr, ◌<◌, Bool, true, false, List, [], ◌∷◌, map, filter, length, refl, Less, arith}
+use Rattle.std.specs.Ordering.{ordering_then}
 use Rattle.std.specs.List.{AllByRecursion}
 use Rattle.std.specs.Cmp.{tied_itself}
 use Rattle.std.proofs.lemmas.Bool.{and_parts, cases_Bool}
@@ -8,18 +8,9 @@ use Rattle.std.specs.FinMap.{FinMap, entries, entries_sorted, is_sorted}
 use Rattle.std.specs.Prelude.{T}
 use Rattle.budget_ports.specs.Contents.{Text, text_cmp, Place, place_cmp, is_in, of_entry, records_of_after}
 use Rattle.budget_ports.specs.Keeper.{Rise}
-use Rattle.budget_ports.proofs.Maps.{IsRising}
+use Rattle.budget_ports.proofs.Maps.{IsRising, equal_is}
+pub use Rattle.budget_ports.proofs.Maps.{less_is}
 use Rattle.budget_ports.proofs.Places.{text_total, text_same, place_total}
-
-pub less_is : (o : Ordering) → is_lt o ≡ true → o ≡ Less
-less_is Less h = refl
-less_is Equal h = absurd (true≢false (sym h))
-less_is Greater h = absurd (true≢false (sym h))
-
-equal_is : (o : Ordering) → is_eq o ≡ true → o ≡ Equal
-equal_is Less h = absurd (true≢false (sym h))
-equal_is Equal h = refl
-equal_is Greater h = absurd (true≢false (sym h))
 
 pub is_true : (b : Bool) → T b → b ≡ true
 is_true true t = refl

@@ -4,6 +4,7 @@ pub mod Memory
 pub mod Readings
 pub mod Contents
 pub mod Keeper
+pub mod Groups
 pub mod KeeperState
 pub mod Undoing
 pub mod Exchanges

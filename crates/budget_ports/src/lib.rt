@@ -6,6 +6,7 @@
 mod calls;
 mod clock;
 mod door;
+mod group_records;
 mod keeper;
 mod laws;
 mod link;
