@@ -19,7 +19,7 @@ use Rattle.finite_sums.specs.Sums.{only_if}
 use Rattle.book_rows.specs.declared.rows.Rows.{Rows}
 use Rattle.book_rows.specs.declared.rows.TxRow.{TxRow}
 use Rattle.book_rows.specs.Live.{is_live_tx}
-use Rattle.book_rows.specs.Parts.{is_text, is_child_of, is_in_account, is_in_category}
+use Rattle.book_rows.specs.Parts.{is_text, is_child_of, is_in_account, is_in_category, is_of_schedule}
 use Rattle.book_rows.specs.Balances.{adds}
 use Rattle.book_laws.specs.Books.{KeptRowsAreTold, TransactionsAreListed, BalancesAreTold}
 use Rattle.book_rows.proofs.Balances.{total_of-keys_where}
@@ -111,9 +111,15 @@ lists_told rows = record {
         λ h. let x = is.0 h in (x.0, x.1, one_is id x.0.category x.2),
         λ h. is.1 (h.0, h.1, is_one id h.0.category h.2),
       );
+  scheduled = λ id q.
+      let is = listed (is_of_schedule id) rows.txs q in (
+        λ h. let x = is.0 h in (x.0, x.1, one_is id x.0.schedule x.2),
+        λ h. is.1 (h.0, h.1, is_one id h.0.schedule h.2),
+      );
   parts_rise = λ id. rising (is_child_of id) (map_of.entries rows.txs) (so _ (entries_sorted rows.txs));
   own_rise = λ id. rising (is_in_account id) (map_of.entries rows.txs) (so _ (entries_sorted rows.txs));
   named_rise = λ id. rising (is_in_category id) (map_of.entries rows.txs) (so _ (entries_sorted rows.txs));
+  scheduled_rise = λ id. rising (is_of_schedule id) (map_of.entries rows.txs) (so _ (entries_sorted rows.txs));
 }
 
 -- ---- balances

@@ -18,7 +18,7 @@ use Rattle.book_rows.specs.Kinds.{flag_of, int_of, text_of, day_of, is_day}
 use Rattle.book_rows.specs.Ids.{budget_id, month_id}
 use Rattle.book_rows.specs.Live.{is_live_account, is_live_group, is_live_payee, is_live_rule, is_live_schedule, is_alive, is_live_tx}
 use Rattle.book_rows.specs.Months.{is_month, month_of_row, budget_month, month_row_month}
-use Rattle.book_rows.specs.Parts.{children_of, account_txs, category_txs}
+use Rattle.book_rows.specs.Parts.{children_of, account_txs, category_txs, schedule_txs}
 use Rattle.book_rows.specs.Balances.{adds, balance_of}
 
 -- a number YYYYMMDD writes a day of the calendar from 1970 to 2199
@@ -76,15 +76,17 @@ pub record KeptRowsAreTold : Type 0 where
   -- a transaction is alive where it is there and live
   pub tx : (rows : Rows) (id : Text) → (is_alive rows id ≡ true) ↔ ((x : TxRow) × (map.get rows.txs id ≡ Some x) × (is_live_tx rows x ≡ true))
 
--- which transactions are listed as parts of one, as those of an account, and as those that have a category in their column: all that say so,
--- dead or alive, each once, in the order of the ids
+-- which transactions are listed as parts of one, as those of an account, as those that have a category in their column, and as those of a schedule: all
+-- that say so, dead or alive, each once, in the order of the ids
 pub record TransactionsAreListed (rows : Rows) : Type 0 where
   pub part : (id q : Text) → (is_among text_cmp (children_of rows id) q ≡ true) ↔ ((x : TxRow) × (map.get rows.txs q ≡ Some x) × (x.is_child ≡ true) × (x.parent_id ≡ Some id))
   pub own : (id q : Text) → (is_among text_cmp (account_txs rows id) q ≡ true) ↔ ((x : TxRow) × (map.get rows.txs q ≡ Some x) × (x.acct ≡ Some id))
   pub named : (id q : Text) → (is_among text_cmp (category_txs rows id) q ≡ true) ↔ ((x : TxRow) × (map.get rows.txs q ≡ Some x) × (x.category ≡ Some id))
+  pub scheduled : (id q : Text) → (is_among text_cmp (schedule_txs rows id) q ≡ true) ↔ ((x : TxRow) × (map.get rows.txs q ≡ Some x) × (x.schedule ≡ Some id))
   pub parts_rise : (id : Text) → IsStrictlySortedBy text_cmp (children_of rows id)
   pub own_rise : (id : Text) → IsStrictlySortedBy text_cmp (account_txs rows id)
   pub named_rise : (id : Text) → IsStrictlySortedBy text_cmp (category_txs rows id)
+  pub scheduled_rise : (id : Text) → IsStrictlySortedBy text_cmp (schedule_txs rows id)
 
 -- what an account has
 pub record BalancesAreTold (rows : Rows) : Type 0 where

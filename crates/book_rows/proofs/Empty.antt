@@ -29,13 +29,14 @@ no_row : {X : Type 0} (m : Texts X) (q : Text) → m ≡ map.empty → map.get m
 no_row m q h = ap (λ n. map.get n q) h ∙ map.get-empty _ q
 
 pub empty_indexed : (index : TxIndex) (named : BTreeSet ℕ) (xs : Texts TxRow) (bs : Texts BudgetRow) (ms : Texts MonthRow) (ts : Texts BudgetRow)
-    → tree.IsEmpty index.children → tree.IsEmpty index.accounts → tree.IsEmpty index.categories → set.IsEmpty index.months → set.IsEmpty named
+    → tree.IsEmpty index.children → tree.IsEmpty index.accounts → tree.IsEmpty index.categories → tree.IsEmpty index.schedules → set.IsEmpty index.months → set.IsEmpty named
     → xs ≡ map.empty → bs ≡ map.empty → ms ≡ map.empty → ts ≡ map.empty → IsIndexed index named xs bs ms ts
-empty_indexed index named xs bs ms ts a b k c d e f g t = record {
+empty_indexed index named xs bs ms ts a b k s c d e f g t = record {
   txs = record {
     children = λ k q. ap (λ es. has_id (lookup (is_at (text_cmp k)) es) q) a ∙ sym (ap (λ o. is_text k (keys_of o).parent) (no_row xs q e));
     accounts = λ k q. ap (λ es. has_id (lookup (is_at (text_cmp k)) es) q) b ∙ sym (ap (λ o. is_text k (keys_of o).account) (no_row xs q e));
     categories = λ p q. ap (λ es. has_id (lookup (is_at (text_cmp p)) es) q) k ∙ sym (ap (λ o. is_text p (keys_of o).category) (no_row xs q e));
+    schedules = λ p q. ap (λ es. has_id (lookup (is_at (text_cmp p)) es) q) s ∙ sym (ap (λ o. is_text p (keys_of o).schedule) (no_row xs q e));
     months = λ m q. ap (list_any (is_at (dated_cmp (m, q)))) c ∙ sym (ap (λ o. is_month_of m (keys_of o).month) (no_row xs q e));
   };
   named = λ m. ap (list_any (is_at (nat_cmp m))) d ∙ sym (ap (λ es. list_any (λ e. is_month_of m (budget_month e.0)) es || list_any (λ e. is_month_of m (month_row_month e.0)) (map.entries ms)) (no_entries bs f) ∙ ap (list_any (λ e. is_month_of m (month_row_month e.0))) (no_entries ms g));

@@ -66,7 +66,7 @@ keys_stay IsParent value row h = refl
 keys_stay IsChild value row h = false_true h
 keys_stay ParentId value row h = false_true h
 keys_stay TransferredId value row h = refl
-keys_stay Schedule value row h = refl
+keys_stay Schedule value row h = false_true h
 keys_stay ImportedDescription value row h = refl
 keys_stay FinancialId value row h = refl
 keys_stay CatGroup value row h = refl
@@ -96,6 +96,12 @@ keys_there : (id : Text) (o : Option TxRow) → keys_of (Some (unwrap_or o (blan
 keys_there id None = blank_keys id
 keys_there id (Some row) = refl
 
+-- a row is put, and the keys before and after are told
+pub keys_between : (xs ys : Texts TxRow) (id : Text) (row : TxRow) (o : Option TxRow) (keys : Keys × Keys) → map.get xs id ≡ o → ys ≡ map.insert xs id row → keys ≡ (keys_of o, keys_of (Some row)) → keys ≡ (keys_of (map.get xs id), keys_of (map.get ys id))
+keys_between xs ys id row o keys was put told =
+    let there : map.get ys id ≡ Some row = ap (λ m. map.get m id) put ∙ map.get-insert text_total xs id row id ∙ ap (λ b. cond b (Some row) (map.get xs id)) (itself id) in
+    told ∙ ap (λ x. (keys_of x, keys_of (Some row))) (sym was) ∙ ap (λ x. (keys_of (map.get xs id), keys_of x)) (sym there)
+
 pub unmoved : (index : TxIndex) (xs ys : Texts TxRow) (id : Text) (column : Column) (value : Value) → moves column ≡ false → IsTxIndex index xs → ys ≡ with_column tx_table id column value xs → IsTxIndex index ys
 unmoved index xs ys id column value h is set_one =
     let same = λ (q : Text). ap (λ m. keys_of (map.get m q)) set_one ∙ row_by_row tx_table id column value xs keys_of (keys_stay column value (unwrap_or (map.get xs id) (blank_row tx_table id)) h ∙ keys_there id (map.get xs id)) q in
@@ -103,6 +109,7 @@ unmoved index xs ys id column value h is set_one =
       children = λ k q. is.children k q ∙ ap (λ keys. is_text k keys.parent) (sym (same q));
       accounts = λ k q. is.accounts k q ∙ ap (λ keys. is_text k keys.account) (sym (same q));
       categories = λ k q. is.categories k q ∙ ap (λ keys. is_text k keys.category) (sym (same q));
+      schedules = λ k q. is.schedules k q ∙ ap (λ keys. is_text k keys.schedule) (sym (same q));
       months = λ m q. is.months m q ∙ ap (λ keys. is_month_of m keys.month) (sym (same q));
     }
 
@@ -121,5 +128,6 @@ keyed old new xs ys id column value is set_one moved = record {
   children = one xs ys id column value set_one (holds old.children) (holds new.children) (λ k keys. is_text k keys.parent) is.children moved.children;
   accounts = one xs ys id column value set_one (holds old.accounts) (holds new.accounts) (λ k keys. is_text k keys.account) is.accounts moved.accounts;
   categories = one xs ys id column value set_one (holds old.categories) (holds new.categories) (λ k keys. is_text k keys.category) is.categories moved.categories;
+  schedules = one xs ys id column value set_one (holds old.schedules) (holds new.schedules) (λ k keys. is_text k keys.schedule) is.schedules moved.schedules;
   months = one xs ys id column value set_one (λ m q. set.contains dated_cmp old.months (m, q)) (λ m q. set.contains dated_cmp new.months (m, q)) (λ m keys. is_month_of m keys.month) is.months moved.months;
 }

@@ -12,7 +12,7 @@ use Rattle.finite_sums.proofs.Texts.{text_total, text_same}
 use Rattle.finite_sums.proofs.Sorted.{keys_where_are}
 use Rattle.book_rows.specs.declared.rows.TxRow.{TxRow}
 use Rattle.book_rows.specs.declared.txs.TxIndex.{TxIndex}
-use Rattle.book_rows.specs.Parts.{is_text, is_child_of, is_in_account, is_in_category}
+use Rattle.book_rows.specs.Parts.{is_text, is_child_of, is_in_account, is_in_category, is_of_schedule}
 use Rattle.book_rows.specs.Book.{IsTxIndex, keys_of, parent_of, has_id, holds, ids_in, ids_under}
 use Rattle.book_rows.proofs.Pairs.{Tree, is_equal}
 
@@ -35,6 +35,10 @@ category_there : (key : Text) (o : Option TxRow) → is_text key (keys_of o).cat
 category_there key None = refl
 category_there key (Some x) = refl
 
+schedule_there : (key : Text) (o : Option TxRow) → is_text key (keys_of o).schedule ≡ some_and (is_of_schedule key) o
+schedule_there key None = refl
+schedule_there key (Some x) = refl
+
 in_held : (o : Option (BTreeSet Text)) (q : Text) → list_any (eq_by_cmp text_cmp q) (ids_in o) ≡ has_id o q
 in_held None q = refl
 in_held (Some ids) q = refl
@@ -52,6 +56,9 @@ module _ (index : TxIndex) (txs : Texts TxRow) (is : IsTxIndex index txs) (key :
 
   pub category_txs_are : IsStrictlySortedBy text_cmp (ids_under index.categories key) → ids_under index.categories key ≡ keys_where (is_in_category key) (map.entries txs)
   category_txs_are sorted = keys_where_are text_total text_same (is_in_category key) txs (ids_under index.categories key) sorted (λ q. under_held index.categories key q ∙ is.categories key q ∙ category_there key (map.get txs q))
+
+  pub schedule_txs_are : IsStrictlySortedBy text_cmp (ids_under index.schedules key) → ids_under index.schedules key ≡ keys_where (is_of_schedule key) (map.entries txs)
+  schedule_txs_are sorted = keys_where_are text_total text_same (is_of_schedule key) txs (ids_under index.schedules key) sorted (λ q. under_held index.schedules key q ∙ is.schedules key q ∙ schedule_there key (map.get txs q))
 
 -- the same list by another name
 pub relisted : {E : Type 0} {xs ys : List Text} (r : Result (List Text) E) → xs ≡ ys → IfOk r (λ v. v ≡ xs) → IfOk r (λ v. v ≡ ys)

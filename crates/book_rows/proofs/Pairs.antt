@@ -2,7 +2,7 @@
 use Rattle.std.proofs.Common.{◌≡◌, ◌==◌, ℕ, Bool, true, false, cond, [], Option, Some, None, Result, Ok, Err, OnOk, refl, ap, sym, ◌∙◌}
 use Rattle.std.specs.Option.{option_eq}
 use Rattle.std.specs.Cmp.Lexicographic.{pointwise, texts_ties}
-use Rattle.std.specs.Prelude.{◌&&◌}
+use Rattle.std.specs.Prelude.{◌&&◌, IfOk}
 use Rattle.std.specs.declared.cmp.Ordering.{Ordering}
 use Rattle.std.specs.declared.cmp.Ordering.TheVariants.{Less, Equal, Greater}
 use Rattle.std.specs.Ordering.{is_eq, eq_by_cmp, nat_cmp, ordering_then}
@@ -56,6 +56,14 @@ none_sorted = tt
 pub on_ok : {A E : Type 0} {P Q : Type 0} (r : Result A E) → (P → Q) → OnOk r P → OnOk r Q
 on_ok (Ok x) f p = f p
 on_ok (Err e) f p = p
+
+pub if_ok : {A E : Type 0} {Q S : A → Type 0} (r : Result A E) → ((x : A) → Q x → S x) → IfOk r Q → IfOk r S
+if_ok (Ok x) f q = f x q
+if_ok (Err e) f q = q
+
+pub if_both : {A E : Type 0} {P : Type 0} {Q S : A → Type 0} (r : Result A E) → ((x : A) → P → Q x → S x) → OnOk r P → IfOk r Q → IfOk r S
+if_both (Ok x) f p q = f x p q
+if_both (Err e) f p q = q
 
 -- texts that may be absent are equal where the program says so
 pub same_option : (a b : Option Text) → option_eq (pointwise ◌==◌) a b ≡ true → a ≡ b

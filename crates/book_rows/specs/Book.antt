@@ -18,7 +18,7 @@ use Rattle.book_rows.specs.Months.{month_of_row, budget_month, month_row_month}
 use Rattle.book_rows.specs.Kinds.{is_day}
 use Rattle.book_rows.specs.Parts.{is_text}
 use Rattle.book_rows.specs.declared.column.Column.{Column}
-use Rattle.book_rows.specs.declared.column.Column.TheVariants.{Acct, Category, Date, IsChild, ParentId}
+use Rattle.book_rows.specs.declared.column.Column.TheVariants.{Acct, Category, Date, IsChild, ParentId, Schedule}
 use Rattle.book_rows.specs.declared.txs.Keys.{Keys}
 use Rattle.book_rows.specs.declared.txs.TxIndex.{TxIndex}
 
@@ -98,14 +98,15 @@ parent_of x = if x.is_child then x.parent_id else None
 
 -- under which keys a transaction is found, if it is there
 abbrev pub keys_of : Option TxRow → Keys
-keys_of None = record { parent = None; account = None; category = None; month = None }
-keys_of (Some x) = record { parent = parent_of x; account = x.acct; category = x.category; month = month_of_row x }
+keys_of None = record { parent = None; account = None; category = None; schedule = None; month = None }
+keys_of (Some x) = record { parent = parent_of x; account = x.acct; category = x.category; schedule = x.schedule; month = month_of_row x }
 
 -- the indexes have each transaction under its keys, and no other
 pub record IsTxIndex (index : TxIndex) (txs : Texts TxRow) : Type 0 where
   pub children : (key id : Text) → holds index.children key id ≡ is_text key (keys_of (map.get txs id)).parent
   pub accounts : (key id : Text) → holds index.accounts key id ≡ is_text key (keys_of (map.get txs id)).account
   pub categories : (key id : Text) → holds index.categories key id ≡ is_text key (keys_of (map.get txs id)).category
+  pub schedules : (key id : Text) → holds index.schedules key id ≡ is_text key (keys_of (map.get txs id)).schedule
   pub months : (month : ℕ) (id : Text) → set.contains dated_cmp index.months (month, id) ≡ is_month_of month (keys_of (map.get txs id)).month
 
 -- the indexes are right, the numbers that are added up are such as a value may hold, and days are days
@@ -122,6 +123,7 @@ moves Category = true
 moves Date = true
 moves IsChild = true
 moves ParentId = true
+moves Schedule = true
 moves other = false
 
 -- a transaction stands under these keys and no other
@@ -129,6 +131,7 @@ pub record HasKeys (index : TxIndex) (id : Text) (keys : Keys) : Type 0 where
   pub children : (key : Text) → holds index.children key id ≡ is_text key keys.parent
   pub accounts : (key : Text) → holds index.accounts key id ≡ is_text key keys.account
   pub categories : (key : Text) → holds index.categories key id ≡ is_text key keys.category
+  pub schedules : (key : Text) → holds index.schedules key id ≡ is_text key keys.schedule
   pub months : (month : ℕ) → set.contains dated_cmp index.months (month, id) ≡ is_month_of month keys.month
 
 -- a transaction then stands under these keys, and all others as before
@@ -136,4 +139,5 @@ pub record MovesKeys (old new : TxIndex) (id : Text) (keys : Keys) : Type 0 wher
   pub children : (key q : Text) → holds new.children key q ≡ (if eq_by_cmp text_cmp q id then is_text key keys.parent else holds old.children key q)
   pub accounts : (key q : Text) → holds new.accounts key q ≡ (if eq_by_cmp text_cmp q id then is_text key keys.account else holds old.accounts key q)
   pub categories : (key q : Text) → holds new.categories key q ≡ (if eq_by_cmp text_cmp q id then is_text key keys.category else holds old.categories key q)
+  pub schedules : (key q : Text) → holds new.schedules key q ≡ (if eq_by_cmp text_cmp q id then is_text key keys.schedule else holds old.schedules key q)
   pub months : (month : ℕ) (q : Text) → set.contains dated_cmp new.months (month, q) ≡ (if eq_by_cmp text_cmp q id then is_month_of month keys.month else set.contains dated_cmp old.months (month, q))

@@ -1,4 +1,4 @@
--- The parts of a split, and the transactions of an account and of a category.
+-- The parts of a split, and the transactions of an account, of a category and of a schedule.
 use Rattle.std.specs.Prelude.{Bool, ◌&&◌, List, Option}
 use Rattle.std.specs.Ordering.{eq_by_cmp}
 use Rattle.std.specs.FinMap as map
@@ -22,6 +22,10 @@ is_in_account id x = is_text id x.acct
 abbrev pub is_in_category : Text → TxRow → Bool
 is_in_category id x = is_text id x.category
 
+-- the transaction says that it is one of the schedule with this id
+abbrev pub is_of_schedule : Text → TxRow → Bool
+is_of_schedule id x = is_text id x.schedule
+
 -- the ids of the parts of a transaction, dead or alive, in order
 abbrev pub children_of : Rows → Text → List Text
 children_of rows id = keys_where (is_child_of id) (map.entries rows.txs)
@@ -33,3 +37,7 @@ account_txs rows id = keys_where (is_in_account id) (map.entries rows.txs)
 -- the ids of the transactions whose category column is this id, dead or alive, in order
 abbrev pub category_txs : Rows → Text → List Text
 category_txs rows id = keys_where (is_in_category id) (map.entries rows.txs)
+
+-- the ids of the transactions whose schedule column is this id, dead or alive, in order
+abbrev pub schedule_txs : Rows → Text → List Text
+schedule_txs rows id = keys_where (is_of_schedule id) (map.entries rows.txs)

@@ -8,17 +8,17 @@ ghost use Rattle.book_rows.specs.Columns.{dataset_of};
 ghost use Rattle.book_rows.specs.Rows.{no_rows, with_cell, with_field, kind_of, is_row};
 ghost use Rattle.book_rows.specs.Live.{is_alive, has_parent, mapped_category, mapped_payee, category_of, payee_of};
 ghost use Rattle.book_rows.specs.Months.{is_month, month_of_tx, window_of};
-ghost use Rattle.book_rows.specs.Parts.{children_of, account_txs, category_txs};
+ghost use Rattle.book_rows.specs.Parts.{children_of, account_txs, category_txs, schedule_txs};
 ghost use Rattle.book_rows.specs.Balances.{adds, balance_of};
 ghost use Rattle.finite_sums.specs.Sums.{total};
 ghost use Rattle.finite_sums.specs.Maps.{text_cmp, value_or_zero};
 ghost use Rattle.std.specs.List.Sorted.{IsStrictlySortedBy};
 ghost use Rattle.book_rows.specs.Named.{HasNames};
-ghost use Rattle.book_rows.specs.Book.{HasSizes, IsIndexed};
+ghost use Rattle.book_rows.specs.Book.{HasSizes, IsIndexed, ids_in};
 ghost use Rattle.book_rows.specs.Spans.{Spans, HasDated, HasMonth};
 
 use crate::column::{Column, Dataset, column_of, dataset_of};
-use crate::indexes::{Dated, list};
+use crate::indexes::{Dated, list, under};
 use crate::known::dataset_kind;
 use crate::months::hull;
 use crate::rows::{
@@ -39,8 +39,8 @@ use std::sync::ledger::Ledger;
 /// A call that answers `NoMemory` and may have changed the book leaves it spent: no clause tells then which rows it has, and it is to
 /// be dropped.
 ///
-/// What is asked often is found without a walk over all rows: the parts of a transaction, the transactions of an account and of a
-/// category, and the first and the last month.
+/// What is asked often is found without a walk over all rows: the parts of a transaction, the transactions of an account, of a
+/// category and of a schedule, and the first and the last month.
 #[derive(Drop)]
 pub struct Book {
     alloc: Global,
@@ -184,6 +184,7 @@ impl Book {
                 children: BTreeMap::new(alloc),
                 accounts: BTreeMap::new(alloc),
                 categories: BTreeMap::new(alloc),
+                schedules: BTreeMap::new(alloc),
                 months: BTreeSet::new(alloc),
             },
             named: BTreeSet::new(alloc),
@@ -576,6 +577,14 @@ impl Book {
         ensures most { steps.new ≤ steps.old + length (category_txs self.now.rows id.now) }
     {
         list(self.alloc, &self.index.categories, id, steps)
+    }
+
+    /// The ids of the transactions whose schedule column is this id, dead or alive, in order, lent as they stand.
+    pub fn of_schedule(&self, id: &Txt) -> Option<&BTreeSet<Txt>>
+        requires live { self.now.spent ≡ false }
+        ensures { ids_in (option_copied result) ≡ schedule_txs self.now.rows id.now }
+    {
+        under(&self.index.schedules, id)
     }
 
     /// What a transaction adds to the balance of its account.

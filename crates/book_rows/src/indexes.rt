@@ -1,11 +1,12 @@
 //! What a book keeps beside its rows, to find transactions and months without a walk over all rows.
 ghost use Rattle.std.specs.Prelude.{◌≡◌, ◌≤◌, ◌+◌, ℕ, OnOk, IfOk, if◌then◌else◌, true, false, [], length};
 ghost use Rattle.std.specs.List.Sorted.{IsStrictlySortedBy};
+ghost use Rattle.std.specs.Option.{option_copied};
 ghost use Rattle.std.specs.Ordering.{eq_by_cmp};
 ghost use Rattle.std.specs.BTreeSet as set;
 ghost use Rattle.finite_sums.specs.Maps.{Text, text_cmp};
 ghost use Rattle.book_rows.specs.Parts.{is_text};
-ghost use Rattle.book_rows.specs.Book.{holds, ids_under, is_pair, is_month_of, dated_cmp};
+ghost use Rattle.book_rows.specs.Book.{holds, ids_in, ids_under, is_pair, is_month_of, dated_cmp};
 
 use field_values::{Items, NoMemory, Steps, Txt};
 use std::alloc::Global;
@@ -149,6 +150,20 @@ pub(crate) fn list<G: Ledger>(
     match index.get(key) {
         None => Ok(Items::new(Vec::new(alloc))),
         Some(ids) => copies(alloc, ids, steps),
+    }
+}
+
+/// The ids under a key, if it has any.
+pub(crate) fn under<'a>(index: &'a Index, key: &Txt) -> Option<&'a BTreeSet<Txt>>
+    ensures sorted { IsStrictlySortedBy text_cmp (ids_under index.now key.now) }
+    ensures ids { ids_in (option_copied result) ≡ ids_under index.now key.now }
+{
+    match index.get(key) {
+        None => None,
+        Some(ids) => {
+            let _ = ids.len();
+            Some(ids)
+        }
     }
 }
 

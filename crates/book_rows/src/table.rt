@@ -1,14 +1,18 @@
 //! The rows of one dataset, by id.
-ghost use Rattle.std.specs.Prelude.{◌≡◌, ◌<◌, ◌^◌, OnOk, IfOk, unwrap_or, length};
+ghost use Rattle.std.specs.Prelude.{◌≡◌, ◌<◌, ◌^◌, OnOk, IfOk, IsSome, unwrap_or, length};
 ghost use Rattle.std.specs.Option.{option_copied};
 ghost use Rattle.std.specs.BTreeMap.{IsOrdered};
 ghost use Rattle.std.specs.FinMap as map;
 ghost use Rattle.finite_sums.specs.Maps.{text_cmp, map_of};
 ghost use Rattle.field_values.specs.Names.{IsName};
 ghost use Rattle.book_rows.specs.Tables.{Table as TableRules, AreNamed, blank_row, with_column};
+ghost use Rattle.book_rows.specs.Rules.{tx_table};
+ghost use Rattle.book_rows.specs.Book.{keys_of};
 
 use crate::column::Column;
 use crate::kind::Kind;
+use crate::rows::TxRow;
+use crate::txs::{Keys, set_or_add};
 use field_values::{NoMemory, Txt, Value};
 use std::alloc::Global;
 use std::collections::BTreeMap;
@@ -52,13 +56,25 @@ impl<R> Model for Table<R> {
     ghost invariant = { λ t. IsOrdered text_cmp t.rows × AreNamed (map_of t.rows) };
 }
 
-/// The row of which one column alone is known.
-fn new_row<R: Row>(id: &Txt, column: Column, value: &Value) -> Result<R, NoMemory>
-    ensures { IfOk result (λ row. row ≡ R.table.set column value.now (blank_row R.table id.now)) }
+/// Puts a new row of which one column alone is known. A row by value is large, so nothing but this and [`add_keyed`] holds one: a call
+/// that finds its row doesn't pay for the room.
+#[cold]
+#[inline(never)]
+fn add_row<R: Row>(
+    rows: &mut BTreeMap<Txt, R>,
+    id: &Txt,
+    column: Column,
+    value: &Value,
+) -> Result<(), NoMemory>
+    requires { IsOrdered text_cmp rows.old }
+    ensures row { OnOk result (map_of rows.new ≡ map.insert (map_of rows.old) id.now (R.table.set column value.now (blank_row R.table id.now))) }
+    ensures ordered { IsOrdered text_cmp rows.new }
+    ensures named { IsName id.now → AreNamed (map_of rows.old) → AreNamed (map_of rows.new) }
 {
     let mut row = R::blank(id.copy()?);
     row.set(column, value)?;
-    Ok(row)
+    rows.insert(id.copy()?, row)?;
+    Ok(())
 }
 
 /// Sets a column of a row, which is made where it is not there.
@@ -75,8 +91,7 @@ fn set_row<R: Row>(
     if let Some(row) = rows.get_mut(id) {
         return row.set(column, value);
     }
-    rows.insert(id.copy()?, new_row(id, column, value)?)?;
-    Ok(())
+    add_row(rows, id, column, value)
 }
 
 impl<R: Row> Table<R> {
@@ -127,5 +142,22 @@ impl<R: Row> Table<R> {
         ensures small { length (map.entries self.now) < 2 ^ 63 }
     {
         self.rows.len()
+    }
+}
+
+impl Table<TxRow> {
+    /// Sets a column of the transaction of an id, and tells under which keys it was found and is found then.
+    pub fn set_keyed(
+        &mut self,
+        id: &Txt,
+        column: Column,
+        value: &Value,
+    ) -> Result<(Keys, Keys), NoMemory>
+        requires name { IsName id.now }
+        requires known { IsSome (tx_table.kind column) }
+        ensures rows { OnOk result (self.new ≡ with_column tx_table id.now column value.now self.old) }
+        ensures keys { IfOk result (λ keys. keys ≡ (keys_of (map.get self.old id.now), keys_of (map.get self.new id.now))) }
+    {
+        set_or_add(&mut self.rows, id, column, value)
     }
 }

@@ -1,11 +1,12 @@
 //! Setting a column of a transaction, and of the rows whose ids name months, with the indexes.
-ghost use Rattle.std.specs.Prelude.{◌≡◌, ℕ, IfOk, OnOk, ◌||◌};
+ghost use Rattle.std.specs.Prelude.{◌≡◌, ℕ, IfOk, OnOk, IsSome, ◌||◌, true, None, Some, unwrap_or};
+ghost use Rattle.std.specs.BTreeMap.{IsOrdered};
 ghost use Rattle.std.specs.BTreeSet as set;
+ghost use Rattle.std.specs.FinMap as map;
 ghost use Rattle.std.specs.Ordering.{nat_cmp};
-ghost use Rattle.std.specs.Option.{option_copied};
 ghost use Rattle.field_values.specs.Names.{IsName};
-ghost use Rattle.finite_sums.specs.Maps.{Texts};
-ghost use Rattle.book_rows.specs.Tables.{with_column};
+ghost use Rattle.finite_sums.specs.Maps.{Texts, map_of, text_cmp};
+ghost use Rattle.book_rows.specs.Tables.{AreNamed, blank_row, with_column};
 ghost use Rattle.book_rows.specs.Rules.{tx_table, budget_table, month_table};
 ghost use Rattle.book_rows.specs.Months.{month_of_row};
 ghost use Rattle.book_rows.specs.Book.{IsTxIndex, HasKeys, MovesKeys, keys_of, parent_of, moves, has_named, is_month_of};
@@ -17,7 +18,7 @@ use crate::rows::{BudgetRow, MonthRow, TxRow, copied};
 use crate::table::{Row, Table};
 use field_values::{NoMemory, Txt, Value};
 use std::alloc::Global;
-use std::collections::BTreeSet;
+use std::collections::{BTreeMap, BTreeSet};
 
 /// The indexes of transactions.
 #[derive(Debug, Drop)]
@@ -28,6 +29,8 @@ pub(crate) struct TxIndex {
     pub accounts: Index,
     /// The transactions of each category, by their own column.
     pub categories: Index,
+    /// The transactions of each schedule.
+    pub schedules: Index,
     /// The transactions of each month.
     pub months: Dated,
 }
@@ -41,6 +44,8 @@ pub(crate) struct Keys {
     pub account: Option<Txt>,
     /// Its category.
     pub category: Option<Txt>,
+    /// Its schedule.
+    pub schedule: Option<Txt>,
     /// Its month.
     pub month: Option<u32>,
 }
@@ -66,32 +71,81 @@ fn parent_of(row: &TxRow) -> Result<Option<Txt>, NoMemory>
     }
 }
 
-/// Under which keys a transaction is found, if it is there.
-fn keys_of(row: Option<&TxRow>) -> Result<Keys, NoMemory>
-    ensures { IfOk result (λ keys. keys ≡ keys_of (option_copied row.entry)) }
+/// Under which keys a transaction is found.
+fn keys_of(row: &TxRow) -> Result<Keys, NoMemory>
+    ensures { IfOk result (λ keys. keys ≡ keys_of (Some row.now)) }
 {
-    match row {
-        None => Ok(Keys {
-            parent: None,
-            account: None,
-            category: None,
-            month: None,
-        }),
-        Some(row) => Ok(Keys {
-            parent: parent_of(row)?,
-            account: copied(&row.acct)?,
-            category: copied(&row.category)?,
-            month: month_of_row(row),
-        }),
+    Ok(Keys {
+        parent: parent_of(row)?,
+        account: copied(&row.acct)?,
+        category: copied(&row.category)?,
+        schedule: copied(&row.schedule)?,
+        month: month_of_row(row),
+    })
+}
+
+/// Sets a column of a transaction, and tells under which keys it was found and is found then.
+fn set_keyed(row: &mut TxRow, column: Column, value: &Value) -> Result<(Keys, Keys), NoMemory>
+    ensures row { OnOk result (row.new ≡ tx_table.set column value.now row.old) }
+    ensures keys { IfOk result (λ keys. keys ≡ (keys_of (Some row.old), keys_of (Some row.new))) }
+{
+    let before = keys_of(row)?;
+    row.set(column, value)?;
+    let after = keys_of(row)?;
+    Ok((before, after))
+}
+
+/// Puts a new transaction of which one column alone is known, and tells its keys: those of none, and its own.
+#[cold]
+#[inline(never)]
+fn add_keyed(
+    rows: &mut BTreeMap<Txt, TxRow>,
+    id: &Txt,
+    column: Column,
+    value: &Value,
+) -> Result<(Keys, Keys), NoMemory>
+    requires { IsOrdered text_cmp rows.old }
+    ensures row { OnOk result (map_of rows.new ≡ map.insert (map_of rows.old) id.now (tx_table.set column value.now (blank_row tx_table id.now))) }
+    ensures keys { IfOk result (λ keys. keys ≡ (keys_of None, keys_of (Some (tx_table.set column value.now (blank_row tx_table id.now))))) }
+    ensures ordered { IsOrdered text_cmp rows.new }
+    ensures named { IsName id.now → AreNamed (map_of rows.old) → AreNamed (map_of rows.new) }
+{
+    let mut row = TxRow::blank(id.copy()?);
+    let keys = set_keyed(&mut row, column, value)?;
+    rows.insert(id.copy()?, row)?;
+    Ok(keys)
+}
+
+/// Sets a column of a transaction, which is made where it is not there, and tells under which keys it was found and is found then.
+pub(crate) fn set_or_add(
+    rows: &mut BTreeMap<Txt, TxRow>,
+    id: &Txt,
+    column: Column,
+    value: &Value,
+) -> Result<(Keys, Keys), NoMemory>
+    ensures row { OnOk result (map_of rows.new ≡ map.insert (map_of rows.old) id.now (tx_table.set column value.now (unwrap_or (map.get (map_of rows.old) id.now) (blank_row tx_table id.now)))) }
+    ensures keys { IfOk result (λ keys. keys ≡ (keys_of (map.get (map_of rows.old) id.now), keys_of (map.get (map_of rows.new) id.now))) }
+    ensures ordered { IsOrdered text_cmp rows.new }
+    ensures named { IsName id.now → AreNamed (map_of rows.old) → AreNamed (map_of rows.new) }
+{
+    if let Some(row) = rows.get_mut(id) {
+        return set_keyed(row, column, value);
     }
+    add_keyed(rows, id, column, value)
 }
 
 /// Whether setting this column may move a transaction to other keys.
 fn moves(column: Column) -> bool
-    ensures { result ≡ moves column }
+    ensures moves { result ≡ moves column }
+    ensures known { result ≡ true → IsSome (tx_table.kind column) }
 {
     match column {
-        Column::Acct | Column::Category | Column::Date | Column::IsChild | Column::ParentId => true,
+        Column::Acct
+        | Column::Category
+        | Column::Date
+        | Column::IsChild
+        | Column::ParentId
+        | Column::Schedule => true,
         _ => false,
     }
 }
@@ -128,6 +182,13 @@ fn change_keys(
         &before.category,
         &after.category,
     )?;
+    change(
+        alloc,
+        &mut index.schedules,
+        id,
+        &before.schedule,
+        &after.schedule,
+    )?;
     change_month(&mut index.months, id, before.month, after.month)
 }
 
@@ -142,12 +203,11 @@ fn set_key(
 ) -> Result<(), NoMemory>
     requires index { IsTxIndex index.old txs.old }
     requires name { IsName id.now }
+    requires known { IsSome (tx_table.kind column) }
     ensures rows { OnOk result (txs.new ≡ with_column tx_table id.now column value.now txs.old) }
     ensures index { OnOk result (IsTxIndex index.new txs.new) }
 {
-    let before = keys_of(txs.get(id))?;
-    txs.set(id, column, value)?;
-    let after = keys_of(txs.get(id))?;
+    let (before, after) = txs.set_keyed(id, column, value)?;
     change_keys(alloc, index, id, &before, &after)
 }
 

@@ -20,6 +20,11 @@ next_day row = if row.completed then None else option_and_then day_in row.next_d
 abbrev pub pays : Rows → Text → ℕ → TxRow → Bool
 pays rows id next x = is_live_tx rows x && (is_text id x.schedule && some_and (λ day. nat_le next (day + 2)) (option_and_then day_in x.date))
 
+-- the transaction with this id is there and does so
+abbrev pub is_payment : Rows → Text → ℕ → Text → Bool
+is_payment rows id next q = some_and (pays rows id next) (map.get rows.txs q)
+
+-- some transaction does so
 abbrev pub is_paid : Rows → Text → ℕ → Bool
 is_paid rows id next = list_any (λ e. pays rows id next e.1) (map.entries rows.txs)
 

@@ -1,17 +1,19 @@
 //! The status of a schedule.
-ghost use Rattle.std.specs.Prelude.{◌≡◌, ◌<◌, ◌+◌, nat_le, true, IfSome};
+ghost use Rattle.std.specs.Prelude.{◌≡◌, ◌<◌, ◌+◌, nat_le, true, false, IfSome};
+ghost use Rattle.std.specs.List.{list_any};
 ghost use Rattle.std.specs.Option.{option_copied, option_and_then};
 ghost use Rattle.book_rows.specs.Kinds.{is_day};
 ghost use Rattle.finite_sums.specs.Maps.{some_and};
 ghost use Rattle.schedules.specs.Months.{day_in};
-ghost use Rattle.schedules.specs.Status.{next_day, pays, is_paid, by_days, live_row, status_of, status_in};
+ghost use Rattle.schedules.specs.Status.{next_day, pays, is_payment, is_paid, by_days, live_row, status_of, status_in};
 
 use crate::month::{day_in, day_of};
 use book_edits::checks::is_live;
 use book_edits::given::is_text;
-use book_edits::uncounted::txs;
+use book_edits::uncounted::tx;
 use book_rows::{Book, ScheduleRow, TxRow};
 use field_values::Txt;
+use std::collections::BTreeSet;
 
 /// How a schedule stands on a day.
 #[derive(Clone, Copy, Debug, Drop, PartialEq, Eq)]
@@ -74,16 +76,37 @@ fn pays(book: &Book, id: &Txt, next: u32, row: &TxRow) -> bool
     is_live(book, row) && is_text(id, &row.schedule) && is_near(row.date, next)
 }
 
-/// Whether some transaction pays for the next day.
-fn is_paid(book: &Book, id: &Txt, next: u32) -> bool
-    ensures { result ≡ is_paid book.now.rows id.now next }
+/// Whether a transaction is there and pays for a schedule's next day.
+fn is_payment(book: &Book, id: &Txt, next: u32, payment: &Txt) -> bool
+    ensures { result ≡ is_payment book.now.rows id.now next payment.now }
 {
-    for (_, row) in txs(book) {
-        if pays(book, id, next, row) {
+    match tx(book, payment) {
+        Some(row) => pays(book, id, next, row),
+        None => false,
+    }
+}
+
+/// Whether one of these transactions pays for the next day.
+fn has_payment(book: &Book, id: &Txt, next: u32, ids: &BTreeSet<Txt>) -> bool
+    ensures { result ≡ list_any (is_payment book.now.rows id.now next) ids.now.keys }
+{
+    for payment in ids {
+        if is_payment(book, id, next, payment) {
             return true;
         }
     }
     false
+}
+
+/// Whether some transaction pays for the next day: one of those that name the schedule.
+fn is_paid(book: &Book, id: &Txt, next: u32) -> bool
+    requires live { book.now.spent ≡ false }
+    ensures { result ≡ is_paid book.now.rows id.now next }
+{
+    match book.of_schedule(id) {
+        Some(ids) => has_payment(book, id, next, ids),
+        None => false,
+    }
 }
 
 /// How the next day lies to a day.
@@ -104,7 +127,8 @@ fn by_days(next: u32, day: u32) -> ScheduleStatus
 
 /// The status of a schedule on a day, where it is live.
 fn status_on(book: &Book, id: &Txt, day: u32) -> Option<ScheduleStatus>
-    requires { day < 84_006 }
+    requires live { book.now.spent ≡ false }
+    requires day { day < 84_006 }
     ensures { result ≡ status_of book.now.rows id.now day }
 {
     let row = live_row(book, id)?;
@@ -118,9 +142,10 @@ fn status_on(book: &Book, id: &Txt, day: u32) -> Option<ScheduleStatus>
 }
 
 /// The status of a schedule on a day YYYYMMDD. There is none where no live schedule has the id. Where the schedule has a next day, it
-/// looks through the transactions, to the first that pays.
+/// looks through the transactions that name it, to the first that pays.
 pub fn status(book: &Book, id: &Txt, day: u32) -> Option<ScheduleStatus>
-    requires { is_day day ≡ true }
+    requires live { book.now.spent ≡ false }
+    requires day { is_day day ≡ true }
     ensures { result ≡ status_in book.now.rows id.now day }
 {
     status_on(book, id, day_of(day))

@@ -1,23 +1,16 @@
-use Rattle.std.proofs.Common.{◌≡◌, Some, None, IsSome, OnOk, cond, Result, Ok, Err, refl, ap, sym, ◌∙◌, rules, subst}
+use Rattle.std.proofs.Common.{◌≡◌, Some, None, IsSome, refl, ap, sym, ◌∙◌, rules, subst}
 use Rattle.std.specs.Prelude.{unwrap_or}
 use Rattle.std.specs.FinMap as map
 use Rattle.std.specs.BTreeMap as tree
-use Rattle.std.specs.BTreeMap.{is_at}
 use Rattle.finite_sums.specs.Maps.{text_cmp, map_of}
 use Rattle.finite_sums.proofs.Texts.{get-map_of, map_of-insert}
-use Rattle.field_values.specs.Names.{IsName}
 use Rattle.book_rows.specs.Tables.{blank_row, AreNamed}
+use Rattle.book_rows.proofs.Pairs.{on_ok}
 use Rattle.book_rows.proofs.RowNames.{named-insert}
 use Rattle.book_rows.proofs.table.set_row.Goals as goal
 
 pub returns-clause-named : goal.returns-clause-named
-returns-clause-named g c = λ name named.
-    let rows = c.args.rows.now in
-    let e = c.in_ok-insert.ensures in
-    let same = c.get_mut.follows.holds-at-none in
-    let id : c.in_ok-copy.field-0 ≡ c.args.id.now = c.in_ok-copy.ensures in
-    let put = map_of-insert rows c.insert.new.self c.in_ok-copy.field-0 c.in_ok-new_row.field-0 (λ q. e.updates.0 q ∙ ap (λ m. cond (is_at (text_cmp c.in_ok-copy.field-0) q) (Some c.in_ok-new_row.field-0) (tree.get text_cmp m q)) same) in
-    subst AreNamed (sym put) (named-insert (map_of rows) c.in_ok-copy.field-0 c.in_ok-new_row.field-0 (subst IsName (sym id) name) named)
+returns-clause-named g c = λ name named. c.add_row.ensures.named name (subst AreNamed (sym (ap map_of c.get_mut.follows.holds-at-none)) named)
 
 pub returns-in-Some-clause-named : goal.returns-in-Some-clause-named
 returns-in-Some-clause-named g c = λ name named.
@@ -34,17 +27,11 @@ returns-clause-row g c =
     let t = g.R.Row.table in
     let rows = c.args.rows.now in
     let id = c.args.id.now in
-    let e = c.in_ok-insert.ensures in
-    let same = c.get_mut.follows.holds-at-none in
     let absent : tree.get text_cmp rows id ≡ None = search rules in
     let old : unwrap_or (map.get (map_of rows) id) (blank_row t id) ≡ blank_row t id = ap (λ o. unwrap_or o (blank_row t id)) (get-map_of rows id ∙ absent) in
-    map_of-insert rows c.insert.new.self c.in_ok-copy.field-0 c.in_ok-new_row.field-0 (λ q. e.updates.0 q ∙ ap (λ m. cond (is_at (text_cmp c.in_ok-copy.field-0) q) (Some c.in_ok-new_row.field-0) (tree.get text_cmp m q)) same)
-    ∙ ap (λ k. map.insert (map_of rows) k c.in_ok-new_row.field-0) c.in_ok-copy.ensures
-    ∙ ap (map.insert (map_of rows) id) (c.in_ok-new_row.ensures ∙ ap (t.set c.args.column c.args.value.now) (sym old))
-
-on_ok : {A E : Type 0} {P Q : Type 0} (r : Result A E) → (P → Q) → OnOk r P → OnOk r Q
-on_ok (Ok x) f p = f p
-on_ok (Err e) f p = p
+    let same = ap map_of c.get_mut.follows.holds-at-none in
+    on_ok c.add_row.result (λ e. e ∙ ap (λ m. map.insert m id (t.set c.args.column c.args.value.now (blank_row t id))) same
+    ∙ ap (map.insert (map_of rows) id) (ap (t.set c.args.column c.args.value.now) (sym old))) c.add_row.ensures.row
 
 pub returns-in-Some-clause-row : goal.returns-in-Some-clause-row
 returns-in-Some-clause-row g c =
