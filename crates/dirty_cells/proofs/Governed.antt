@@ -25,7 +25,8 @@ use Rattle.book_rows.specs.Live.{is_on_budget, has_parent, category_of, mapped_c
 use Rattle.book_rows.specs.Parts.{children_of, account_txs, category_txs, is_child_of, is_in_account, is_in_category, is_text}
 use Rattle.book_rows.proofs.Keyed.{others_stay}
 use Rattle.envelope_cells.proofs.Among.{same_texts, itself, or_left, or_right}
-use Rattle.dirty_cells.specs.Changes.{Change, with_fields, differ, same_text, governs, account_governs, tx_governs, mapping_governs, sets_offbudget, sets_tombstone, sets_target, touched_by, touched_known, touched, Within, AreTouched, Spares}
+use Rattle.dirty_cells.specs.Changes.{Change, with_fields, differ, same_text, governs, account_governs, tx_governs, mapping_governs, sets_offbudget, sets_tombstone, sets_target, Within, Spares}
+use Rattle.dirty_cells.proofs.Touches.{touched_by, touched_known, touched, AreTouched}
 
 no_some : {X P : Type 0} (x : X) → None ≡ Some x → P
 no_some x h = absurd (cc)

@@ -1,4 +1,5 @@
 pub mod Batches
+pub mod Touches
 pub mod Governed
 pub mod Chains
 pub mod Listed
@@ -19,3 +20,15 @@ pub mod Sides
 pub mod Wholes
 pub mod Months
 pub mod LeftBefore
+pub mod Gathered
+pub mod Following
+pub mod Covered
+pub mod Renewed
+pub mod Few
+pub mod FewMonths
+pub mod Lengths
+pub mod Counting
+pub mod Touched
+pub mod Turning
+pub mod Listing
+pub mod Bounded

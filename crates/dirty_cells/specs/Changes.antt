@@ -1,5 +1,5 @@
 -- Changes of fields, and which transactions they touch.
-use Rattle.std.specs.Prelude.{◌≡◌, ℕ, Bool, true, false, ◌&&◌, not, ℤ, neg_ℤ, List, [], ◌∷◌, Option, Some, None, is_some, if◌then◌else◌}
+use Rattle.std.specs.Prelude.{◌≡◌, ℕ, Bool, true, false, ◌&&◌, not, ℤ, neg_ℤ, List, [], ◌∷◌, Option, Some, None, if◌then◌else◌}
 use Rattle.std.specs.FinMap as map
 use Rattle.std.specs.Ordering.{eq_by_cmp}
 use Rattle.std.specs.List.{AllByRecursion, list_any}
@@ -9,17 +9,11 @@ use Rattle.field_values.specs.Names.{FieldNames, names_eq}
 use Rattle.finite_sums.specs.Maps.{Text, Texts, text_cmp, is_among, AreDistinct, value_or_zero}
 use Rattle.book_rows.specs.declared.rows.Rows.{Rows}
 use Rattle.book_rows.specs.declared.rows.TxRow.{TxRow}
-use Rattle.book_rows.specs.declared.rows.AccountRow.{AccountRow}
-use Rattle.book_rows.specs.declared.column.Dataset.{Dataset}
-use Rattle.book_rows.specs.declared.column.Dataset.TheVariants.{Accounts, Transactions, CategoryMapping}
 use Rattle.book_rows.specs.declared.column.Column.{Column}
 use Rattle.book_rows.specs.declared.column.Column.TheVariants.{Offbudget, Tombstone, TransferId}
-use Rattle.book_rows.specs.Columns.{dataset_of, column_of}
 use Rattle.book_rows.specs.Kinds.{flag_of, text_of}
-use Rattle.book_rows.specs.Rules.{account_table, tx_table, category_mapping_table}
 use Rattle.book_rows.specs.Rows.{with_field}
 use Rattle.book_rows.specs.Live.{is_on_budget, has_parent, category_of}
-use Rattle.book_rows.specs.Parts.{children_of, account_txs, category_txs}
 use Rattle.envelope_cells.specs.BudgetOf.{share}
 
 -- a field and the value that it is given
@@ -72,29 +66,9 @@ tx_governs r id column value = governs sets_tombstone (λ x v. differ x.tombston
 abbrev pub mapping_governs : Rows → Text → Column → Value → Bool
 mapping_governs r id column value = governs sets_target (λ m v. not (same_text m.transfer_id (text_of v))) r.category_mappings id column value
 
--- the transactions that a change touches: the one whose row it sets, and those that the row governs
-abbrev pub touched_by : Rows → Dataset → Column → Text → Value → List Text
-touched_by r Accounts column id value = if is_some (account_table.kind column) && account_governs r id column value then account_txs r id else []
-touched_by r Transactions column id value = if is_some (tx_table.kind column) then id ∷ (if tx_governs r id column value then children_of r id else []) else []
-touched_by r CategoryMapping column id value = if is_some (category_mapping_table.kind column) && mapping_governs r id column value then category_txs r id else []
-touched_by r other column id value = []
-
-abbrev pub touched_known : Rows → Option Dataset → Option Column → Text → Value → List Text
-touched_known r None column id value = []
-touched_known r (Some dataset) None id value = []
-touched_known r (Some dataset) (Some column) id value = touched_by r dataset column id value
-
-abbrev pub touched : Rows → Change → List Text
-touched r c = touched_known r (dataset_of c.0.dataset) (column_of c.0.column) c.0.row c.1
-
 -- all of the first are among the others
 pub record Within (xs ys : List Text) : Type 0 where
   pub each : (q : Text) → is_among text_cmp xs q ≡ true → is_among text_cmp ys q ≡ true
-
--- what each of the changes touches is among the ids
-abbrev pub AreTouched : Rows → List Change → List Text → Type 0
-AreTouched r [] ids = Unit {0}
-AreTouched r (c ∷ cs) ids = Within (touched r c) ids × AreTouched r cs ids
 
 -- what a transaction adds to the sum of a category in a month
 abbrev pub share_at : Rows → Text → ℕ → Text → ℤ
@@ -120,8 +94,3 @@ signed into z = if into then z else neg_ℤ z
 abbrev pub AreDifferent : List Change → Type 0
 AreDifferent [] = Unit {0}
 AreDifferent (c ∷ cs) = (list_any (λ d. names_eq c.0 d.0) cs ≡ false) × AreDifferent cs
-
--- what each of the changes touches passes a test
-abbrev pub AllPass : Rows → List Change → (Text → Bool) → Type 0
-AllPass r [] t = Unit {0}
-AllPass r (c ∷ cs) t = ((q : Text) → is_among text_cmp (touched r c) q ≡ true → t q ≡ true) × AllPass r cs t

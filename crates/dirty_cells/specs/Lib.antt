@@ -1,6 +1,11 @@
 pub mod Changes
+pub mod Governing
 pub mod Grid
 pub mod Right
 pub mod WholeOf
 pub mod Touching
 pub mod Steps
+pub mod Stands
+pub mod Marking
+pub mod Bound
+pub mod Followed

@@ -1,12 +1,16 @@
 //! Cells that are kept: what changes of fields touch, the sums of categories through any changes, and the cells of a month, made anew
 //! from kept ones.
 //!
-//! [`touching::touched_ids`] has the transactions off which changes leave everything as it was, and [`sums::change_sums`] changes the sums by
-//! these alone. [`month::cover_months`] keeps the cells of one month after the other.
+//! [`grid::Grid`] keeps the cells of a range of months beside a book. [`touching::touched_ids`] has the transactions off which changes leave
+//! everything as it was, and [`sums::change_sums`] changes the sums by these alone. [`marks::follow`] tells which categories and groups
+//! changes mark, off which each cell stays, and before which month all do. [`month::cover_months`] keeps the cells of one month after the
+//! other.
 #![tactic(auto)]
 
 mod category;
+pub mod grid;
 mod group;
+pub mod marks;
 pub mod month;
 pub mod store;
 pub mod sums;

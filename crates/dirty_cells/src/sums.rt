@@ -6,7 +6,6 @@ ghost use Rattle.book_rows.specs.declared.rows.Rows.{Rows};
 ghost use Rattle.envelope_cells.specs.Parts.{value_at, sum_name, AreSums};
 ghost use Rattle.dirty_cells.specs.Changes.{with_fields, share_at, Spares, AreValues, signed};
 
-use crate::touching::touched_ids;
 use book_rows::Book;
 use envelope_cells::{CellKind, CellName, CellValues, counts};
 use field_values::{Field, NoMemory, Steps, Txt, Value};
@@ -100,23 +99,4 @@ pub fn change_sums<G: Ledger>(
     move_all(sums, book, ids, false, steps)?;
     set_all(book, changes)?;
     move_all(sums, book, ids, true, steps)
-}
-
-/// Gives fields their values, and keeps the sums those of the book, whatever the fields are.
-pub fn keep_sums<G: Ledger>(
-    alloc: Global,
-    sums: &mut CellValues,
-    book: &mut Book,
-    changes: &[(Field, Value)],
-    steps: &mut Steps<G>,
-) -> Result<(), NoMemory>
-    requires live { book.old.spent ≡ false }
-    requires values { AreValues changes.now }
-    requires sums { AreSums sums.old book.old.rows }
-    ensures book { OnOk result (book.new.rows ≡ with_fields book.old.rows changes.now) }
-    ensures live { OnOk result (book.new.spent ≡ false) }
-    ensures sums { OnOk result (AreSums sums.new book.new.rows) }
-{
-    let ids = touched_ids(alloc, book, changes, steps)?;
-    change_sums(sums, book, changes, ids.as_slice(), steps)
 }

@@ -1,14 +1,14 @@
 //! Which transactions changes touch.
-ghost use Rattle.std.specs.Prelude.{◌≡◌, ℕ, ◌+◌, ◌≤◌, ◌||◌, [], ◌∷◌, length, false, is_some, if◌then◌else◌, OnOk};
+ghost use Rattle.std.specs.Prelude.{◌≡◌, ◌+◌, ◌≤◌, ◌||◌, flat_map, length, true, false, OnOk};
 ghost use Rattle.std.specs.Ordering.{eq_by_cmp};
 ghost use Rattle.std.specs.BTreeSet as set;
 ghost use Rattle.finite_sums.specs.Maps.{Text, text_cmp, is_among};
-ghost use Rattle.book_rows.specs.Parts.{account_txs, category_txs, children_of};
-ghost use Rattle.dirty_cells.specs.Changes.{account_governs, tx_governs, mapping_governs, same_text, touched_by, touched, AllPass, Spares, with_fields};
+ghost use Rattle.finite_sums.specs.Sums.{weight};
+ghost use Rattle.dirty_cells.specs.Changes.{account_governs, tx_governs, mapping_governs, same_text, AreDifferent, Within, Spares, with_fields};
+ghost use Rattle.dirty_cells.specs.Bound.{touched_txs, pairs};
+ghost use Rattle.dirty_cells.specs.Governing.{governed, only_where, tx_set, account_set, parent_set, mapping_set, txs_by, accounts_by, parents_by, mappings_by, touched_list};
 ghost use Rattle.std.specs.List.Sorted.{IsStrictlySortedBy};
 ghost use Rattle.std.specs.Prelude.{IfOk};
-ghost use Rattle.std.specs.Prelude.{IsSome};
-ghost use Rattle.book_rows.specs.Rows.{dataset_kind};
 ghost use Rattle.book_rows.specs.Kinds.{text_of};
 
 use book_rows::{Book, Column, Dataset, column_of, dataset_kind, dataset_of, flag};
@@ -18,8 +18,29 @@ use std::cmp::Ordering;
 use std::collections::BTreeSet;
 use std::sync::ledger::Ledger;
 
+/// What governs transactions: an account, a transaction with parts, or what a category is mapped to.
+#[derive(Clone, Copy)]
+pub(crate) enum Governor {
+    Account,
+    Parent,
+    Mapping,
+}
+
+/// The rows by which changes touch transactions, by the book before them.
+#[derive(Drop)]
+pub(crate) struct Touching {
+    /// The transactions whose rows they set.
+    pub txs: BTreeSet<Txt>,
+    /// The accounts that govern transactions.
+    pub accounts: BTreeSet<Txt>,
+    /// The transactions that govern their parts.
+    pub parents: BTreeSet<Txt>,
+    /// The mappings that govern transactions.
+    pub mappings: BTreeSet<Txt>,
+}
+
 /// Puts ids among others.
-fn put_all(ids: &mut BTreeSet<Txt>, found: &[Txt]) -> Result<(), NoMemory>
+pub(crate) fn put_all(ids: &mut BTreeSet<Txt>, found: &[Txt]) -> Result<(), NoMemory>
     ensures { OnOk result ((q : Text) → set.contains text_cmp ids.new q ≡ (is_among text_cmp found.now q || set.contains text_cmp ids.old q)) }
 {
     for id in found {
@@ -41,36 +62,6 @@ fn account_governs(book: &Book, id: &Txt, column: Column, value: &Value) -> bool
     }
 }
 
-/// Puts the transactions of an account among the ids.
-fn touch_account<G: Ledger>(
-    book: &Book,
-    ids: &mut BTreeSet<Txt>,
-    id: &Txt,
-    steps: &mut Steps<G>,
-) -> Result<(), NoMemory>
-    requires { book.now.spent ≡ false }
-    ensures more { OnOk result ((q : Text) → set.contains text_cmp ids.new q ≡ (is_among text_cmp (account_txs book.now.rows id.now) q || set.contains text_cmp ids.old q)) }
-    ensures cost { OnOk result (steps.new ≡ steps.old + length (account_txs book.now.rows id.now)) }
-{
-    let found = book.of_account(id, steps)?;
-    put_all(ids, found.as_slice())
-}
-
-/// Puts the parts of a transaction among the ids.
-fn touch_parts<G: Ledger>(
-    book: &Book,
-    ids: &mut BTreeSet<Txt>,
-    id: &Txt,
-    steps: &mut Steps<G>,
-) -> Result<(), NoMemory>
-    requires { book.now.spent ≡ false }
-    ensures more { OnOk result ((q : Text) → set.contains text_cmp ids.new q ≡ (is_among text_cmp (children_of book.now.rows id.now) q || set.contains text_cmp ids.old q)) }
-    ensures cost { OnOk result (steps.new ≡ steps.old + length (children_of book.now.rows id.now)) }
-{
-    let found = book.children(id, steps)?;
-    put_all(ids, found.as_slice())
-}
-
 /// Whether a value makes a transaction's row, or deletes or restores the transaction. It is at most one step.
 fn tx_governs<G: Ledger>(
     book: &Book,
@@ -89,44 +80,6 @@ fn tx_governs<G: Ledger>(
             _ => false,
         },
     }
-}
-
-/// Puts the transactions of an account among the ids, where the value makes its row govern them.
-fn touch_by_account<G: Ledger>(
-    book: &Book,
-    ids: &mut BTreeSet<Txt>,
-    id: &Txt,
-    column: Column,
-    value: &Value,
-    steps: &mut Steps<G>,
-) -> Result<(), NoMemory>
-    requires { book.now.spent ≡ false }
-    ensures more { OnOk result ((q : Text) → set.contains text_cmp ids.new q ≡ (is_among text_cmp (if account_governs book.now.rows id.now column value.now then account_txs book.now.rows id.now else []) q || set.contains text_cmp ids.old q)) }
-    ensures cost { OnOk result (steps.new ≤ steps.old + length (if account_governs book.now.rows id.now column value.now then account_txs book.now.rows id.now else [])) }
-{
-    if !account_governs(book, id, column, value) {
-        return Ok(());
-    }
-    touch_account(book, ids, id, steps)
-}
-
-/// Puts a transaction among the ids, and its parts where the value makes its row govern them.
-fn touch_by_tx<G: Ledger>(
-    book: &Book,
-    ids: &mut BTreeSet<Txt>,
-    id: &Txt,
-    column: Column,
-    value: &Value,
-    steps: &mut Steps<G>,
-) -> Result<(), NoMemory>
-    requires { book.now.spent ≡ false }
-    ensures more { OnOk result ((q : Text) → set.contains text_cmp ids.new q ≡ (is_among text_cmp (id.now ∷ (if tx_governs book.now.rows id.now column value.now then children_of book.now.rows id.now else [])) q || set.contains text_cmp ids.old q)) }
-    ensures cost { OnOk result (steps.new ≤ steps.old + 1 + length (if tx_governs book.now.rows id.now column value.now then children_of book.now.rows id.now else [])) }
-{
-    if tx_governs(book, id, column, value, steps) {
-        touch_parts(book, ids, id, steps)?;
-    }
-    put_one(ids, id)
 }
 
 /// Whether the target of a row is the text of a value, or neither is there.
@@ -155,59 +108,75 @@ fn mapping_governs(book: &Book, id: &Txt, column: Column, value: &Value) -> bool
     }
 }
 
-/// Puts the transactions whose category column is this id among the ids.
-fn touch_category<G: Ledger>(
-    book: &Book,
-    ids: &mut BTreeSet<Txt>,
-    id: &Txt,
-    steps: &mut Steps<G>,
-) -> Result<(), NoMemory>
-    requires { book.now.spent ≡ false }
-    ensures more { OnOk result ((q : Text) → set.contains text_cmp ids.new q ≡ (is_among text_cmp (category_txs book.now.rows id.now) q || set.contains text_cmp ids.old q)) }
-    ensures cost { OnOk result (steps.new ≡ steps.old + length (category_txs book.now.rows id.now)) }
-{
-    let found = book.of_category(id, steps)?;
-    put_all(ids, found.as_slice())
-}
-
-/// Puts the transactions whose category column is this id among the ids, where the value makes the mapping's row govern them.
-fn touch_by_mapping<G: Ledger>(
-    book: &Book,
-    ids: &mut BTreeSet<Txt>,
-    id: &Txt,
-    column: Column,
-    value: &Value,
-    steps: &mut Steps<G>,
-) -> Result<(), NoMemory>
-    requires { book.now.spent ≡ false }
-    ensures more { OnOk result ((q : Text) → set.contains text_cmp ids.new q ≡ (is_among text_cmp (if mapping_governs book.now.rows id.now column value.now then category_txs book.now.rows id.now else []) q || set.contains text_cmp ids.old q)) }
-    ensures cost { OnOk result (steps.new ≤ steps.old + length (if mapping_governs book.now.rows id.now column value.now then category_txs book.now.rows id.now else [])) }
-{
-    if !mapping_governs(book, id, column, value) {
-        return Ok(());
-    }
-    touch_category(book, ids, id, steps)
-}
-
 /// Puts an id among others.
-fn put_one(ids: &mut BTreeSet<Txt>, id: &Txt) -> Result<(), NoMemory>
+pub(crate) fn put_one(ids: &mut BTreeSet<Txt>, id: &Txt) -> Result<(), NoMemory>
     ensures { OnOk result ((q : Text) → set.contains text_cmp ids.new q ≡ (eq_by_cmp text_cmp q id.now || set.contains text_cmp ids.old q)) }
 {
     ids.insert(id.copy()?)?;
     Ok(())
 }
 
-/// Puts the transactions that a field's new value touches among the ids: the one whose row it sets, and those that the row governs.
-fn touch<G: Ledger>(
+/// Puts an id among others, where a test passes.
+fn put_where(ids: &mut BTreeSet<Txt>, id: &Txt, passes: bool) -> Result<(), NoMemory>
+    ensures { OnOk result ((q : Text) → set.contains text_cmp ids.new q ≡ (is_among text_cmp (only_where passes id.now) q || set.contains text_cmp ids.old q)) }
+{
+    if !passes {
+        return Ok(());
+    }
+    put_one(ids, id)
+}
+
+/// Notes the rows by which a value of a dataset's column touches transactions. It is at most one step.
+fn note_known<G: Ledger>(
+    book: &Book,
+    found: &mut Touching,
+    dataset: Dataset,
+    column: Column,
+    id: &Txt,
+    value: &Value,
+    steps: &mut Steps<G>,
+) -> Result<(), NoMemory>
+    ensures txs { OnOk result ((q : Text) → set.contains text_cmp found.new.txs q ≡ (is_among text_cmp (tx_set dataset id.now) q || set.contains text_cmp found.old.txs q)) }
+    ensures accounts { OnOk result ((q : Text) → set.contains text_cmp found.new.accounts q ≡ (is_among text_cmp (account_set book.now.rows dataset column id.now value.now) q || set.contains text_cmp found.old.accounts q)) }
+    ensures parents { OnOk result ((q : Text) → set.contains text_cmp found.new.parents q ≡ (is_among text_cmp (parent_set book.now.rows dataset column id.now value.now) q || set.contains text_cmp found.old.parents q)) }
+    ensures mappings { OnOk result ((q : Text) → set.contains text_cmp found.new.mappings q ≡ (is_among text_cmp (mapping_set book.now.rows dataset column id.now value.now) q || set.contains text_cmp found.old.mappings q)) }
+    ensures cost { steps.new ≤ steps.old + 1 }
+{
+    match dataset {
+        Dataset::Accounts => {
+            let governs = account_governs(book, id, column, value);
+            put_where(&mut found.accounts, id, governs)?;
+            Ok(())
+        }
+        Dataset::Transactions => {
+            let governs = tx_governs(book, id, column, value, steps);
+            put_where(&mut found.parents, id, governs)?;
+            put_where(&mut found.txs, id, true)?;
+            Ok(())
+        }
+        Dataset::CategoryMapping => {
+            let governs = mapping_governs(book, id, column, value);
+            put_where(&mut found.mappings, id, governs)?;
+            Ok(())
+        }
+        _ => Ok(()),
+    }
+}
+
+/// Notes the rows by which a field's new value touches transactions.
+fn note<G: Ledger>(
     alloc: Global,
     book: &Book,
-    ids: &mut BTreeSet<Txt>,
+    found: &mut Touching,
     field: &Field,
     value: &Value,
     steps: &mut Steps<G>,
 ) -> Result<(), NoMemory>
-    requires { book.now.spent ≡ false }
-    ensures more { OnOk result ((q : Text) → set.contains text_cmp ids.new q ≡ (is_among text_cmp (touched book.now.rows (field.now, value.now)) q || set.contains text_cmp ids.old q)) }
+    ensures txs { OnOk result ((q : Text) → set.contains text_cmp found.new.txs q ≡ (is_among text_cmp (txs_by (field.now, value.now)) q || set.contains text_cmp found.old.txs q)) }
+    ensures accounts { OnOk result ((q : Text) → set.contains text_cmp found.new.accounts q ≡ (is_among text_cmp (accounts_by book.now.rows (field.now, value.now)) q || set.contains text_cmp found.old.accounts q)) }
+    ensures parents { OnOk result ((q : Text) → set.contains text_cmp found.new.parents q ≡ (is_among text_cmp (parents_by book.now.rows (field.now, value.now)) q || set.contains text_cmp found.old.parents q)) }
+    ensures mappings { OnOk result ((q : Text) → set.contains text_cmp found.new.mappings q ≡ (is_among text_cmp (mappings_by book.now.rows (field.now, value.now)) q || set.contains text_cmp found.old.mappings q)) }
+    ensures cost { steps.new ≤ steps.old + 1 }
 {
     let Some(dataset) = dataset_of(field.dataset()) else {
         return Ok(());
@@ -219,34 +188,106 @@ fn touch<G: Ledger>(
         return Ok(());
     }
     let id = Txt::from_text(alloc, field.row())?;
-    touch_known(book, ids, dataset, column, &id, value, steps)
+    note_known(book, found, dataset, column, &id, value, steps)
 }
 
-/// The same, of a dataset that has the column.
-fn touch_known<G: Ledger>(
+/// The rows by which changes touch transactions, by the book before them.
+fn note_all<G: Ledger>(
+    alloc: Global,
     book: &Book,
-    ids: &mut BTreeSet<Txt>,
-    dataset: Dataset,
-    column: Column,
-    id: &Txt,
-    value: &Value,
+    changes: &[(Field, Value)],
     steps: &mut Steps<G>,
-) -> Result<(), NoMemory>
-    requires live { book.now.spent ≡ false }
-    requires known { IsSome (dataset_kind dataset column) }
-    ensures more { OnOk result ((q : Text) → set.contains text_cmp ids.new q ≡ (is_among text_cmp (touched_by book.now.rows dataset column id.now value.now) q || set.contains text_cmp ids.old q)) }
-    ensures cost { OnOk result (steps.new ≤ steps.old + 1 + length (touched_by book.now.rows dataset column id.now value.now)) }
+) -> Result<Touching, NoMemory>
+    ensures txs { IfOk result (λ found. (q : Text) → set.contains text_cmp found.txs q ≡ is_among text_cmp (flat_map txs_by changes.now) q) }
+    ensures accounts { IfOk result (λ found. (q : Text) → set.contains text_cmp found.accounts q ≡ is_among text_cmp (flat_map (accounts_by book.now.rows) changes.now) q) }
+    ensures parents { IfOk result (λ found. (q : Text) → set.contains text_cmp found.parents q ≡ is_among text_cmp (flat_map (parents_by book.now.rows) changes.now) q) }
+    ensures mappings { IfOk result (λ found. (q : Text) → set.contains text_cmp found.mappings q ≡ is_among text_cmp (flat_map (mappings_by book.now.rows) changes.now) q) }
+    ensures cost { OnOk result (steps.new ≤ steps.old + length changes.now) }
 {
-    match dataset {
-        Dataset::Accounts => touch_by_account(book, ids, id, column, value, steps),
-        Dataset::Transactions => touch_by_tx(book, ids, id, column, value, steps),
-        Dataset::CategoryMapping => touch_by_mapping(book, ids, id, column, value, steps),
-        _ => Ok(()),
+    let mut found = Touching {
+        txs: BTreeSet::new(alloc),
+        accounts: BTreeSet::new(alloc),
+        parents: BTreeSet::new(alloc),
+        mappings: BTreeSet::new(alloc),
+    };
+    for (field, value) in changes {
+        note(alloc, book, &mut found, field, value, steps)?;
+    }
+    Ok(found)
+}
+
+/// The transactions that a row governs. Each is one step.
+fn governed<G: Ledger>(
+    book: &Book,
+    governor: Governor,
+    id: &Txt,
+    steps: &mut Steps<G>,
+) -> Result<Items<Txt>, NoMemory>
+    requires { book.now.spent ≡ false }
+    ensures ids { IfOk result (λ ids. ids ≡ governed book.now.rows governor id.now) }
+    ensures cost { steps.new ≤ steps.old + length (governed book.now.rows governor id.now) }
+{
+    match governor {
+        Governor::Account => book.of_account(id, steps),
+        Governor::Parent => book.children(id, steps),
+        Governor::Mapping => book.of_category(id, steps),
     }
 }
 
+/// Puts the transactions that a row governs among ids.
+fn put_governed<G: Ledger>(
+    book: &Book,
+    ids: &mut BTreeSet<Txt>,
+    governor: Governor,
+    id: &Txt,
+    steps: &mut Steps<G>,
+) -> Result<(), NoMemory>
+    requires { book.now.spent ≡ false }
+    ensures more { OnOk result ((q : Text) → set.contains text_cmp ids.new q ≡ (is_among text_cmp (governed book.now.rows governor id.now) q || set.contains text_cmp ids.old q)) }
+    ensures cost { steps.new ≤ steps.old + length (governed book.now.rows governor id.now) }
+{
+    let found = governed(book, governor, id, steps)?;
+    put_all(ids, found.as_slice())
+}
+
+/// Puts the transactions that rows govern among ids.
+fn put_all_governed<G: Ledger>(
+    book: &Book,
+    ids: &mut BTreeSet<Txt>,
+    governor: Governor,
+    rows: &[Txt],
+    steps: &mut Steps<G>,
+) -> Result<(), NoMemory>
+    requires { book.now.spent ≡ false }
+    ensures more { OnOk result ((q : Text) → set.contains text_cmp ids.new q ≡ (is_among text_cmp (flat_map (governed book.now.rows governor) rows.now) q || set.contains text_cmp ids.old q)) }
+    ensures cost { OnOk result (steps.new ≤ steps.old + weight (λ id. length (governed book.now.rows governor id)) rows.now) }
+{
+    for id in rows {
+        put_governed(book, ids, governor, id, steps)?;
+    }
+    Ok(())
+}
+
+/// Puts the transactions that the rows of a set govern among ids.
+fn put_set_governed<G: Ledger>(
+    alloc: Global,
+    book: &Book,
+    ids: &mut BTreeSet<Txt>,
+    governor: Governor,
+    rows: &BTreeSet<Txt>,
+    steps: &mut Steps<G>,
+) -> Result<(), NoMemory>
+    requires { book.now.spent ≡ false }
+    ensures more { OnOk result ((q : Text) → set.contains text_cmp ids.new q ≡ (is_among text_cmp (flat_map (governed book.now.rows governor) rows.now.keys) q || set.contains text_cmp ids.old q)) }
+    ensures cost { OnOk result (steps.new ≤ steps.old + weight (λ id. length (governed book.now.rows governor id)) rows.now.keys) }
+    ensures sorted { OnOk result (IsStrictlySortedBy text_cmp rows.now.keys) }
+{
+    let list = list_of(alloc, rows)?;
+    put_all_governed(book, ids, governor, list.as_slice(), steps)
+}
+
 /// The ids, in order.
-fn list_of(alloc: Global, ids: &BTreeSet<Txt>) -> Result<Items<Txt>, NoMemory>
+pub(crate) fn list_of(alloc: Global, ids: &BTreeSet<Txt>) -> Result<Items<Txt>, NoMemory>
     ensures sorted { IfOk result (λ v. IsStrictlySortedBy text_cmp v) }
     ensures all { IfOk result (λ v. v ≡ ids.now.keys) }
 {
@@ -257,24 +298,8 @@ fn list_of(alloc: Global, ids: &BTreeSet<Txt>) -> Result<Items<Txt>, NoMemory>
     Ok(Items::new(found))
 }
 
-/// Puts the transactions that changes touch among ids.
-fn touch_all<G: Ledger>(
-    alloc: Global,
-    book: &Book,
-    changes: &[(Field, Value)],
-    steps: &mut Steps<G>,
-) -> Result<BTreeSet<Txt>, NoMemory>
-    requires { book.now.spent ≡ false }
-    ensures { IfOk result (λ ids. AllPass book.now.rows changes.now (set.contains text_cmp ids)) }
-{
-    let mut ids = BTreeSet::new(alloc);
-    for (field, value) in changes {
-        touch(alloc, book, &mut ids, field, value, steps)?;
-    }
-    Ok(ids)
-}
-
-/// The transactions that changes touch, each once: of all others the rows after the changes tell what they told.
+/// The transactions that changes touch, each once: of all others the rows after the changes tell what they told. Each row that governs
+/// others is asked once, however many of its fields change.
 pub fn touched_ids<G: Ledger>(
     alloc: Global,
     book: &Book,
@@ -282,8 +307,36 @@ pub fn touched_ids<G: Ledger>(
     steps: &mut Steps<G>,
 ) -> Result<Items<Txt>, NoMemory>
     requires { book.now.spent ≡ false }
-    ensures { IfOk result (λ ids. Spares book.now.rows (with_fields book.now.rows changes.now) ids) }
+    ensures spares { IfOk result (λ ids. Spares book.now.rows (with_fields book.now.rows changes.now) ids) }
+    ensures all { IfOk result (λ ids. (q : Text) → is_among text_cmp ids q ≡ is_among text_cmp (touched_list book.now.rows changes.now) q) }
+    ensures within { IfOk result (λ ids. AreDifferent changes.now → Within ids (touched_txs book.now.rows (with_fields book.now.rows changes.now) changes.now)) }
+    ensures cost { OnOk result (AreDifferent changes.now → steps.new ≤ steps.old + (length changes.now + pairs book.now.rows (with_fields book.now.rows changes.now) changes.now)) }
 {
-    let ids = touch_all(alloc, book, changes, steps)?;
+    let touching = note_all(alloc, book, changes, steps)?;
+    let mut ids = touching.txs;
+    put_set_governed(
+        alloc,
+        book,
+        &mut ids,
+        Governor::Account,
+        &touching.accounts,
+        steps,
+    )?;
+    put_set_governed(
+        alloc,
+        book,
+        &mut ids,
+        Governor::Parent,
+        &touching.parents,
+        steps,
+    )?;
+    put_set_governed(
+        alloc,
+        book,
+        &mut ids,
+        Governor::Mapping,
+        &touching.mappings,
+        steps,
+    )?;
     list_of(alloc, &ids)
 }

@@ -1,0 +1,429 @@
+//! Which categories, groups and months changes mark.
+ghost use Rattle.std.specs.Prelude.{◌≡◌, ℕ, List, [], ◌+◌, ◌*◌, ◌≤◌, ◌||◌, false, true, length, flat_map, map as list_map, OnOk, OnErr, IfOk};
+ghost use Rattle.std.specs.BTreeSet as set;
+ghost use Rattle.std.specs.FinMap as map;
+ghost use Rattle.finite_sums.specs.Maps.{Text, text_cmp, is_among};
+ghost use Rattle.book_rows.specs.Columns.{dataset_of, column_of};
+ghost use Rattle.book_rows.specs.Parts.{is_text};
+ghost use Rattle.std.specs.Prelude.{◌<◌, ◌∷◌, if◌then◌else◌};
+ghost use Rattle.finite_sums.specs.Maps.{AreDistinct};
+ghost use Rattle.envelope_cells.specs.Parts.{AreSums};
+ghost use Rattle.envelope_cells.specs.BudgetOf.{budget_of, groups_of};
+ghost use Rattle.dirty_cells.specs.Bound.{pairs, different, touched_categories, touched_groups, first_touched};
+ghost use Rattle.dirty_cells.specs.Changes.{AreValues, AreDifferent, with_fields};
+ghost use Rattle.dirty_cells.specs.Followed.{Follows};
+ghost use Rattle.dirty_cells.specs.Grid.{Marks, SameBefore};
+ghost use Rattle.dirty_cells.specs.Marking.{dataset_with, set_in, listed, category_at, budget_category, members, group_at, is_in_group, categories_in, groups_in, month_in, is_order, categories_by, groups_by, month_by, is_rearranged, month_at_tx, number_of, earlier, earliest};
+
+use crate::sums::change_sums;
+use crate::touching::{list_of, put_one, touched_ids};
+use book_rows::{
+    Book, CategoryRow, Dataset, budget_month, column_of, dataset_kind, dataset_of, is_month,
+    month_row_month,
+};
+use envelope_cells::{CellValues, month_number};
+use field_values::{Field, Items, NoMemory, Steps, Txt, Value};
+use std::alloc::Global;
+use std::cmp::Ordering;
+use std::collections::BTreeSet;
+use std::sync::ledger::Ledger;
+
+/// What changes mark before they are made.
+#[derive(Drop)]
+pub(crate) struct Begun {
+    pub categories: BTreeSet<Txt>,
+    pub groups: BTreeSet<Txt>,
+    pub first: u32,
+}
+
+/// What changes mark: off these categories and groups, and before this month, everything stays.
+#[derive(Drop)]
+pub(crate) struct Marked {
+    /// The marked categories, in order.
+    pub categories: Items<Txt>,
+    /// The marked groups, in order.
+    pub groups: Items<Txt>,
+    /// The number of the first month that is touched, or 2760.
+    pub from: u32,
+    /// Whether a category's or a group's row is set.
+    pub rearranged: bool,
+}
+
+/// The dataset in which a field's value sets a row, if a book knows the field.
+fn set_in(field: &Field) -> Option<Dataset>
+    ensures { result ≡ dataset_with (dataset_of field.now.dataset) (column_of field.now.column) }
+{
+    let dataset = dataset_of(field.dataset())?;
+    let column = column_of(field.column())?;
+    dataset_kind(dataset, column)?;
+    Some(dataset)
+}
+
+/// The category in the id of a budget row, if it has one.
+#[tactic(auto, unfolding(crate::specs::Marking::budget_category))]
+fn budget_category(alloc: Global, id: &Txt) -> Result<Option<Txt>, NoMemory>
+    ensures { IfOk result (λ c. c ≡ budget_category id.now) }
+{
+    let text = id.as_str();
+    let bytes = text.as_bytes();
+    if bytes.len() < 7 || bytes[6] != b'-' {
+        return Ok(None);
+    }
+    let (_, category) = text.split_at(7);
+    Ok(Some(Txt::from_text(alloc, category)?))
+}
+
+/// Puts the category of a budget row among others.
+fn mark_budget(alloc: Global, cs: &mut BTreeSet<Txt>, id: &Txt) -> Result<(), NoMemory>
+    ensures { OnOk result ((q : Text) → set.contains text_cmp cs.new q ≡ (is_among text_cmp (listed (budget_category id.now)) q || set.contains text_cmp cs.old q)) }
+{
+    match budget_category(alloc, id)? {
+        None => Ok(()),
+        Some(category) => put_one(cs, &category),
+    }
+}
+
+/// Whether a category's row names a group.
+fn is_in_group(row: &CategoryRow, group: &Txt) -> bool
+    ensures { result ≡ is_in_group group.now row.now }
+{
+    match &row.cat_group {
+        None => false,
+        Some(own) => own.cmp(group) == Ordering::Equal,
+    }
+}
+
+/// Puts a category among others, where it names a group.
+fn mark_member(
+    cs: &mut BTreeSet<Txt>,
+    id: &Txt,
+    row: &CategoryRow,
+    group: &Txt,
+) -> Result<(), NoMemory>
+    ensures { OnOk result ((q : Text) → set.contains text_cmp cs.new q ≡ (is_among text_cmp (if is_in_group group.now row.now then id.now ∷ [] else []) q || set.contains text_cmp cs.old q)) }
+{
+    if !is_in_group(row, group) {
+        return Ok(());
+    }
+    put_one(cs, id)
+}
+
+/// Puts the categories that name a group among others. It goes over all categories.
+fn mark_members(book: &Book, cs: &mut BTreeSet<Txt>, group: &Txt) -> Result<(), NoMemory>
+    ensures { OnOk result ((q : Text) → set.contains text_cmp cs.new q ≡ (is_among text_cmp (members book.now.rows group.now) q || set.contains text_cmp cs.old q)) }
+{
+    for (id, row) in book.categories() {
+        mark_member(cs, id, row, group)?;
+    }
+    Ok(())
+}
+
+/// Puts the group that a category names among others.
+fn mark_group(book: &Book, gs: &mut BTreeSet<Txt>, id: &Txt) -> Result<(), NoMemory>
+    ensures { OnOk result ((q : Text) → set.contains text_cmp gs.new q ≡ (is_among text_cmp (group_at book.now.rows id.now) q || set.contains text_cmp gs.old q)) }
+{
+    if let Some(row) = book.category(id) {
+        if let Some(group) = &row.cat_group {
+            put_one(gs, group)?;
+        }
+    }
+    Ok(())
+}
+
+/// Puts the groups that categories name among others.
+pub(crate) fn mark_groups(book: &Book, gs: &mut BTreeSet<Txt>, ids: &[Txt]) -> Result<(), NoMemory>
+    ensures { OnOk result ((q : Text) → set.contains text_cmp gs.new q ≡ (is_among text_cmp (flat_map (group_at book.now.rows) ids.now) q || set.contains text_cmp gs.old q)) }
+{
+    for id in ids {
+        mark_group(book, gs, id)?;
+    }
+    Ok(())
+}
+
+/// Puts the categories that a changed row marks among others.
+fn mark_categories_in(
+    alloc: Global,
+    book: &Book,
+    cs: &mut BTreeSet<Txt>,
+    dataset: Option<Dataset>,
+    id: &Txt,
+) -> Result<(), NoMemory>
+    ensures { OnOk result ((q : Text) → set.contains text_cmp cs.new q ≡ (is_among text_cmp (categories_in book.now.rows dataset id.now) q || set.contains text_cmp cs.old q)) }
+{
+    match dataset {
+        Some(Dataset::Categories) => put_one(cs, id),
+        Some(Dataset::CategoryGroups) => mark_members(book, cs, id),
+        Some(Dataset::ZeroBudgets) => mark_budget(alloc, cs, id),
+        _ => Ok(()),
+    }
+}
+
+/// Puts the groups that a changed row marks among others.
+fn mark_groups_in(
+    book: &Book,
+    gs: &mut BTreeSet<Txt>,
+    dataset: Option<Dataset>,
+    id: &Txt,
+) -> Result<(), NoMemory>
+    ensures { OnOk result ((q : Text) → set.contains text_cmp gs.new q ≡ (is_among text_cmp (groups_in book.now.rows dataset id.now) q || set.contains text_cmp gs.old q)) }
+{
+    match dataset {
+        Some(Dataset::Categories) => mark_group(book, gs, id),
+        Some(Dataset::CategoryGroups) => put_one(gs, id),
+        _ => Ok(()),
+    }
+}
+
+/// The month of a changed row, if it has one in its id.
+fn month_in(dataset: Option<Dataset>, id: &Txt) -> Option<u32>
+    ensures { result ≡ month_in dataset id.now }
+{
+    match dataset {
+        Some(Dataset::ZeroBudgets) => budget_month(id),
+        Some(Dataset::ZeroBudgetMonths) => month_row_month(id),
+        _ => None,
+    }
+}
+
+/// The number of a month, or 0 where it is none.
+fn number_of(month: u32) -> u32
+    ensures { result ≡ number_of month }
+{
+    if is_month(month) {
+        month_number(month)
+    } else {
+        0
+    }
+}
+
+/// The less of a number and that of a month, if there is one.
+fn earlier(number: u32, month: Option<u32>) -> u32
+    ensures { result ≡ earlier number month }
+{
+    match month {
+        None => number,
+        Some(month) => number.min(number_of(month)),
+    }
+}
+
+/// Puts the categories and groups that changes mark among others.
+pub(crate) fn mark_changes(
+    alloc: Global,
+    book: &Book,
+    changes: &[(Field, Value)],
+    cs: &mut BTreeSet<Txt>,
+    gs: &mut BTreeSet<Txt>,
+) -> Result<(), NoMemory>
+    ensures categories { OnOk result ((q : Text) → set.contains text_cmp cs.new q ≡ (is_among text_cmp (flat_map (categories_by book.now.rows) changes.now) q || set.contains text_cmp cs.old q)) }
+    ensures groups { OnOk result ((q : Text) → set.contains text_cmp gs.new q ≡ (is_among text_cmp (flat_map (groups_by book.now.rows) changes.now) q || set.contains text_cmp gs.old q)) }
+{
+    for (field, _) in changes {
+        let id = Txt::from_text(alloc, field.row())?;
+        let dataset = set_in(field);
+        mark_categories_in(alloc, book, cs, dataset, &id)?;
+        mark_groups_in(book, gs, dataset, &id)?;
+    }
+    Ok(())
+}
+
+/// The least of a number and those of the months of changed rows.
+pub(crate) fn first_changed(
+    alloc: Global,
+    changes: &[(Field, Value)],
+    number: u32,
+) -> Result<u32, NoMemory>
+    ensures { IfOk result (λ n. n ≡ earliest number (list_map month_by changes.now)) }
+{
+    let mut first = number;
+    for (field, _) in changes {
+        let id = Txt::from_text(alloc, field.row())?;
+        first = earlier(first, month_in(set_in(field), &id));
+    }
+    Ok(first)
+}
+
+/// Whether a changed row is one of a category or a group.
+fn is_order(dataset: Option<Dataset>) -> bool
+    ensures { result ≡ is_order dataset }
+{
+    matches!(
+        dataset,
+        Some(Dataset::Categories) | Some(Dataset::CategoryGroups)
+    )
+}
+
+/// Whether some change is one of a category's or a group's row.
+pub(crate) fn is_rearranged(changes: &[(Field, Value)]) -> bool
+    ensures { result ≡ is_rearranged changes.now }
+{
+    for (field, _) in changes {
+        if is_order(set_in(field)) {
+            return true;
+        }
+    }
+    false
+}
+
+/// Puts the category of a transaction among others.
+fn mark_tx<G: Ledger>(
+    book: &Book,
+    cs: &mut BTreeSet<Txt>,
+    id: &Txt,
+    steps: &mut Steps<G>,
+) -> Result<(), NoMemory>
+    ensures more { OnOk result ((q : Text) → set.contains text_cmp cs.new q ≡ (is_among text_cmp (category_at book.now.rows id.now) q || set.contains text_cmp cs.old q)) }
+    ensures cost { steps.new ≤ steps.old + 1 }
+{
+    if let Some(row) = book.tx(id, steps) {
+        if let Some(category) = book.resolved_category(row) {
+            put_one(cs, category)?;
+        }
+    }
+    Ok(())
+}
+
+/// Puts the categories of transactions among others.
+pub(crate) fn mark_txs<G: Ledger>(
+    book: &Book,
+    cs: &mut BTreeSet<Txt>,
+    ids: &[Txt],
+    steps: &mut Steps<G>,
+) -> Result<(), NoMemory>
+    ensures more { OnOk result ((q : Text) → set.contains text_cmp cs.new q ≡ (is_among text_cmp (flat_map (category_at book.now.rows) ids.now) q || set.contains text_cmp cs.old q)) }
+    ensures cost { OnOk result (steps.new ≤ steps.old + length ids.now) }
+{
+    for id in ids {
+        mark_tx(book, cs, id, steps)?;
+    }
+    Ok(())
+}
+
+/// The least of a number and those of the months of transactions. It takes no step.
+pub(crate) fn first_of_txs(book: &Book, ids: &[Txt], number: u32) -> u32
+    ensures { result ≡ earliest number (list_map (month_at_tx book.now.rows) ids.now) }
+{
+    let mut first = number;
+    for id in ids {
+        first = earlier(first, book.month_of(id));
+    }
+    first
+}
+
+/// What changes mark, by the book before them. The ids are those of the transactions that they touch.
+fn marks_before<G: Ledger>(
+    alloc: Global,
+    book: &Book,
+    changes: &[(Field, Value)],
+    ids: &[Txt],
+    steps: &mut Steps<G>,
+) -> Result<Begun, NoMemory>
+    ensures categories { IfOk result (λ m. (q : Text) → set.contains text_cmp m.categories q ≡ (is_among text_cmp (flat_map (category_at book.now.rows) ids.now) q || is_among text_cmp (flat_map (categories_by book.now.rows) changes.now) q)) }
+    ensures groups { IfOk result (λ m. (q : Text) → set.contains text_cmp m.groups q ≡ is_among text_cmp (flat_map (groups_by book.now.rows) changes.now) q) }
+    ensures first { IfOk result (λ m. m.first ≡ earliest (earliest 2760 (list_map month_by changes.now)) (list_map (month_at_tx book.now.rows) ids.now)) }
+    ensures cost { OnOk result (steps.new ≤ steps.old + length ids.now) }
+{
+    let mut categories = BTreeSet::new(alloc);
+    let mut groups = BTreeSet::new(alloc);
+    mark_changes(alloc, book, changes, &mut categories, &mut groups)?;
+    mark_txs(book, &mut categories, ids, steps)?;
+    let changed = first_changed(alloc, changes, 2760)?;
+    let first = first_of_txs(book, ids, changed);
+    Ok(Begun {
+        categories,
+        groups,
+        first,
+    })
+}
+
+/// What changes mark, by what they marked before them and by the book after them.
+fn marks_after<G: Ledger>(
+    alloc: Global,
+    book: &Book,
+    begun: Begun,
+    ids: &[Txt],
+    rearranged: bool,
+    steps: &mut Steps<G>,
+) -> Result<Marked, NoMemory>
+    ensures categories { IfOk result (λ m. (q : Text) → is_among text_cmp m.categories q ≡ (is_among text_cmp (flat_map (category_at book.now.rows) ids.now) q || set.contains text_cmp begun.categories q)) }
+    ensures groups { IfOk result (λ m. (q : Text) → is_among text_cmp m.groups q ≡ (is_among text_cmp (flat_map (group_at book.now.rows) m.categories) q || set.contains text_cmp begun.groups q)) }
+    ensures from { IfOk result (λ m. m.from ≡ (if rearranged then 0 else earliest begun.first (list_map (month_at_tx book.now.rows) ids.now))) }
+    ensures rearranged { IfOk result (λ m. m.rearranged ≡ rearranged) }
+    ensures distinct { IfOk result (λ m. AreDistinct text_cmp m.categories × AreDistinct text_cmp m.groups) }
+    ensures cost { OnOk result (steps.new ≤ steps.old + length ids.now) }
+{
+    let mut all = begun.categories;
+    let mut owners = begun.groups;
+    mark_txs(book, &mut all, ids, steps)?;
+    let categories = list_of(alloc, &all)?;
+    mark_groups(book, &mut owners, categories.as_slice())?;
+    let groups = list_of(alloc, &owners)?;
+    let first = first_of_txs(book, ids, begun.first);
+    let from = if rearranged { 0 } else { first };
+    Ok(Marked {
+        categories,
+        groups,
+        from,
+        rearranged,
+    })
+}
+
+/// Gives fields their values, keeps the sums those of the book, and tells what is marked. After an error no clause tells what the
+/// book and the sums are.
+fn set_and_mark<G: Ledger>(
+    alloc: Global,
+    sums: &mut CellValues,
+    book: &mut Book,
+    changes: &[(Field, Value)],
+    steps: &mut Steps<G>,
+) -> Result<Marked, NoMemory>
+    requires live { book.old.spent ≡ false }
+    requires values { AreValues changes.now }
+    requires sums { AreSums sums.old book.old.rows }
+    ensures book { OnOk result (book.new.rows ≡ with_fields book.old.rows changes.now) }
+    ensures live { OnOk result (book.new.spent ≡ false) }
+    ensures sums { OnOk result (AreSums sums.new book.new.rows) }
+    ensures marked { IfOk result (λ m. Follows book.old.rows changes.now m) }
+    ensures distinct { IfOk result (λ m. AreDistinct text_cmp m.categories × AreDistinct text_cmp m.groups) }
+    ensures cost { OnOk result (AreDifferent changes.now → steps.new ≤ steps.old + 7 * (length changes.now + pairs book.old.rows (with_fields book.old.rows changes.now) changes.now)) }
+{
+    let ids = touched_ids(alloc, book, changes, steps)?;
+    let list = ids.as_slice();
+    let begun = marks_before(alloc, book, changes, list, steps)?;
+    change_sums(sums, book, changes, list, steps)?;
+    let rearranged = is_rearranged(changes);
+    marks_after(alloc, book, begun, list, rearranged, steps)
+}
+
+/// Gives fields their values, keeps the sums those of the book, and tells what is marked: off the marked categories and groups each
+/// cell stays, and before the first touched month all do. Where no field is given two values, there are no more marks than are
+/// touched, and no month is marked before the first that is touched. After an error the book is spent, and no clause tells what the sums are.
+pub(crate) fn follow<G: Ledger>(
+    alloc: Global,
+    sums: &mut CellValues,
+    book: &mut Book,
+    changes: &[(Field, Value)],
+    steps: &mut Steps<G>,
+) -> Result<Marked, NoMemory>
+    requires live { book.old.spent ≡ false }
+    requires values { AreValues changes.now }
+    requires sums { AreSums sums.old book.old.rows }
+    ensures book { OnOk result (book.new.rows ≡ with_fields book.old.rows changes.now) }
+    ensures live { OnOk result (book.new.spent ≡ false) }
+    ensures sums { OnOk result (AreSums sums.new book.new.rows) }
+    ensures marks { IfOk result (λ m. Marks book.old.rows book.new.rows m.categories m.groups) }
+    ensures before { IfOk result (λ m. (k : ℕ) → k < m.from → SameBefore (budget_of book.old.rows) (budget_of book.new.rows) m.from) }
+    ensures groups { IfOk result (λ m. m.rearranged ≡ false → groups_of book.old.rows ≡ groups_of book.new.rows) }
+    ensures few_categories { IfOk result (λ m. AreDifferent changes.now → length m.categories ≤ different (touched_categories book.old.rows book.new.rows changes.now)) }
+    ensures few_groups { IfOk result (λ m. AreDifferent changes.now → length m.groups ≤ different (touched_groups book.old.rows book.new.rows changes.now)) }
+    ensures few_months { IfOk result (λ m. AreDifferent changes.now → first_touched book.old.rows book.new.rows changes.now ≤ m.from) }
+    ensures cost { OnOk result (AreDifferent changes.now → steps.new ≤ steps.old + 7 * (length changes.now + pairs book.old.rows book.new.rows changes.now)) }
+    ensures spent { OnErr result (book.new.spent ≡ true) }
+{
+    match set_and_mark(alloc, sums, book, changes, steps) {
+        Ok(marked) => Ok(marked),
+        Err(error) => {
+            book.spend();
+            Err(error)
+        }
+    }
+}
