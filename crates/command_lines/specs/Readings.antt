@@ -68,15 +68,13 @@ IsReading (Receive message) = ⊥
 IsReading Sync = ⊥
 IsReading _ = Unit {0}
 
--- a line that asks of the books
-abbrev pub AsksBooks : Command → Type 0
-AsksBooks (Balance account) = Unit {0}
-AsksBooks (Register account) = Unit {0}
-AsksBooks (Cell month name) = Unit {0}
-AsksBooks (Sheet month) = Unit {0}
-AsksBooks Broken = Unit {0}
-AsksBooks (ScheduleStatus id day) = Unit {0}
-AsksBooks (Goals month) = Unit {0}
-AsksBooks (TrackCell month name) = Unit {0}
-AsksBooks (TrackSheet month) = Unit {0}
-AsksBooks other = ⊥
+-- a line that asks of the rows of the books, and of no cell of the envelope budget
+abbrev pub AsksRows : Command → Type 0
+AsksRows (Balance account) = Unit {0}
+AsksRows (Register account) = Unit {0}
+AsksRows Broken = Unit {0}
+AsksRows (ScheduleStatus id day) = Unit {0}
+AsksRows (Goals month) = Unit {0}
+AsksRows (TrackCell month name) = Unit {0}
+AsksRows (TrackSheet month) = Unit {0}
+AsksRows other = ⊥

@@ -10,7 +10,7 @@ ghost use Rattle.minute_trie.specs.Trie.{trie_of};
 ghost use Rattle.minute_trie.specs.Json.{trie_text};
 ghost use Rattle.kept_messages.specs.Pairs.{pairs_of};
 ghost use Rattle.device_core.specs.Books.{rows_of};
-ghost use Rattle.command_lines.specs.Readings.{answer, book_answer, shown, IsReading, AsksBooks};
+ghost use Rattle.command_lines.specs.Readings.{answer, book_answer, shown, IsReading, AsksRows};
 
 use crate::book_answer::{balance_reply, broken_reply, cell_reply, register_reply, sheet_reply};
 use crate::command::Command;
@@ -118,17 +118,15 @@ fn trie_line(device: &Device) -> Result<Txt, NoMemory>
     device.trie().to_json()
 }
 
-/// What the books, which are the rows that the values of the fields make, answer to a line that asks of them.
+/// What the books, which are the rows that the values of the fields make, answer to a line that asks of their rows.
 fn book_reply(alloc: Global, book: &Book, command: &Command) -> Result<Reply, NoMemory>
     requires live { book.now.spent ≡ false }
-    requires asks { AsksBooks command.now }
+    requires asks { AsksRows command.now }
     ensures { IfOk result (λ r. r ≡ book_answer book.now.rows command.now) }
 {
     match command {
         Command::Balance { account } => balance_reply(alloc, book, account),
         Command::Register { account } => register_reply(alloc, book, account),
-        Command::Cell { month, name } => cell_reply(alloc, book, *month, name),
-        Command::Sheet { month } => sheet_reply(alloc, book, *month),
         Command::Broken => broken_reply(alloc, book),
         Command::ScheduleStatus { id, day } => status_reply(alloc, book, id, *day),
         Command::Goals { month } => goals_reply(alloc, book, *month),
@@ -138,10 +136,10 @@ fn book_reply(alloc: Global, book: &Book, command: &Command) -> Result<Reply, No
     }
 }
 
-/// What a device's books answer to a line that asks of them.
+/// What a device's books answer to a line that asks of their rows.
 fn told_of_books(alloc: Global, device: &Device, command: &Command) -> Result<Reply, NoMemory>
     requires live { device.now.spent ≡ false }
-    requires asks { AsksBooks command.now }
+    requires asks { AsksRows command.now }
     ensures { IfOk result (λ r. r ≡ book_answer (rows_of device.now.state.messages) command.now) }
 {
     book_reply(alloc, device.book(), command)
@@ -168,10 +166,10 @@ pub fn read_reply(alloc: Global, device: &Device, command: &Command) -> Result<R
             column,
         } => one_line(alloc, shown_value(alloc, log, dataset, row, column)?),
         Command::Trie => one_line(alloc, trie_line(device)?),
+        Command::Cell { month, name } => cell_reply(alloc, device, *month, name),
+        Command::Sheet { month } => sheet_reply(alloc, device, *month),
         Command::Balance { .. }
         | Command::Register { .. }
-        | Command::Cell { .. }
-        | Command::Sheet { .. }
         | Command::Broken
         | Command::ScheduleStatus { .. }
         | Command::Goals { .. }

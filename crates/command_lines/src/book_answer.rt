@@ -5,6 +5,8 @@ ghost use Rattle.book_rows.specs.Live.{is_live_account};
 ghost use Rattle.book_rows.specs.Months.{is_month};
 ghost use Rattle.envelope_cells.specs.BudgetOf.{budget_of};
 ghost use Rattle.envelope_cells.specs.CellOf.{cell_of};
+ghost use Rattle.envelope_cells.specs.SheetOf.{sheet_of};
+ghost use Rattle.device_core.specs.Books.{rows_of};
 ghost use Rattle.command_lines.specs.declared.reply.Reply.TheVariants.{Done};
 ghost use Rattle.command_lines.specs.BookAnswers.{balance_answer, register_answer, told_cell, cell_answer, cell_text, sheet_answer, broken_answer};
 
@@ -14,6 +16,8 @@ use crate::register::register_lines;
 use crate::reply::{Reply, faulty_reply, one_line};
 use crate::text_lines::lines_in;
 use book_rows::{Book, is_month};
+use device_core::Device;
+use envelope_cells::name::Sheet;
 use envelope_cells::{Cell, CellName, sheet, sheets_tell_cells};
 use field_values::{Items, NoMemory, Txt};
 use itoa::Buffer;
@@ -62,16 +66,51 @@ pub(crate) fn register_reply(alloc: Global, book: &Book, account: &Txt) -> Resul
     Ok(Reply::Done { lines })
 }
 
-/// What a cell tells.
-fn cell_value(alloc: Global, book: &Book, name: &CellName) -> Result<Option<i128>, NoMemory>
-    requires live { book.now.spent ≡ false }
+/// All cells of a month of a device's books, computed from its book.
+fn computed_sheet(alloc: Global, device: &Device, month: u32) -> Result<Sheet, NoMemory>
+    requires live { device.now.spent ≡ false }
+    requires month { IsTrue (is_month month) }
+    ensures { IfOk result (λ sheet. sheet.cells ≡ sheet_of (budget_of (rows_of device.now.state.messages)) month) }
+{
+    sheet(alloc, device.book(), month)
+}
+
+/// All cells of a month of a device's books: those that are kept, or computed where the month is not covered.
+fn month_sheet(alloc: Global, device: &Device, month: u32) -> Result<Sheet, NoMemory>
+    requires live { device.now.spent ≡ false }
+    requires month { IsTrue (is_month month) }
+    ensures { IfOk result (λ sheet. sheet.cells ≡ sheet_of (budget_of (rows_of device.now.state.messages)) month) }
+{
+    if device.is_covered(month) {
+        device.sheet(month)
+    } else {
+        computed_sheet(alloc, device, month)
+    }
+}
+
+/// What a cell of a device's books tells, computed from its book.
+fn computed_value(alloc: Global, device: &Device, name: &CellName) -> Result<Option<i128>, NoMemory>
+    requires live { device.now.spent ≡ false }
     requires month { IsTrue (is_month name.now.month) }
-    ensures { IfOk result (λ value. value ≡ cell_of (budget_of book.now.rows) name.now) }
+    ensures { IfOk result (λ value. value ≡ cell_of (budget_of (rows_of device.now.state.messages)) name.now) }
 {
     // What a sheet tells of a cell of its month is what the cell tells.
     sheets_tell_cells();
-    let sheet = sheet(alloc, book, name.month)?;
+    let sheet = computed_sheet(alloc, device, name.month)?;
     Ok(sheet.cell(name))
+}
+
+/// What a cell of a device's books tells: what is kept of it, or what is computed where its month is not covered.
+fn cell_value(alloc: Global, device: &Device, name: &CellName) -> Result<Option<i128>, NoMemory>
+    requires live { device.now.spent ≡ false }
+    requires month { IsTrue (is_month name.now.month) }
+    ensures { IfOk result (λ value. value ≡ cell_of (budget_of (rows_of device.now.state.messages)) name.now) }
+{
+    if device.is_covered(name.month) {
+        Ok(device.cell(name))
+    } else {
+        computed_value(alloc, device, name)
+    }
 }
 
 /// The reply that tells of a cell, or that there is no such group or category.
@@ -94,30 +133,30 @@ fn told_reply(alloc: Global, name: &CellName, value: Option<i128>) -> Result<Rep
 }
 
 /// The reply that tells of a cell of a month, or that there is no such group or category.
-fn named_reply(alloc: Global, book: &Book, name: &CellName) -> Result<Reply, NoMemory>
-    requires live { book.now.spent ≡ false }
+fn named_reply(alloc: Global, device: &Device, name: &CellName) -> Result<Reply, NoMemory>
+    requires live { device.now.spent ≡ false }
     requires month { IsTrue (is_month name.now.month) }
-    ensures { IfOk result (λ r. r ≡ told_cell name.now (cell_of (budget_of book.now.rows) name.now)) }
+    ensures { IfOk result (λ r. r ≡ told_cell name.now (cell_of (budget_of (rows_of device.now.state.messages)) name.now)) }
 {
-    let value = cell_value(alloc, book, name)?;
+    let value = cell_value(alloc, device, name)?;
     told_reply(alloc, name, value)
 }
 
 /// The reply to `cell`: what a cell of a month tells. The month is judged first, then the name.
 pub(crate) fn cell_reply(
     alloc: Global,
-    book: &Book,
+    device: &Device,
     month: u32,
     name: &Txt,
 ) -> Result<Reply, NoMemory>
-    requires live { book.now.spent ≡ false }
-    ensures { IfOk result (λ r. r ≡ cell_answer book.now.rows month name.now) }
+    requires live { device.now.spent ≡ false }
+    ensures { IfOk result (λ r. r ≡ cell_answer (rows_of device.now.state.messages) month name.now) }
 {
     if !is_month(month) {
         return bad_month(alloc, month);
     }
     match cell_named(alloc, month, name)? {
-        Some(name) => named_reply(alloc, book, &name),
+        Some(name) => named_reply(alloc, device, &name),
         None => faulty_reply(alloc, 2),
     }
 }
@@ -147,14 +186,14 @@ fn cell_lines(alloc: Global, cells: &[Cell]) -> Result<Items<Txt>, NoMemory>
 }
 
 /// The reply to `sheet`: all cells of a month.
-pub(crate) fn sheet_reply(alloc: Global, book: &Book, month: u32) -> Result<Reply, NoMemory>
-    requires live { book.now.spent ≡ false }
-    ensures { IfOk result (λ r. r ≡ sheet_answer book.now.rows month) }
+pub(crate) fn sheet_reply(alloc: Global, device: &Device, month: u32) -> Result<Reply, NoMemory>
+    requires live { device.now.spent ≡ false }
+    ensures { IfOk result (λ r. r ≡ sheet_answer (rows_of device.now.state.messages) month) }
 {
     if !is_month(month) {
         return bad_month(alloc, month);
     }
-    let sheet = sheet(alloc, book, month)?;
+    let sheet = month_sheet(alloc, device, month)?;
     let lines = cell_lines(alloc, sheet.cells.as_slice())?;
     Ok(Reply::Done { lines })
 }

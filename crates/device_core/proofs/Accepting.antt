@@ -15,7 +15,7 @@ use Rattle.edit_history.specs.History.{latest_of}
 use Rattle.book_rows.specs.declared.fault.EditFault.TheVariants.{NothingToUndo, NothingToRedo}
 use Rattle.device_core.specs.Device.{State, DeviceState, Accepted, at_rest, accepted_as, first_in_row, writing, writes_back, received}
 use Rattle.device_core.specs.Placing.{stamped, made_ids}
-use Rattle.device_core.specs.Accepting.{Brings, left_by, IsLine, IsJoined, AcceptedAreJoined}
+use Rattle.device_core.specs.Accepting.{Brings, BringsTo, IsLine, IsJoined, AcceptedAreJoined}
 use Rattle.device_core.proofs.Drawing.{draw_valid}
 use Rattle.device_core.proofs.Ids.{ids_lines}
 use Rattle.device_core.proofs.Several.{is_drawn, is_written, written_ahead}
@@ -57,5 +57,5 @@ pub accepted_joined : AcceptedAreJoined
 accepted_joined = record { of_edits = λ s edit reading a h. writes_joined s New reading (writes_of (rows_of s.messages) edit) a h; of_undo = λ s reading a h. writes_joined s Undo reading (writes_back NothingToUndo (latest_of s.history.undo)) a h; of_redo = λ s reading a h. writes_joined s Redo reading (writes_back NothingToRedo (latest_of s.history.redo)) a h; of_messages = messages_joined }
 
 -- a device that an accepted line left brings what the line brought
-pub brings_device : (old : List Message) (device : DeviceState) (count : ℕ) → Brings old (left_by (accepted_as device count)) → Brings old device
+pub brings_device : (old : List Message) (device : DeviceState) (count : ℕ) → BringsTo old (accepted_as device count).batch (accepted_as device count).state.messages → Brings old device
 brings_device old device count b = record { news = b.news; batch = b.batch; messages = b.messages }

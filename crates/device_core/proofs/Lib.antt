@@ -1,4 +1,6 @@
 pub mod Books
+pub mod Changes
+pub mod Covering
 pub mod Stamping
 pub mod Ids
 pub mod Drawing
@@ -14,3 +16,4 @@ pub mod Several
 pub mod Accepting
 pub mod RowsNamed
 pub mod Undoing
+pub mod SheetCells

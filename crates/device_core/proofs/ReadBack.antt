@@ -27,7 +27,7 @@ use Rattle.book_edits.specs.Edits.{write_unless}
 use Rattle.kept_messages.specs.Records.{record_of}
 use Rattle.kept_messages.specs.News.{new_in}
 use Rattle.edit_history.specs.declared.history.Turn.TheVariants.{New}
-use Rattle.device_core.specs.Device.{State, Accepted, accepted_as, IsUpTo, IsAhead, first_in_row, with_writes, written, writing}
+use Rattle.device_core.specs.Device.{State, Accepted, IsUpTo, IsAhead, first_in_row, with_writes, written, writing}
 use Rattle.device_core.specs.Placing.{message_at}
 use Rattle.device_core.specs.ReadBack.{IsReadBack, EditsReadBack}
 
@@ -121,16 +121,16 @@ draw_node clock new reading h = go (nat_lt (reading / 60_000) window) h
 -- ---- one write
 
 write_is : (s : State) (reading : ℕ) (w : Write) (a : Accepted) → writing s New reading (Ok (w ∷ [])) ≡ Ok a
-    → (clock : Stamp) × ((draw s.clock reading 1 ≡ Ok clock) × (accepted_as (with_writes s New (first_in_row clock 1) (w ∷ []) clock) 1 ≡ a))
+    → (clock : Stamp) × ((draw s.clock reading 1 ≡ Ok clock) × (with_writes s New (first_in_row clock 1) (w ∷ []) clock ≡ a))
 write_is s reading w a h = go (draw s.clock reading 1) refl h
   where
     go : (d : Result Stamp ClockFault) → draw s.clock reading 1 ≡ d → written s New (w ∷ []) d ≡ Ok a
-        → (clock : Stamp) × ((draw s.clock reading 1 ≡ Ok clock) × (accepted_as (with_writes s New (first_in_row clock 1) (w ∷ []) clock) 1 ≡ a))
+        → (clock : Stamp) × ((draw s.clock reading 1 ≡ Ok clock) × (with_writes s New (first_in_row clock 1) (w ∷ []) clock ≡ a))
     go (Ok clock) is k = (clock, (is, cc))
     go (Err fault) is k = absurd (cc)
 
 read_write : (s : State) (dataset row column : List ℕ) (value : Value) (clock : Stamp) → IsAhead s.clock s.messages → IsLater s.clock clock → clock.node ≡ s.clock.node
-    → IsReadBack s dataset row column value (accepted_as (with_writes s New (first_in_row clock 1) (write dataset (Given row) column value ∷ []) clock) 1)
+    → IsReadBack s dataset row column value (with_writes s New (first_in_row clock 1) (write dataset (Given row) column value ∷ []) clock)
 read_write s dataset row column value clock ahead later own =
     let ms = s.messages in
     let n : Message = message_at (first_in_row clock 1) 0 (write dataset (Given row) column value) in

@@ -1,5 +1,5 @@
 -- Messages that are accepted are joined, and the clock is not behind them.
-use Rattle.std.proofs.Common.{◌≡◌, inl, inr, ℕ, ◌+◌, ◌-◌, ◌≤◌, Bool, true, false, cond, List, [], ◌∷◌, Option, None, Some, Result, Ok, Err, length, refl, sym, ap, subst, arith}
+use Rattle.std.proofs.Common.{◌≡◌, ◌∙◌, inl, inr, ℕ, ◌+◌, ◌-◌, ◌≤◌, Bool, true, false, cond, List, [], ◌∷◌, Option, None, Some, Result, Ok, Err, length, refl, sym, ap, subst, arith}
 use Rattle.std.specs.Prelude.{max, nat_lt, ◌==◌, ◌/◌}
 use Rattle.std.proofs.lemmas.Bool.Decides.{nat_tests}
 use Rattle.hybrid_clock.specs.declared.stamp.Stamp.{Stamp}
@@ -8,7 +8,9 @@ use Rattle.hybrid_clock.specs.Stamp.{window}
 use Rattle.hybrid_clock.specs.Clock.{IsLater, receive, moved, next_counter, new_time, stands_at}
 use Rattle.field_merge.specs.declared.message.Message.{Message}
 use Rattle.kept_messages.specs.News.{new_in}
-use Rattle.device_core.specs.Device.{State, accepted_as, at_rest, IsUpTo, IsAhead, with_messages, greatest_of, taken_in, receiving}
+use Rattle.kept_messages.specs.Records.{record_of}
+use Rattle.edit_history.proofs.Listing.{map_length}
+use Rattle.device_core.specs.Device.{State, DeviceState, Accepted, IsAccepted, accepted_as, at_rest, IsUpTo, IsAhead, with_messages, greatest_of, taken_in, receiving, received}
 use Rattle.device_core.specs.ReadBack.{AreTakenIn, ReceivedAreJoined}
 use Rattle.device_core.proofs.Greatest.{of_ahead, ahead_later}
 use Rattle.kept_messages.proofs.Members.{all_join}
@@ -72,7 +74,7 @@ nothing_taken s reading = record {
 }
 
 some_taken : (s : State) (ns : List Message) (reading : ℕ) (t clock : Stamp) → greatest_of ns ≡ Some t → receive s.clock reading t ≡ Ok clock
-    → AreTakenIn s ns reading (accepted_as (with_messages s.messages ns clock s.history []) (length (new_in s.messages ns)))
+    → AreTakenIn s ns reading (with_messages s.messages ns clock s.history [] (length (new_in s.messages ns)))
 some_taken s ns reading t clock is drawn =
     let after = receive_later s.clock t clock reading drawn in
     let up : IsAhead clock ns = ahead_later t clock ns after.came (of_ahead t ns is) in record {
@@ -88,13 +90,21 @@ some_taken s ns reading t clock is drawn =
       ahead = λ h. all_join (λ (m : Message). IsUpTo clock m.stamp) s.messages ns (ahead_later s.clock clock s.messages after.old h) up;
     }
 
+-- a device that the messages left as they should, is as it is when they are received, with as many as are pending
+pub all_taken : (s : State) (ns : List Message) (reading : ℕ) (t clock : Stamp) (device : DeviceState) → greatest_of ns ≡ Some t → receive s.clock reading t ≡ Ok clock
+    → ((k : ℕ) → accepted_as device k ≡ with_messages s.messages ns clock s.history [] k) → IsAccepted (received s ns reading) device (length device.batch)
+all_taken s ns reading t clock device is drawn told =
+    let n = length (new_in s.messages ns) in
+    let count : n ≡ length device.batch = sym (map_length record_of (new_in s.messages ns)) ∙ sym (ap (λ (a : Accepted). length a.batch) (told n)) in
+    ap (receiving s ns reading) is ∙ ap (taken_in s ns) drawn ∙ ap Ok (sym (told n)) ∙ ap (λ (k : ℕ). Ok (accepted_as device k)) count
+
 pub received_joined : ReceivedAreJoined
 received_joined s ns reading a h = by (greatest_of ns) refl h
   where
     taken : (t : Stamp) (r : Result Stamp ClockFault) → greatest_of ns ≡ Some t → receive s.clock reading t ≡ r → taken_in s ns r ≡ Ok a → AreTakenIn s ns reading a
     taken t (Err fault) is drawn k = absurd (cc)
     taken t (Ok clock) is drawn k =
-        let same : accepted_as (with_messages s.messages ns clock s.history []) (length (new_in s.messages ns)) ≡ a = cc in
+        let same : with_messages s.messages ns clock s.history [] (length (new_in s.messages ns)) ≡ a = cc in
         subst (AreTakenIn s ns reading) same (some_taken s ns reading t clock is drawn)
 
     by : (o : Option Stamp) → greatest_of ns ≡ o → receiving s ns reading o ≡ Ok a → AreTakenIn s ns reading a

@@ -31,7 +31,7 @@ use Rattle.device_core.specs.declared.edit.LineRefusal.TheVariants.{Edit as OfEd
 use Rattle.device_core.specs.Books.{rows_of}
 use Rattle.device_core.specs.Edits.{writes_of}
 use Rattle.device_core.specs.Placing.{stamp_at, id_at, message_at, messages_from, stamped}
-use Rattle.device_core.specs.Device.{State, Accepted, IsUpTo, IsAhead, first_in_row, with_writes, accepted_as, written, writing}
+use Rattle.device_core.specs.Device.{State, Accepted, IsUpTo, IsAhead, first_in_row, with_writes, written, writing}
 use Rattle.device_core.specs.Several.{LeaveAlone, Makes, AreJoinedWrites, WritesAreJoined, IsMade, EditsAreMade}
 use Rattle.device_core.proofs.Ids.{made_makes, makes_made, MakesFrom}
 use Rattle.device_core.proofs.Greatest.{ahead_later}
@@ -68,7 +68,7 @@ is_drawn clock new reading n h = go (nat_lt (reading / 60_000) window) h
     }
     go false k = absurd (cc)
 
-later_on : (clock first new : Stamp) (n : ℕ) → new ≡ stamp_at first n → IsLater clock first → IsLater clock new
+pub later_on : (clock first new : Stamp) (n : ℕ) → new ≡ stamp_at first n → IsLater clock first → IsLater clock new
 later_on clock first new n row (inl p) = subst (IsLater clock) (sym row) (inl p)
 later_on clock first new n row (inr p) = subst (IsLater clock) (sym row) (inr (p.0, (let x = p.1 in omega arith)))
 
@@ -162,7 +162,7 @@ are_other f (m ∷ ms) alone = (not_of f m.field alone.0, are_other f ms alone.1
 pub record IsWritten (s : State) (turn : Turn) (reading : ℕ) (ws : List Write) (accepted : Accepted) : Type 0 where
   pub clock : Stamp
   pub drawn : draw s.clock reading (length ws) ≡ Ok clock
-  pub is : accepted_as (with_writes s turn (first_in_row clock (length ws)) ws clock) (length ws) ≡ accepted
+  pub is : with_writes s turn (first_in_row clock (length ws)) ws clock ≡ accepted
 
 pub is_written : (s : State) (turn : Turn) (reading : ℕ) (w : Write) (ws : List Write) (a : Accepted) → writing s turn reading (Ok (w ∷ ws)) ≡ Ok a → IsWritten s turn reading (w ∷ ws) a
 is_written s turn reading w ws a h = by (nat_lt 65_536 (length (w ∷ ws))) h
@@ -213,7 +213,7 @@ to_start first ws id m =
     }
 
 joined_writes : (s : State) (turn : Turn) (clock first : Stamp) (ws : List Write) → clock ≡ stamp_at first (length ws - 1) → IsLater s.clock first → first.node ≡ s.clock.node → IsAhead s.clock s.messages
-    → AreJoinedWrites s turn ws (accepted_as (with_writes s turn first ws clock) (length ws))
+    → AreJoinedWrites s turn ws (with_writes s turn first ws clock)
 joined_writes s turn clock first ws row later own ahead =
     let b = join_row s.messages first 0 ws (all_past s.clock (stamp_at first 0) s.messages ahead (later_at s.clock first 0 later)) in record {
       messages = stamped first ws;
@@ -246,7 +246,7 @@ some_joined s turn reading w ws a ahead h =
     let d = is_drawn s.clock x.clock reading (length (w ∷ ws)) x.drawn in
     let first : d.first ≡ first_in_row x.clock (length (w ∷ ws)) = sym (first_is x.clock d.first (length (w ∷ ws)) d.row) in
     subst (AreJoinedWrites s turn (w ∷ ws)) x.is
-    (subst (λ (t : Stamp). AreJoinedWrites s turn (w ∷ ws) (accepted_as (with_writes s turn t (w ∷ ws) x.clock) (length (w ∷ ws)))) first
+    (subst (λ (t : Stamp). AreJoinedWrites s turn (w ∷ ws) (with_writes s turn t (w ∷ ws) x.clock)) first
     (joined_writes s turn x.clock d.first (w ∷ ws) d.row d.later d.own ahead))
 
 pub writes_joined : WritesAreJoined

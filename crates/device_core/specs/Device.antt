@@ -16,6 +16,8 @@ use Rattle.device_core.specs.declared.edit.Edit.{Edit}
 use Rattle.book_rows.specs.declared.write.Write.{Write}
 use Rattle.book_rows.specs.declared.fault.EditFault.{EditFault}
 use Rattle.book_rows.specs.declared.fault.EditFault.TheVariants.{TooManyWrites, NothingToUndo, NothingToRedo}
+use Rattle.dirty_cells.specs.declared.grid.Grid.{Grid}
+use Rattle.dirty_cells.specs.Stands.{StandsFor, is_between}
 use Rattle.edit_history.specs.declared.before.Before.{Before}
 use Rattle.edit_history.specs.declared.history.Turn.{Turn}
 use Rattle.edit_history.specs.declared.history.Turn.TheVariants.{New, Undo, Redo}
@@ -26,6 +28,7 @@ use Rattle.device_core.specs.declared.edit.LineRefusal.TheVariants.{Edit as OfEd
 use Rattle.device_core.specs.declared.known.Known.{Known}
 use Rattle.device_core.specs.Edits.{writes_of}
 use Rattle.device_core.specs.Books.{rows_of}
+use Rattle.device_core.specs.Covering.{covered_by, IsWithin}
 use Rattle.device_core.specs.Known.{IsKnown}
 use Rattle.device_core.specs.Placing.{stamped, made_ids}
 
@@ -35,34 +38,34 @@ pub record State : Type 0 where
   pub clock : Stamp
   pub history : Entries
 
--- the state, the records that are not kept yet, the ids that the last accepted line made for rows, and whether a want of memory has spoilt the device
+-- the state, the records that are not kept yet, the ids that the last accepted line made for rows, the months whose cells are kept, from the first
+-- number to before the second, and whether a want of memory has spoilt the device
 pub record DeviceState : Type 0 where
   pub state : State
   pub batch : List Record
   pub made : List (List ℕ)
+  pub covered : ℕ × ℕ
   pub spent : Bool
 
--- a state of which all is kept
+-- a state of which all is kept, and the cells of all months in which its rows stand
 abbrev pub at_rest : State → DeviceState
-at_rest s = record { state = s; batch = []; made = []; spent = false }
+at_rest s = record { state = s; batch = []; made = []; covered = covered_by (0, 0) s.messages; spent = false }
+
+-- the cells of the month YYYYMM are kept
+abbrev pub is_covered : DeviceState → ℕ → Bool
+is_covered device month = is_between device.covered.0 device.covered.1 month
+
+-- from a device to what a line makes of it, the steps are within the bound of the fields whose latest message changed
+abbrev pub IsWithinBound : DeviceState → DeviceState → ℕ → ℕ → Type 0
+IsWithinBound old new before after = IsWithin old.state.messages new.state.messages old.covered new.covered before after
 
 -- a device that begins with a message set: its clock goes on after the last message, and nothing can be undone or redone
 abbrev pub begun : List ℕ → List Message → State
 begun node ms = record { messages = ms; clock = clock_after node (last_stamp ms); history = no_entries }
 
--- the messages joined, with the clock where it now stands, what can then be undone and redone, the new ones pending, and the ids that were made
-abbrev pub with_messages : List Message → List Message → Stamp → Entries → List (List ℕ) → DeviceState
-with_messages ms ns clock history made = record
-    { state = record { messages = join ms ns; clock = clock; history = history }; batch = map record_of (new_in ms ns); made = made; spent = false }
-
 -- what messages write over: the fields that they write, as they are before
 abbrev pub written_over : List Message → List Message → List Before
 written_over ms ns = entry_over (value_in ms) (map (λ n. n.field) ns)
-
--- the messages of writes joined, the first of which has this timestamp, with the clock where it now stands; what they wrote over can be undone or redone
-abbrev pub with_writes : State → Turn → Stamp → List Write → Stamp → DeviceState
-with_writes s turn first ws clock =
-    with_messages s.messages (stamped first ws) clock (after turn s.history (written_over s.messages (stamped first ws))) (made_ids first ws)
 
 -- what an accepted line leaves: the state, the records that are not kept yet and the ids that it made for rows; and how many writes or new messages it was
 pub record Accepted : Type 0 where
@@ -70,6 +73,16 @@ pub record Accepted : Type 0 where
   pub batch : List Record
   pub made : List (List ℕ)
   pub count : ℕ
+
+-- the messages joined, with the clock where it now stands, what can then be undone and redone, the new ones pending, the ids that were made, and a count
+abbrev pub with_messages : List Message → List Message → Stamp → Entries → List (List ℕ) → ℕ → Accepted
+with_messages ms ns clock history made count = record
+    { state = record { messages = join ms ns; clock = clock; history = history }; batch = map record_of (new_in ms ns); made = made; count = count }
+
+-- the messages of writes joined, the first of which has this timestamp, with the clock where it now stands; what they wrote over can be undone or redone
+abbrev pub with_writes : State → Turn → Stamp → List Write → Stamp → Accepted
+with_writes s turn first ws clock =
+    with_messages s.messages (stamped first ws) clock (after turn s.history (written_over s.messages (stamped first ws))) (made_ids first ws) (length ws)
 
 -- a device after a line that was accepted with this count
 abbrev pub accepted_as : DeviceState → ℕ → Accepted
@@ -82,7 +95,7 @@ first_in_row clock n = record clock { counter = clock.counter - (n - 1) }
 -- writes under the timestamps that the clock drew, at the last of which it stands, or its refusal
 abbrev pub written : State → Turn → List Write → Result Stamp ClockFault → Result Accepted LineRefusal
 written s turn ws (Err fault) = Err (OfClock fault)
-written s turn ws (Ok clock) = Ok (accepted_as (with_writes s turn (first_in_row clock (length ws)) ws clock) (length ws))
+written s turn ws (Ok clock) = Ok (with_writes s turn (first_in_row clock (length ws)) ws clock)
 
 -- writes are made at a reading of the wall clock: none need no timestamp, and 65,536 are the most
 abbrev pub writing : State → Turn → ℕ → Result (List Write) EditFault → Result Accepted LineRefusal
@@ -126,7 +139,7 @@ greatest_of (m ∷ ms) = Some (greatest m.stamp ms)
 -- messages joined where the clock took their greatest timestamp, or its refusal
 abbrev pub taken_in : State → List Message → Result Stamp ClockFault → Result Accepted LineRefusal
 taken_in s ns (Err fault) = Err (OfClock fault)
-taken_in s ns (Ok clock) = Ok (accepted_as (with_messages s.messages ns clock s.history []) (length (new_in s.messages ns)))
+taken_in s ns (Ok clock) = Ok (with_messages s.messages ns clock s.history [] (length (new_in s.messages ns)))
 
 -- messages with this greatest timestamp are received; where there are none, the clock stays as it is
 abbrev pub receiving : State → List Message → ℕ → Option Stamp → Result Accepted LineRefusal
@@ -164,7 +177,9 @@ WouldBeRefused meant NoMemory = Unit {0}
 WouldBeRefused meant refusal = meant ≡ Err refusal
 
 -- what holds of a device that is not spent
-pub record Stands (known : Known) (clock : Stamp) (batch : List Record) : Type 0 where
+pub record Stands (known : Known) (grid : Grid) (clock : Stamp) (batch : List Record) : Type 0 where
   pub right : IsKnown known
+  pub grid_live : grid.spent ≡ false
+  pub cells : StandsFor grid (rows_of known.log.messages)
   pub ahead : IsAhead clock known.log.messages
   pub keys : HaveKeys batch

@@ -1,4 +1,6 @@
 pub mod Books
+pub mod Changes
+pub mod Covering
 pub mod Known
 pub mod Edits
 pub mod Placing
@@ -10,3 +12,4 @@ pub mod Answering
 pub mod Accepting
 pub mod Several
 pub mod Undoing
+pub mod Sheets

@@ -1,5 +1,6 @@
 //! A device.
-ghost use Rattle.std.specs.Prelude.{◌≡◌, ◌≢◌, ◌+◌, ◌-◌, ◌≤◌, ◌<◌, [], length, true, false, is_ok, IfOk, IfErr, OnOk, OnErr, Err};
+ghost use Rattle.std.specs.Prelude.{◌≡◌, ◌≢◌, ℕ, ◌+◌, ◌-◌, ◌*◌, ◌≤◌, ◌<◌, [], length, true, false, is_ok, IfOk, IfErr, OnOk, OnErr, Err};
+ghost use Rattle.std.specs.FinMap.{entries};
 ghost use Rattle.hybrid_clock.specs.Node.{IsNode};
 ghost use Rattle.hybrid_clock.specs.Stamp.{IsStamp};
 ghost use Rattle.budget_ports.specs.Keeper.{HaveKeys};
@@ -15,14 +16,26 @@ ghost use Rattle.book_rows.specs.Writes.{AreWrites};
 ghost use Rattle.book_edits.specs.Faults.{IsEditFault};
 ghost use Rattle.edit_history.specs.History.{latest_of, after};
 ghost use Rattle.device_core.specs.Edits.{IsEdit, MayWantMemory, writes_of};
-ghost use Rattle.device_core.specs.Device.{at_rest, begun, with_messages, with_writes, written_over, writing, writes_back, edited, undone, redone, later_of, greatest_of, received, IsAhead, IsAccepted, IsRefused, WouldBeAccepted, WouldBeRefused};
+ghost use Rattle.book_rows.specs.Months.{is_month, window_of};
+ghost use Rattle.envelope_cells.specs.BudgetOf.{budget_of};
+ghost use Rattle.envelope_cells.specs.CellOf.{cell_of};
+ghost use Rattle.envelope_cells.specs.Ids.{month_number};
+ghost use Rattle.envelope_cells.specs.SheetOf.{sheet_of};
+ghost use Rattle.dirty_cells.specs.Stands.{HasWindow, with_month};
+ghost use Rattle.dirty_cells.specs.Steps.{month_cost};
+ghost use Rattle.device_core.specs.Covering.{covered_by, more_months};
+ghost use Rattle.device_core.specs.Device.{at_rest, begun, with_messages, with_writes, written_over, accepted_as, writing, writes_back, edited, undone, redone, later_of, greatest_of, received, is_covered, IsAhead, IsAccepted, IsRefused, IsWithinBound, WouldBeAccepted, WouldBeRefused};
 
 use crate::edit::{Edit, LineRefusal, edit_writes};
-use crate::known::{Known, join_all, read_all};
+use crate::known::{Known, grid_of, join_all, read_all};
 use crate::placing::place_writes;
+use crate::sheet::cells_of;
 use book_rows::{Book, EditFault, Write};
 use budget_ports::Record;
+use dirty_cells::grid::Grid;
 use edit_history::{History, Turn, entry_over, undo_writes};
+use envelope_cells::name::Sheet;
+use envelope_cells::{CellName, cell_names, groups_of, sheets_are_named};
 use field_merge::{Log, Message};
 use field_values::{Items, NoMemory, Steps, Txt};
 use hybrid_clock::{HybridClock, Node, Stamp};
@@ -38,13 +51,15 @@ const MOST_WRITES: usize = 65_536;
 /// A device of a household.
 ///
 /// A contract sees its messages, the timestamp at which its clock stands, what can be undone and redone, the records that are not
-/// kept yet, the ids that the last accepted line made for rows, and whether it is spent. A call that answers
-/// `NoMemory` and may change the device leaves it spent; then nothing but `is_spent` may be asked of
+/// kept yet, the ids that the last accepted line made for rows, the months whose cells are kept, and whether it is spent. A call that
+/// answers `NoMemory` and may change the device leaves it spent; then nothing but `is_spent` may be asked of
 /// it.
 #[derive(Drop)]
 pub struct Device {
     alloc: Global,
     known: Known,
+    /// The cells of the envelope budget, beside the book.
+    grid: Grid,
     clock: HybridClock,
     history: History,
     batch: Vec<Record>,
@@ -58,16 +73,17 @@ impl Model for Device {
 
     ghost Value = { DeviceState };
 
-    ghost view = { λ d. record { state = record { messages = d.known.log.messages; clock = d.clock; history = d.history }; batch = d.batch.items; made = d.made; spent = d.spent } };
+    ghost view = { λ d. record { state = record { messages = d.known.log.messages; clock = d.clock; history = d.history }; batch = d.batch.items; made = d.made; covered = (d.grid.first, d.grid.end); spent = d.spent } };
 
-    ghost invariant = { λ d. d.spent ≡ false → Stands d.known d.clock d.batch.items };
+    ghost invariant = { λ d. d.spent ≡ false → Stands d.known d.grid d.clock d.batch.items };
 }
 
 impl Device {
     /// A device with this node that begins with the messages that records keep. Of records with one
     /// timestamp the first counts.
     ///
-    /// Its clock goes on after the last of them, nothing is pending, and nothing can be undone or redone.
+    /// Its clock goes on after the last of them, nothing is pending, and nothing can be undone or redone. The cells of all months in
+    /// which its rows stand are kept.
     ///
     /// # Errors
     ///
@@ -81,10 +97,12 @@ impl Device {
         ensures memory { result ≡ Err NoMemoryToStart → HasFirstStamp records.now }
     {
         let known = read_all(alloc, records)?;
+        let grid = grid_of(alloc, &known.book, records)?;
         let clock = HybridClock::new(node, known.log.last());
         Ok(Device {
             alloc,
             known,
+            grid,
             clock,
             history: History::new(alloc),
             batch: Vec::new(alloc),
@@ -98,7 +116,8 @@ impl Device {
     ///
     /// The writes become messages under timestamps in a row, whose records are then pending; the id of a row
     /// that is made is the text of its first write's timestamp. What they wrote over can then be undone, and nothing can be redone any
-    /// more. An edit without writes draws no timestamp, and leaves what can be undone and redone. The counter of steps counts nothing yet.
+    /// more. An edit without writes draws no timestamp, and leaves what can be undone and redone. Only cells that the changed fields touch
+    /// are computed anew; what was covered stays covered, and all months in which rows stand are.
     ///
     /// # Errors
     ///
@@ -118,10 +137,12 @@ impl Device {
         ensures live { OnOk result (self.new.spent ≡ false) }
         ensures memory { result ≢ Err (OfEdit EditFault.NoMemory) }
         ensures empty { result ≡ Err LineRefusal.NoMemory → MayWantMemory edit.now }
-        ensures steps { steps.new ≡ steps.old }
+        ensures covered { OnOk result (self.new.covered ≡ covered_by self.old.covered self.new.state.messages) }
+        ensures cost { OnOk result (IsWithinBound self.old self.new steps.old steps.new) }
+        ensures idle { IfErr result (λ refusal. refusal ≢ LineRefusal.NoMemory → steps.new ≡ steps.old) }
     {
         match self.writes(edit) {
-            Ok(writes) => self.write(Turn::New, writes.as_slice(), reading),
+            Ok(writes) => self.write(Turn::New, writes.as_slice(), reading, steps),
             Err(EditFault::NoMemory) => {
                 self.spent = true;
                 Err(LineRefusal::NoMemory)
@@ -147,8 +168,7 @@ impl Device {
     ///
     /// The writes are taken from what the edit wrote over, whatever has come since. Each field that had a value gets it back; of a row that
     /// was not there, and whose dataset has the column `tombstone`, that column gets 1, once; another field gets 0 where it is a flag or a
-    /// number, and else null. What they write over in their turn can then be redone. They are made as those of an edit are. The counter of
-    /// steps counts nothing yet.
+    /// number, and else null. What they write over in their turn can then be redone. They are made as those of an edit are.
     ///
     /// # Errors
     ///
@@ -165,10 +185,12 @@ impl Device {
         ensures live { OnOk result (self.new.spent ≡ false) }
         ensures memory { result ≢ Err (OfEdit EditFault.NoMemory) }
         ensures empty { result ≡ Err LineRefusal.NoMemory → self.old.state.history.undo ≢ [] }
-        ensures steps { steps.new ≡ steps.old }
+        ensures covered { OnOk result (self.new.covered ≡ covered_by self.old.covered self.new.state.messages) }
+        ensures cost { OnOk result (IsWithinBound self.old self.new steps.old steps.new) }
+        ensures idle { IfErr result (λ refusal. refusal ≢ LineRefusal.NoMemory → steps.new ≡ steps.old) }
     {
         match self.undo_writes() {
-            Ok(writes) => self.write(Turn::Undo, writes.as_slice(), reading),
+            Ok(writes) => self.write(Turn::Undo, writes.as_slice(), reading, steps),
             Err(EditFault::NoMemory) => {
                 self.spent = true;
                 Err(LineRefusal::NoMemory)
@@ -195,10 +217,12 @@ impl Device {
         ensures live { OnOk result (self.new.spent ≡ false) }
         ensures memory { result ≢ Err (OfEdit EditFault.NoMemory) }
         ensures empty { result ≡ Err LineRefusal.NoMemory → self.old.state.history.redo ≢ [] }
-        ensures steps { steps.new ≡ steps.old }
+        ensures covered { OnOk result (self.new.covered ≡ covered_by self.old.covered self.new.state.messages) }
+        ensures cost { OnOk result (IsWithinBound self.old self.new steps.old steps.new) }
+        ensures idle { IfErr result (λ refusal. refusal ≢ LineRefusal.NoMemory → steps.new ≡ steps.old) }
     {
         match self.redo_writes() {
-            Ok(writes) => self.write(Turn::Redo, writes.as_slice(), reading),
+            Ok(writes) => self.write(Turn::Redo, writes.as_slice(), reading, steps),
             Err(EditFault::NoMemory) => {
                 self.spent = true;
                 Err(LineRefusal::NoMemory)
@@ -239,7 +263,13 @@ impl Device {
 
     /// Makes writes at a reading of the wall clock.
     #[tactic(auto, using(crate::proofs::Writing::writings))]
-    fn write(&mut self, turn: Turn, writes: &[Write], reading: u64) -> Result<u32, LineRefusal>
+    fn write<G: Ledger>(
+        &mut self,
+        turn: Turn,
+        writes: &[Write],
+        reading: u64,
+        steps: &mut Steps<G>,
+    ) -> Result<u32, LineRefusal>
         requires live { self.old.spent ≡ false }
         requires idle { self.old.batch ≡ [] }
         requires valid { AreWrites writes.now }
@@ -247,6 +277,9 @@ impl Device {
         ensures refused { IfErr result (IsRefused (writing self.old.state turn reading (Ok writes.now)) self.old self.new) }
         ensures live { OnOk result (self.new.spent ≡ false) }
         ensures memory { result ≢ Err (OfEdit EditFault.NoMemory) }
+        ensures covered { OnOk result (self.new.covered ≡ covered_by self.old.covered self.new.state.messages) }
+        ensures cost { OnOk result (IsWithinBound self.old self.new steps.old steps.new) }
+        ensures idle { IfErr result (λ refusal. refusal ≢ LineRefusal.NoMemory → steps.new ≡ steps.old) }
     {
         let count = writes.len();
         if count == 0 {
@@ -260,7 +293,7 @@ impl Device {
             Ok(first) => first,
             Err(fault) => return Err(LineRefusal::Clock(fault)),
         };
-        match self.join_writes(turn, first, writes) {
+        match self.join_writes(turn, first, writes, steps) {
             Ok(()) => Ok(count as u32),
             Err(NoMemory) => Err(LineRefusal::NoMemory),
         }
@@ -268,13 +301,20 @@ impl Device {
 
     /// Forgets the ids that an edit made.
     fn forget_made(&mut self)
-        ensures { self.new ≡ record self.old { made = [] } }
+        ensures made { self.new ≡ record self.old { made = [] } }
+        ensures covered { self.old.spent ≡ false → self.old.covered ≡ covered_by self.old.covered self.old.state.messages }
     {
         self.made = Items::new(Vec::new(self.alloc));
     }
 
     /// Joins writes under timestamps in a row, up to that of the clock.
-    fn join_writes(&mut self, turn: Turn, first: Stamp, writes: &[Write]) -> Result<(), NoMemory>
+    fn join_writes<G: Ledger>(
+        &mut self,
+        turn: Turn,
+        first: Stamp,
+        writes: &[Write],
+        steps: &mut Steps<G>,
+    ) -> Result<(), NoMemory>
         requires live { self.old.spent ≡ false }
         requires idle { self.old.batch ≡ [] }
         requires valid { AreWrites writes.now }
@@ -282,11 +322,14 @@ impl Device {
         requires stamp { IsStamp first }
         requires row { self.old.state.clock ≡ record first { counter = first.counter + (length writes.now - 1) } }
         requires room { first.counter + length writes.now ≤ 65_536 }
-        ensures ok { OnOk result (self.new ≡ with_writes self.old.state turn first writes.now self.old.state.clock) }
+        ensures ok { OnOk result (accepted_as self.new (length writes.now) ≡ with_writes self.old.state turn first writes.now self.old.state.clock) }
+        ensures live { OnOk result (self.new.spent ≡ false) }
+        ensures covered { OnOk result (self.new.covered ≡ covered_by self.old.covered self.new.state.messages) }
+        ensures cost { OnOk result (IsWithinBound self.old self.new steps.old steps.new) }
         ensures err { OnErr result (self.new.spent ≡ true) }
     {
         match place_writes(self.alloc, &first, writes) {
-            Ok((messages, made)) => self.join_over(turn, messages.as_slice(), made),
+            Ok((messages, made)) => self.join_over(turn, messages.as_slice(), made, steps),
             Err(fault) => {
                 self.spent = true;
                 Err(fault)
@@ -295,11 +338,12 @@ impl Device {
     }
 
     /// Joins the messages of a line's writes, with what they write over, by a line that made these ids.
-    fn join_over(
+    fn join_over<G: Ledger>(
         &mut self,
         turn: Turn,
         messages: &[Message],
         made: Items<Txt>,
+        steps: &mut Steps<G>,
     ) -> Result<(), NoMemory>
         requires live { self.old.spent ≡ false }
         requires idle { self.old.batch ≡ [] }
@@ -307,11 +351,14 @@ impl Device {
         requires some { messages.now ≢ [] }
         requires few { length messages.now ≤ 65_536 }
         requires ahead { IsAhead self.old.state.clock messages.now }
-        ensures ok { OnOk result (self.new ≡ with_messages self.old.state.messages messages.now self.old.state.clock (after turn self.old.state.history (written_over self.old.state.messages messages.now)) made) }
+        ensures ok { OnOk result ((count : ℕ) → accepted_as self.new count ≡ with_messages self.old.state.messages messages.now self.old.state.clock (after turn self.old.state.history (written_over self.old.state.messages messages.now)) made count) }
+        ensures live { OnOk result (self.new.spent ≡ false) }
+        ensures covered { OnOk result (self.new.covered ≡ covered_by self.old.covered self.new.state.messages) }
+        ensures cost { OnOk result (IsWithinBound self.old self.new steps.old steps.new) }
         ensures err { OnErr result (self.new.spent ≡ true) }
     {
         match self.write_over(turn, messages) {
-            Ok(()) => self.join(messages, made),
+            Ok(()) => self.join(messages, made, steps),
             Err(fault) => {
                 self.spent = true;
                 Err(fault)
@@ -332,17 +379,32 @@ impl Device {
     }
 
     /// Joins messages, the records of the new ones of which are then pending, by a line that made these ids.
-    fn join(&mut self, messages: &[Message], made: Items<Txt>) -> Result<(), NoMemory>
+    fn join<G: Ledger>(
+        &mut self,
+        messages: &[Message],
+        made: Items<Txt>,
+        steps: &mut Steps<G>,
+    ) -> Result<(), NoMemory>
         requires live { self.old.spent ≡ false }
         requires idle { self.old.batch ≡ [] }
         requires valid { AreMessages messages.now }
         requires ahead { IsAhead self.old.state.clock messages.now }
-        ensures ok { OnOk result (self.new ≡ with_messages self.old.state.messages messages.now self.old.state.clock self.old.state.history made) }
+        ensures ok { OnOk result ((count : ℕ) → accepted_as self.new count ≡ with_messages self.old.state.messages messages.now self.old.state.clock self.old.state.history made count) }
+        ensures live { OnOk result (self.new.spent ≡ false) }
+        ensures covered { OnOk result (self.new.covered ≡ covered_by self.old.covered self.new.state.messages) }
+        ensures cost { OnOk result (IsWithinBound self.old self.new steps.old steps.new) }
         ensures err { OnErr result (self.new.spent ≡ true) }
     {
         self.made = made;
         self.spent = true;
-        join_all(self.alloc, &mut self.known, messages, &mut self.batch)?;
+        join_all(
+            self.alloc,
+            &mut self.known,
+            &mut self.grid,
+            messages,
+            &mut self.batch,
+            steps,
+        )?;
         self.spent = false;
         Ok(())
     }
@@ -351,7 +413,7 @@ impl Device {
     /// many were new. What was pending has to be kept before (`commit`).
     ///
     /// The clock receives once, by the greatest timestamp. The records of the new messages are then
-    /// pending. What can be undone and redone stays. The counter of steps counts nothing yet.
+    /// pending. What can be undone and redone stays. The cells go along as after an edit, once for all messages.
     ///
     /// # Errors
     ///
@@ -370,7 +432,9 @@ impl Device {
         ensures refused { IfErr result (IsRefused (received self.old.state batch.now reading) self.old self.new) }
         ensures live { OnOk result (self.new.spent ≡ false) }
         ensures memory { result ≡ Err LineRefusal.NoMemory → (batch.now ≢ []) × (is_ok (received self.old.state batch.now reading) ≡ true) }
-        ensures steps { steps.new ≡ steps.old }
+        ensures covered { OnOk result (self.new.covered ≡ covered_by self.old.covered self.new.state.messages) }
+        ensures cost { OnOk result (IsWithinBound self.old self.new steps.old steps.new) }
+        ensures idle { IfErr result (λ refusal. refusal ≢ LineRefusal.NoMemory → steps.new ≡ steps.old) }
     {
         let Some(stamp) = greatest_stamp(batch) else {
             self.forget_made();
@@ -380,17 +444,17 @@ impl Device {
             return Err(LineRefusal::Clock(fault));
         }
         let made = Items::new(Vec::new(self.alloc));
-        match self.join(batch, made) {
+        match self.join(batch, made, steps) {
             Ok(()) => Ok(self.batch.len() as u64),
             Err(NoMemory) => Err(LineRefusal::NoMemory),
         }
     }
 
     /// Begins anew with the messages that the device has, as `start` does with records that keep them: the clock goes on after the last of
-    /// them, nothing is pending, and nothing can be undone or redone.
+    /// them, nothing is pending, and nothing can be undone or redone. What was covered stays covered.
     pub fn restart(&mut self)
         requires { self.old.spent ≡ false }
-        ensures { self.new ≡ at_rest (begun self.old.state.clock.node self.old.state.messages) }
+        ensures { self.new ≡ record (at_rest (begun self.old.state.clock.node self.old.state.messages)) { covered = self.old.covered } }
     {
         // The contract of `len` says that the messages of a log rise.
         let _count = self.known.log.len();
@@ -535,6 +599,57 @@ impl Device {
         ensures { result.now ≡ record { rows = rows_of self.now.state.messages; spent = false } }
     {
         &self.known.book
+    }
+
+    /// Covers a month YYYYMM, so that `cell` tells its cells, and all months between it and those that were covered; of these none is
+    /// computed anew. After want of memory the device is spent.
+    pub fn cover<G: Ledger>(&mut self, month: u32, steps: &mut Steps<G>) -> Result<(), NoMemory>
+        requires live { self.old.spent ≡ false }
+        requires month { is_month month ≡ true }
+        ensures ok { OnOk result (self.new ≡ record self.old { covered = with_month self.old.covered (month_number month) }) }
+        ensures covered { OnOk result (is_covered self.new month ≡ true) }
+        ensures kept { OnOk result ((kept : ℕ) → is_covered self.old kept ≡ true → is_covered self.new kept ≡ true) }
+        ensures err { OnErr result (self.new.spent ≡ true) }
+        ensures cost { OnOk result (steps.new ≤ steps.old + month_cost (length (entries (rows_of self.old.state.messages).categories)) (length (entries (rows_of self.old.state.messages).groups)) * more_months self.old.covered self.new.covered) }
+    {
+        self.spent = true;
+        self.grid.extend(&self.known.book, month, steps)?;
+        self.spent = false;
+        Ok(())
+    }
+
+    /// Whether a month YYYYMM is covered: all months in which rows stand are, and those that `cover` covered.
+    pub fn is_covered(&self, month: u32) -> bool
+        requires { self.now.spent ≡ false }
+        ensures covers { result ≡ is_covered self.now month }
+        ensures window { HasWindow self.now.covered.0 self.now.covered.1 (window_of (rows_of self.now.state.messages)) }
+    {
+        self.grid.covers(month)
+    }
+
+    /// What a cell of a covered month tells, if there is such a cell.
+    pub fn cell(&self, name: &CellName) -> Option<i128>
+        requires live { self.now.spent ≡ false }
+        requires covered { is_covered self.now name.now.month ≡ true }
+        ensures { result ≡ cell_of (budget_of (rows_of self.now.state.messages)) name.now }
+    {
+        self.grid.cell(name)
+    }
+
+    /// All cells of a covered month YYYYMM, in the order of its sheet, read one by one from those that are kept.
+    pub fn sheet(&self, month: u32) -> Result<Sheet, NoMemory>
+        requires live { self.now.spent ≡ false }
+        requires covered { is_covered self.now month ≡ true }
+        ensures { IfOk result (λ sheet. sheet.cells ≡ sheet_of (budget_of (rows_of self.now.state.messages)) month) }
+    {
+        // The cells of a month's names are its sheet.
+        sheets_are_named();
+        let groups = groups_of(self.alloc, &self.known.book)?;
+        let names = cell_names(self.alloc, groups.as_slice(), month)?;
+        let cells = cells_of(self.alloc, &self.grid, names.as_slice())?;
+        Ok(Sheet {
+            cells: Items::new(cells),
+        })
     }
 
     /// The timestamp at which the clock stands. No message has a greater time and counter.

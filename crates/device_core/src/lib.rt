@@ -7,12 +7,15 @@ mod edit;
 mod known;
 mod laws;
 mod placing;
+mod sheet;
 
 pub use bank_import::ImportEdit;
 pub use book_edits::BookEdit;
 pub use book_rows::{EditFault, RowName, Write, WriteValue};
 pub use device::Device;
 pub use edit::{Edit, LineRefusal};
+pub use envelope_cells::name::Sheet;
+pub use envelope_cells::{Cell, CellKind, CellName};
 pub use kept_messages::StartFault;
 pub use laws::{
     accepted_are_joined, books_follow_messages, devices_begin, edits_are_made, edits_read_back,

@@ -15,7 +15,7 @@ budget>2024-01>food>30000 = ok 1|writes 3
 budget>2024-02>food>20000 = ok 1|writes 3";
 
 /// Lines to that household, each table by itself.
-const MONTHS: [&str; 7] = [
+const MONTHS: [&str; 8] = [
     // what is overspent is taken from the next month
     r"cell>2024-01>to-budget = ok 1|70000
 cell>2024-01>leftover-food = ok 1|-5000
@@ -55,6 +55,24 @@ budget>2024-02>pay>1 = refused E16 income-category pay
 cell>2024-02>leftover-pay = refused E5 no-such-category pay",
     // a whole sheet
     r"sheet>2024-01 = ok 18|total-income 100000|from-last-month 0|available-funds 100000|last-month-overspent 0|total-budgeted -30000|buffered 0|to-budget 70000|total-spent -35000|total-leftover -5000|group-sum-amount-g -35000|group-budget-g 30000|group-leftover-g -5000|sum-amount-food -35000|budget-food 30000|carryover-food 0|leftover-food -5000|group-sum-amount-gi 100000|sum-amount-pay 100000",
+    // money goes to another month and category, is budgeted anew, and goes back
+    r"category-add>rent>g>Rent = ok 1|writes 3
+cell>2024-02>leftover-rent = ok 1|0
+tx-set>t2>date>20240203 = ok 1|writes 1
+tx-set>t2>category>rent = ok 1|writes 1
+cell>2024-01>leftover-food = ok 1|30000
+cell>2024-02>leftover-rent = ok 1|-35000
+cell>2024-03>last-month-overspent = ok 1|-35000
+move>2024-02>food>rent>35000 = ok 1|writes 4
+sheet>2024-02 = ok 22|total-income 0|from-last-month 70000|available-funds 70000|last-month-overspent 0|total-budgeted -20000|buffered 0|to-budget 50000|total-spent -35000|total-leftover 15000|group-sum-amount-g -35000|group-budget-g 20000|group-leftover-g 15000|sum-amount-food 0|budget-food -15000|carryover-food 0|leftover-food 15000|sum-amount-rent -35000|budget-rent 35000|carryover-rent 0|leftover-rent 0|group-sum-amount-gi 0|sum-amount-pay 0
+cell>2024-03>to-budget = ok 1|50000
+tx-set>t1>date>20240201 = ok 1|writes 1
+cell>2024-01>to-budget = ok 1|-30000
+cell>2024-02>from-last-month = ok 1|-30000
+cell>2024-02>total-income = ok 1|100000
+undo = ok 1|writes 1
+cell>2024-01>to-budget = ok 1|70000
+cell>2024-02>total-income = ok 1|0",
     // a register, in which a transaction without a day stands first
     r"set>transactions>t3>acct>S:bank = ok 1|writes 1
 payee-add>m>Market = ok 1|writes 1

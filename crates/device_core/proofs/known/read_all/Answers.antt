@@ -1,6 +1,7 @@
-use Rattle.std.proofs.Common.{◌≡◌, ◌∙◌, Some, ap, sym, subst, arith, rules}
+use Rattle.std.proofs.Common.{◌≡◌, ◌≢◌, ◌≤◌, ◌<◌, ◌∙◌, List, [], ◌∷◌, length, refl, Some, ap, sym, subst, arith, rules}
 use Rattle.field_merge.specs.Log.{LogState}
 use Rattle.field_merge.specs.Messages.{AreMessages}
+use Rattle.budget_ports.specs.declared.keeper.Record.{Record}
 use Rattle.minute_trie.specs.Trie.{IsTrieOf}
 use Rattle.kept_messages.specs.Records.{message_in, kept_set}
 use Rattle.kept_messages.specs.Pairs.{pairs_of}
@@ -35,3 +36,10 @@ loop-index-preserved c =
       known = c.in_ok-take_in.ensures.known;
       first = λ some. first_stamp rs i r m c.loop-index-test.true c.index-records-index.is read c.loop-index.invariant.first;
     }
+
+pub returns-clause-first : goal.returns-clause-first
+returns-clause-first c = λ some. c.loop-index.invariant.first (past c.args.records.now some (omega arith))
+  where
+    past : (rs : List Record) → rs ≢ [] → length rs ≤ c.loop-index.index → 0 < c.loop-index.index
+    past [] some end = absurd (some refl)
+    past (r ∷ rs) some end = omega (arith, end)

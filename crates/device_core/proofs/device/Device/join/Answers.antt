@@ -11,7 +11,7 @@ use Rattle.kept_messages.proofs.Keeping.{have_keys}
 use Rattle.device_core.proofs.device.Device.join.Goals as goal
 
 pub invariant_of-self-2 : goal.invariant_of-self-2
-invariant_of-self-2 c = λ _.
+invariant_of-self-2 g c = λ _.
     let state = c.self.view_is in
     let live : c.self.inside.spent ≡ false = ap (λ (d : DeviceState). d.spent) state ∙ c.requires.live in
     let idle : c.self.inside.batch.items ≡ [] = ap (λ (d : DeviceState). d.batch) state ∙ c.requires.idle in
@@ -22,6 +22,8 @@ invariant_of-self-2 c = λ _.
     let joined = c.in_ok-join_all.ensures.joined in
     let ahead : IsAhead c.self.inside.clock ns = subst (λ (s : Stamp). IsAhead s ns) (sym clock) c.requires.ahead in record {
       right = c.in_ok-join_all.ensures.known;
+      grid_live = c.in_ok-join_all.ensures.grid;
+      cells = c.in_ok-join_all.ensures.stands;
       ahead = subst (IsAhead c.self.inside.clock) (sym joined) (all_join (λ (m : Message). IsUpTo c.self.inside.clock m.stamp) ms ns stands.ahead ahead);
       keys = subst HaveKeys (sym (c.in_ok-join_all.ensures.batch ∙ ap (λ b. b ++ map record_of (new_in ms ns)) idle)) (have_keys (new_in ms ns) (all_new IsMessage ms ns c.requires.valid));
     }
