@@ -1,0 +1,17 @@
+pub mod Numbered
+pub mod Apart
+pub mod Grown
+pub mod Moved
+pub mod Events
+pub mod Worlds
+pub mod Promises
+pub mod Coming
+pub mod News
+pub mod Changing
+pub mod Steps
+pub mod Wholes
+pub mod Beginning
+pub mod Determined
+pub mod Happening
+pub mod Taking
+pub mod Sending

@@ -1,0 +1,9 @@
+pub mod World
+pub mod Right
+pub mod Promises
+pub mod Happening
+pub mod Taking
+pub mod Members
+pub mod News
+pub mod Steps
+pub mod Whole
