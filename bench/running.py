@@ -1,7 +1,9 @@
-"""A running device, for the measurements beside this file."""
+"""A running device, and a running server, for the measurements beside this file."""
 import os
+import socket
 import subprocess
 import sys
+import time
 
 
 def processor_time(process):
@@ -54,3 +56,19 @@ class Device:
         self.process.stdin.close()
         if self.process.wait() != 0:
             sys.exit("the program ended with status %d" % self.process.returncode)
+
+
+def serving(program):
+    """A running server, and its address."""
+    with socket.socket() as probe:
+        probe.bind(("127.0.0.1", 0))
+        port = probe.getsockname()[1]
+    address = "127.0.0.1:%d" % port
+    server = subprocess.Popen([program, "serve", "--listen", address, "--count", "1000000"], stdout=subprocess.DEVNULL)
+    for _ in range(200):
+        try:
+            socket.create_connection(("127.0.0.1", port)).close()
+            return server, address
+        except ConnectionRefusedError:
+            time.sleep(0.05)
+    sys.exit("%s doesn't listen" % program)
