@@ -9,6 +9,7 @@ pub mod Small
 pub mod Marked
 pub mod Totals
 pub mod Settling
+pub mod Spots
 pub mod Refreshed
 pub mod Begun
 pub mod WholeSettled

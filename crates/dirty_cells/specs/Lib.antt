@@ -2,6 +2,7 @@ pub mod Changes
 pub mod Governing
 pub mod Grid
 pub mod Right
+pub mod Spots
 pub mod WholeOf
 pub mod Touching
 pub mod Steps

@@ -126,46 +126,45 @@ fn is_one(z: i128) -> bool
 }
 
 /// What the kept cells of the month before tell of an expense category.
-fn kept_before(cells: &Store, book: &Book, id: &Txt, number: u32) -> Result<Left, NoMemory>
+fn kept_before(cells: &Store, book: &Book, id: &Txt, number: u32) -> Left
     requires some { 0 < number }
     requires number { number < 2760 }
     requires expense { is_among text_cmp (expense (budget_of book.now.rows)) id.now ≡ true }
     requires prior { AreRightBut cells.now (budget_of book.now.rows) (number - 1) none_pending }
-    ensures left { IfOk result (λ p. p.left ≡ leftover_before (budget_of book.now.rows) id.now number) }
-    ensures carries { IfOk result (λ p. p.carries ≡ carried_before (budget_of book.now.rows) id.now number) }
+    ensures left { result.left ≡ leftover_before (budget_of book.now.rows) id.now number }
+    ensures carries { result.carries ≡ carried_before (budget_of book.now.rows) id.now number }
 {
     let month = month_at(number - 1);
-    let left = CellName::make(month, CellKind::Leftover, id)?;
-    let flag = CellName::make(month, CellKind::Carryover, id)?;
-    Ok(Left {
-        left: kept(cells, &left),
-        carries: is_one(kept(cells, &flag)),
-    })
+    let past = cells.three(
+        id,
+        month,
+        CellKind::Leftover,
+        CellKind::Carryover,
+        CellKind::Budget,
+    );
+    Left {
+        left: past.one,
+        carries: is_one(past.two),
+    }
 }
 
 /// What the month before left of an expense category; before the first month nothing is left.
-fn left_before(
-    cells: &Store,
-    book: &Book,
-    id: &Txt,
-    number: u32,
-    first: u32,
-) -> Result<Left, NoMemory>
+fn left_before(cells: &Store, book: &Book, id: &Txt, number: u32, first: u32) -> Left
     requires number { number < 2760 }
     requires within { first ≤ number }
     requires expense { is_among text_cmp (expense (budget_of book.now.rows)) id.now ≡ true }
     requires quiet { IsPast (budget_of book.now.rows) id.now first nothing }
     requires prior { first < number → AreRightBut cells.now (budget_of book.now.rows) (number - 1) none_pending }
-    ensures left { IfOk result (λ p. p.left ≡ leftover_before (budget_of book.now.rows) id.now number) }
-    ensures carries { IfOk result (λ p. p.carries ≡ carried_before (budget_of book.now.rows) id.now number) }
+    ensures left { result.left ≡ leftover_before (budget_of book.now.rows) id.now number }
+    ensures carries { result.carries ≡ carried_before (budget_of book.now.rows) id.now number }
 {
     if first < number {
         return kept_before(cells, book, id, number);
     }
-    Ok(Left {
+    Left {
         left: 0,
         carries: false,
-    })
+    }
 }
 
 /// What of a leftover goes on.
@@ -246,7 +245,7 @@ fn told_of(
             leftover: None,
         });
     }
-    let past = left_before(cells, book, id, number, first)?;
+    let past = left_before(cells, book, id, number, first);
     Ok(Told {
         sum: Some(said.sum),
         budget: Some(i128::from(said.budget)),
@@ -278,14 +277,15 @@ pub(crate) fn refresh_category<G: Ledger>(
 {
     let told = told_of(alloc, cells, sums, book, id, number, first)?;
     let month = month_at(number);
-    let sum = CellName::make(month, CellKind::Sum, id)?;
-    let budget = CellName::make(month, CellKind::Budget, id)?;
-    let carryover = CellName::make(month, CellKind::Carryover, id)?;
-    let leftover = CellName::make(month, CellKind::Leftover, id)?;
-    cells.settle(sum, told.sum, steps)?;
-    cells.settle(budget, told.budget, steps)?;
-    cells.settle(carryover, told.carryover, steps)?;
-    cells.settle(leftover, told.leftover, steps)
+    cells.settle_category(
+        id,
+        month,
+        told.sum,
+        told.budget,
+        told.carryover,
+        told.leftover,
+        steps,
+    )
 }
 
 /// The same of some categories, one after the other.

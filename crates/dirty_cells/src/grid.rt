@@ -232,6 +232,13 @@ impl Grid {
         self.spent
     }
 
+    /// What the transactions of each category add up to in each month, of all months. It is kept, so no transaction is looked at.
+    pub fn sums(&self) -> &CellValues
+        ensures { (rows : RowsIs) → StandsFor self.now rows → AreSums result.now rows }
+    {
+        &self.sums
+    }
+
     /// Whether the cells of a month YYYYMM are kept.
     pub fn covers(&self, month: u32) -> bool
         ensures { result ≡ is_covered self.now month }

@@ -12,7 +12,7 @@ ghost use Rattle.envelope_cells.specs.CellOf.{value_of, group_named};
 ghost use Rattle.envelope_cells.specs.Ids.{month_at};
 ghost use Rattle.envelope_cells.specs.declared.name.CellName.{CellName as CellNameIs};
 ghost use Rattle.envelope_cells.specs.declared.name.CellKind.{CellKind as CellKindIs};
-ghost use Rattle.envelope_cells.specs.declared.name.CellKind.TheVariants.{GroupSum, GroupBudget, GroupLeftover};
+ghost use Rattle.envelope_cells.specs.declared.name.CellKind.TheVariants.{GroupSum, GroupBudget, GroupLeftover, Sum, Budget as OfBudget, Leftover};
 ghost use Rattle.dirty_cells.specs.Grid.{is_pending};
 ghost use Rattle.dirty_cells.specs.Right.{AreRightBut, cell_at, kept_value, HasCategories};
 
@@ -44,6 +44,46 @@ fn sum_kept(
     Ok(sum)
 }
 
+/// What the kept cells of some categories tell in a month, added up.
+#[derive(Clone, Copy)]
+pub(crate) struct Sums {
+    pub sum: i128,
+    pub budget: i128,
+    pub leftover: i128,
+}
+
+/// What the kept cells of some expense categories tell in a month, added up; a cell that is not kept is 0.
+fn sums_kept(cells: &Store, ids: &[Txt], month: u32, number: u32) -> Sums
+    requires month { month ≡ month_at number }
+    requires sum { weight (λ id. unsigned_abs (kept_value cells.now number Sum id)) ids.now ≤ 2 ^ 120 }
+    requires budget { weight (λ id. unsigned_abs (kept_value cells.now number OfBudget id)) ids.now ≤ 2 ^ 120 }
+    requires leftover { weight (λ id. unsigned_abs (kept_value cells.now number Leftover id)) ids.now ≤ 2 ^ 120 }
+    ensures sum { result.sum ≡ total (kept_value cells.now number Sum) ids.now }
+    ensures budget { result.budget ≡ total (kept_value cells.now number OfBudget) ids.now }
+    ensures leftover { result.leftover ≡ total (kept_value cells.now number Leftover) ids.now }
+{
+    let mut sum = 0i128;
+    let mut budget = 0i128;
+    let mut leftover = 0i128;
+    for id in ids {
+        let more = cells.three(
+            id,
+            month,
+            CellKind::Sum,
+            CellKind::Budget,
+            CellKind::Leftover,
+        );
+        sum += more.one;
+        budget += more.two;
+        leftover += more.three;
+    }
+    Sums {
+        sum,
+        budget,
+        leftover,
+    }
+}
+
 /// Settles the three cells of a group.
 fn settle_group<G: Ledger>(
     cells: &mut Store,
@@ -60,12 +100,7 @@ fn settle_group<G: Ledger>(
     ensures others { OnOk result ((q : CellNameIs) → (q.month ≡ month_at number → ⊥) → map.get cells.new q ≡ map.get cells.old q) }
     ensures cost { OnOk result (steps.new ≡ steps.old + 3) }
 {
-    let first = CellName::make(month, CellKind::GroupSum, id)?;
-    let second = CellName::make(month, CellKind::GroupBudget, id)?;
-    let third = CellName::make(month, CellKind::GroupLeftover, id)?;
-    cells.settle(first, sum, steps)?;
-    cells.settle(second, budget, steps)?;
-    cells.settle(third, leftover, steps)
+    cells.settle_group(id, month, sum, budget, leftover, steps)
 }
 
 /// Computes the cells of a live group in a month anew, from the kept cells of its categories: three of them are written or taken away.
@@ -90,20 +125,19 @@ pub(crate) fn refresh_group<G: Ledger>(
 {
     book.sizes();
     let month = month_at(number);
-    let sum = sum_kept(cells, categories, CellKind::Sum, month, number)?;
     if is_income {
+        let sum = sum_kept(cells, categories, CellKind::Sum, month, number)?;
         return settle_group(cells, id, month, number, Some(sum), None, None, steps);
     }
-    let budget = sum_kept(cells, categories, CellKind::Budget, month, number)?;
-    let leftover = sum_kept(cells, categories, CellKind::Leftover, month, number)?;
+    let sums = sums_kept(cells, categories, month, number);
     settle_group(
         cells,
         id,
         month,
         number,
-        Some(sum),
-        Some(budget),
-        Some(leftover),
+        Some(sums.sum),
+        Some(sums.budget),
+        Some(sums.leftover),
         steps,
     )
 }

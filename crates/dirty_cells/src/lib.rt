@@ -12,6 +12,8 @@ pub mod grid;
 mod group;
 pub mod marks;
 pub mod month;
+mod row;
+mod spot;
 pub mod store;
 pub mod sums;
 pub mod touching;

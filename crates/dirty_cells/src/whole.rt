@@ -9,11 +9,13 @@ ghost use Rattle.envelope_cells.specs.Parts.{IsPast};
 ghost use Rattle.envelope_cells.specs.Budget.{Budget as BudgetIs};
 ghost use Rattle.envelope_cells.specs.Ids.{month_at};
 ghost use Rattle.envelope_cells.specs.declared.name.CellName.{CellName as CellNameIs};
+ghost use Rattle.envelope_cells.specs.declared.name.CellKind.TheVariants.{GroupSum, GroupBudget, GroupLeftover};
 ghost use Rattle.dirty_cells.specs.Grid.{is_pending, nothing};
 ghost use Rattle.dirty_cells.specs.Right.{AreRightBut, cell_at, kept_value, Settled, none_pending};
 ghost use Rattle.dirty_cells.specs.WholeOf.{IsWhole, is_on, kept_of_group, AreTotals, IsBegin, whole_by};
 
 use crate::category::kept;
+use crate::row::Three;
 use crate::store::Store;
 use book_rows::{Book, month_id};
 use envelope_cells::{BudgetGroup, CellKind, CellName, month_at};
@@ -223,6 +225,63 @@ fn side_kept(
     Ok(sum)
 }
 
+/// What the groups of expenses have together.
+#[derive(Clone, Copy)]
+pub(crate) struct Spending {
+    pub spent: i128,
+    pub budgets: i128,
+    pub leftover: i128,
+}
+
+/// What the three kept cells of a group tell, each 0 where it takes income.
+fn group_three(cells: &Store, group: &BudgetGroup, number: u32) -> Three
+    requires { number < 2760 }
+    ensures one { result.one ≡ kept_of_group cells.now number GroupSum false group.now }
+    ensures two { result.two ≡ kept_of_group cells.now number GroupBudget false group.now }
+    ensures three { result.three ≡ kept_of_group cells.now number GroupLeftover false group.now }
+{
+    if !is_on(false, group) {
+        return Three {
+            one: 0,
+            two: 0,
+            three: 0,
+        };
+    }
+    cells.three(
+        &group.id,
+        month_at(number),
+        CellKind::GroupSum,
+        CellKind::GroupBudget,
+        CellKind::GroupLeftover,
+    )
+}
+
+/// What the kept cells of the groups of expenses tell, added up.
+fn spending_kept(cells: &Store, groups: &[BudgetGroup], number: u32) -> Spending
+    requires number { number < 2760 }
+    requires spent { weight (λ g. unsigned_abs (kept_of_group cells.now number GroupSum false g)) groups.now ≤ 2 ^ 120 }
+    requires budgets { weight (λ g. unsigned_abs (kept_of_group cells.now number GroupBudget false g)) groups.now ≤ 2 ^ 120 }
+    requires leftover { weight (λ g. unsigned_abs (kept_of_group cells.now number GroupLeftover false g)) groups.now ≤ 2 ^ 120 }
+    ensures spent { result.spent ≡ total (kept_of_group cells.now number GroupSum false) groups.now }
+    ensures budgets { result.budgets ≡ total (kept_of_group cells.now number GroupBudget false) groups.now }
+    ensures leftover { result.leftover ≡ total (kept_of_group cells.now number GroupLeftover false) groups.now }
+{
+    let mut spent = 0i128;
+    let mut budgets = 0i128;
+    let mut leftover = 0i128;
+    for group in groups {
+        let more = group_three(cells, group, number);
+        spent += more.one;
+        budgets += more.two;
+        leftover += more.three;
+    }
+    Spending {
+        spent,
+        budgets,
+        leftover,
+    }
+}
+
 /// What the groups of a month have together, from their kept cells.
 fn totals_of(
     cells: &Store,
@@ -238,14 +297,12 @@ fn totals_of(
 {
     book.sizes();
     let income = side_kept(cells, groups, CellKind::GroupSum, true, number)?;
-    let spent = side_kept(cells, groups, CellKind::GroupSum, false, number)?;
-    let budgets = side_kept(cells, groups, CellKind::GroupBudget, false, number)?;
-    let leftover = side_kept(cells, groups, CellKind::GroupLeftover, false, number)?;
+    let spending = spending_kept(cells, groups, number);
     Ok(Totals {
         income,
-        spent,
-        budgets,
-        leftover,
+        spent: spending.spent,
+        budgets: spending.budgets,
+        leftover: spending.leftover,
     })
 }
 

@@ -22,15 +22,22 @@ sum_kept-requires-clause-small g c =
     let k : BudgetGroup = record { id = c.args.id.now; is_income = c.args.is_income; categories = c.args.categories.now } in
     sums_small c.args.cells.now (budget_of r) n c.requires.has c.args.id.now k (small_rows r n c.requires.number c.sizes.ensures) c.requires.group
 
-pub sum_kept-requires-2-clause-small : goal.sum_kept-requires-2-clause-small
-sum_kept-requires-2-clause-small g c =
+pub sums_kept-sums-requires-clause-sum : goal.sums_kept-sums-requires-clause-sum
+sums_kept-sums-requires-clause-sum g c =
+    let r = c.args.book.now.rows in
+    let n = c.args.number in
+    let k : BudgetGroup = record { id = c.args.id.now; is_income = c.args.is_income; categories = c.args.categories.now } in
+    sums_small c.args.cells.now (budget_of r) n c.requires.has c.args.id.now k (small_rows r n c.requires.number c.sizes.ensures) c.requires.group
+
+pub sums_kept-sums-requires-clause-budget : goal.sums_kept-sums-requires-clause-budget
+sums_kept-sums-requires-clause-budget g c =
     let r = c.args.book.now.rows in
     let n = c.args.number in
     let k : BudgetGroup = record { id = c.args.id.now; is_income = c.args.is_income; categories = c.args.categories.now } in
     budgets_small c.args.cells.now (budget_of r) n c.requires.has c.args.id.now k (small_rows r n c.requires.number c.sizes.ensures) c.requires.group (c.requires.expense c.if-is_income.false)
 
-pub sum_kept-requires-3-clause-small : goal.sum_kept-requires-3-clause-small
-sum_kept-requires-3-clause-small g c =
+pub sums_kept-sums-requires-clause-leftover : goal.sums_kept-sums-requires-clause-leftover
+sums_kept-sums-requires-clause-leftover g c =
     let r = c.args.book.now.rows in
     let n = c.args.number in
     let k : BudgetGroup = record { id = c.args.id.now; is_income = c.args.is_income; categories = c.args.categories.now } in
@@ -52,11 +59,11 @@ returns-clause-right g c =
     let b = budget_of c.args.book.now.rows in
     let n = c.args.number in
     let k : BudgetGroup = record { id = c.args.id.now; is_income = c.args.is_income; categories = c.args.categories.now } in
-    let one : SFits w128 c.in_ok-sum.sum = search rules in
-    let two : SFits w128 c.in_ok-budget.budget = search rules in
-    let three : SFits w128 c.in_ok-leftover.leftover = search rules in
+    let one : SFits w128 c.sums_kept-sums.result.sum = search rules in
+    let two : SFits w128 c.sums_kept-sums.result.budget = search rules in
+    let three : SFits w128 c.sums_kept-sums.result.leftover = search rules in
     let spends = c.requires.expense c.if-is_income.false in
     on_ok c.settle_group-2.result (λ h cs rest right. h b cs rest
-    (ap Some (to_z-of_z w128 c.in_ok-sum.sum one ∙ c.in_ok-sum.ensures) ∙ group_sum c.args.cells.now b n c.requires.has c.args.id.now k c.requires.group)
-    (ap Some (to_z-of_z w128 c.in_ok-budget.budget two ∙ c.in_ok-budget.ensures) ∙ group_budget c.args.cells.now b n c.requires.has c.args.id.now k spends)
-    (ap Some (to_z-of_z w128 c.in_ok-leftover.leftover three ∙ c.in_ok-leftover.ensures) ∙ group_leftover c.args.cells.now b n c.requires.has c.args.id.now k spends) right) c.settle_group-2.ensures.right
+    (ap Some (to_z-of_z w128 c.sums_kept-sums.result.sum one ∙ c.sums_kept-sums.ensures.sum) ∙ group_sum c.args.cells.now b n c.requires.has c.args.id.now k c.requires.group)
+    (ap Some (to_z-of_z w128 c.sums_kept-sums.result.budget two ∙ c.sums_kept-sums.ensures.budget) ∙ group_budget c.args.cells.now b n c.requires.has c.args.id.now k spends)
+    (ap Some (to_z-of_z w128 c.sums_kept-sums.result.leftover three ∙ c.sums_kept-sums.ensures.leftover) ∙ group_leftover c.args.cells.now b n c.requires.has c.args.id.now k spends) right) c.settle_group-2.ensures.right
