@@ -9,6 +9,7 @@ ghost use Rattle.field_merge.specs.Log.{fields, value_in};
 ghost use Rattle.minute_trie.specs.Trie.{trie_of};
 ghost use Rattle.minute_trie.specs.Json.{trie_text};
 ghost use Rattle.kept_messages.specs.Pairs.{pairs_of};
+ghost use Rattle.envelope_cells.specs.Parts.{AreSums};
 ghost use Rattle.device_core.specs.Books.{rows_of};
 ghost use Rattle.command_lines.specs.Readings.{answer, book_answer, shown, IsReading, AsksRows};
 
@@ -21,6 +22,7 @@ use crate::text_lines::lines_in;
 use crate::track_answer::{track_cell_reply, track_sheet_reply};
 use book_rows::Book;
 use device_core::Device;
+use envelope_cells::CellValues;
 use field_merge::{Log, Message, message_lines, push_escaped, write_line};
 use field_values::{Field, Items, NameFault, NoMemory, Txt, Value};
 use std::alloc::Global;
@@ -118,9 +120,16 @@ fn trie_line(device: &Device) -> Result<Txt, NoMemory>
     device.trie().to_json()
 }
 
-/// What the books, which are the rows that the values of the fields make, answer to a line that asks of their rows.
-fn book_reply(alloc: Global, book: &Book, command: &Command) -> Result<Reply, NoMemory>
+/// What the books, which are the rows that the values of the fields make, answer to a line that asks of their rows, beside the sums of
+/// their categories.
+fn book_reply(
+    alloc: Global,
+    book: &Book,
+    sums: &CellValues,
+    command: &Command,
+) -> Result<Reply, NoMemory>
     requires live { book.now.spent ≡ false }
+    requires sums { AreSums sums.now book.now.rows }
     requires asks { AsksRows command.now }
     ensures { IfOk result (λ r. r ≡ book_answer book.now.rows command.now) }
 {
@@ -130,8 +139,8 @@ fn book_reply(alloc: Global, book: &Book, command: &Command) -> Result<Reply, No
         Command::Broken => broken_reply(alloc, book),
         Command::ScheduleStatus { id, day } => status_reply(alloc, book, id, *day),
         Command::Goals { month } => goals_reply(alloc, book, *month),
-        Command::TrackCell { month, name } => track_cell_reply(alloc, book, *month, name),
-        Command::TrackSheet { month } => track_sheet_reply(alloc, book, *month),
+        Command::TrackCell { month, name } => track_cell_reply(alloc, book, sums, *month, name),
+        Command::TrackSheet { month } => track_sheet_reply(alloc, book, sums, *month),
         _ => unreachable!(),
     }
 }
@@ -142,7 +151,7 @@ fn told_of_books(alloc: Global, device: &Device, command: &Command) -> Result<Re
     requires asks { AsksRows command.now }
     ensures { IfOk result (λ r. r ≡ book_answer (rows_of device.now.state.messages) command.now) }
 {
-    book_reply(alloc, device.book(), command)
+    book_reply(alloc, device.book(), device.sums(), command)
 }
 
 /// The reply to a line that only reads: `fields`, `messages`, `value`, `trie`, `balance`, `register`, `cell`, `sheet`, `broken`, `schedule-status`,

@@ -20,6 +20,7 @@ ghost use Rattle.book_rows.specs.Months.{is_month, window_of};
 ghost use Rattle.envelope_cells.specs.BudgetOf.{budget_of};
 ghost use Rattle.envelope_cells.specs.CellOf.{cell_of};
 ghost use Rattle.envelope_cells.specs.Ids.{month_number};
+ghost use Rattle.envelope_cells.specs.Parts.{AreSums};
 ghost use Rattle.envelope_cells.specs.SheetOf.{sheet_of};
 ghost use Rattle.dirty_cells.specs.Stands.{HasWindow, with_month};
 ghost use Rattle.dirty_cells.specs.Steps.{month_cost};
@@ -35,7 +36,7 @@ use budget_ports::Record;
 use dirty_cells::grid::Grid;
 use edit_history::{History, Turn, entry_over, undo_writes};
 use envelope_cells::name::Sheet;
-use envelope_cells::{CellName, cell_names, groups_of, sheets_are_named};
+use envelope_cells::{CellName, CellValues, cell_names, groups_of, sheets_are_named};
 use field_merge::{Log, Message};
 use field_values::{Items, NoMemory, Steps, Txt};
 use hybrid_clock::{HybridClock, Node, Stamp};
@@ -599,6 +600,14 @@ impl Device {
         ensures { result.now ≡ record { rows = rows_of self.now.state.messages; spent = false } }
     {
         &self.known.book
+    }
+
+    /// What the transactions of each category add up to in each month, of all months. It is kept, so no transaction is looked at.
+    pub fn sums(&self) -> &CellValues
+        requires { self.now.spent ≡ false }
+        ensures { AreSums result.now (rows_of self.now.state.messages) }
+    {
+        self.grid.sums()
     }
 
     /// Covers a month YYYYMM, so that `cell` tells its cells, and all months between it and those that were covered; of these none is
