@@ -10,6 +10,7 @@ pub mod News
 pub mod Changing
 pub mod Steps
 pub mod Wholes
+pub mod Covering
 pub mod Beginning
 pub mod Determined
 pub mod Happening

@@ -28,7 +28,7 @@ after_all : (m : Message) → is_after [] m ≡ true
 unfolding stamp_text head_text
 after_all m = refl
 
-after_nothing : (ms : List Message) → messages_after [] ms ≡ ms
+pub after_nothing : (ms : List Message) → messages_after [] ms ≡ ms
 after_nothing [] = refl
 after_nothing (m ∷ ms) = ap₂ (λ (b : Bool) (ns : List Message). cond b (m ∷ ns) ns) (after_all m) (after_nothing ms)
 

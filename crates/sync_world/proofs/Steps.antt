@@ -18,12 +18,12 @@ use Rattle.sync_world.specs.World.{WorldState, device_of, with_device, made_by, 
 use Rattle.sync_world.specs.Members.{IsReady, HasChanged, HasReceived, HasStopped, IsAt, IsRefusedBy}
 use Rattle.sync_world.specs.Steps.{states, fault_of, EditsTo, Refuses, TakesTo, RefusesReply, StopsTo}
 
-all_set : {A : Type 0} (P : A → Type 0) (xs : List A) (i : ℕ) (x : A) → AllByRecursion P xs → P x → AllByRecursion P (slice_set xs i x)
+pub all_set : {A : Type 0} (P : A → Type 0) (xs : List A) (i : ℕ) (x : A) → AllByRecursion P xs → P x → AllByRecursion P (slice_set xs i x)
 all_set P [] i x h p = h
 all_set P (y ∷ xs) zero x h p = (p, h.1)
 all_set P (y ∷ xs) (suc i) x h p = (h.0, all_set P xs i x h.1 p)
 
-map_set : {A B : Type 0} (f : A → B) (xs : List A) (i : ℕ) (x : A) → map f (slice_set xs i x) ≡ slice_set (map f xs) i (f x)
+pub map_set : {A B : Type 0} (f : A → B) (xs : List A) (i : ℕ) (x : A) → map f (slice_set xs i x) ≡ slice_set (map f xs) i (f x)
 map_set f [] i x = refl
 map_set f (y ∷ xs) zero x = refl
 map_set f (y ∷ xs) (suc i) x = ap (λ l. f y ∷ l) (map_set f xs i x)
@@ -56,12 +56,12 @@ pub refuses : (old : List DeviceState) (k : ℕ) (edit : WorldEdit) (reading : �
     → (w : WorldState) → w.devices ≡ states old → stepped w (events.Edit (suc k) edit reading) ≡ Err (Line refusal)
 refuses old k edit reading s refusal h is w same = ap (edits_at w (suc k) edit reading) (state_at old w k s same h) ∙ ap (wrote w (suc k) s.state) is
 
-set_itself : {A : Type 0} (xs : List A) (k : ℕ) (x y : A) → slice_get xs k ≡ Some x → y ≡ x → slice_set xs k y ≡ xs
+pub set_itself : {A : Type 0} (xs : List A) (k : ℕ) (x y : A) → slice_get xs k ≡ Some x → y ≡ x → slice_set xs k y ≡ xs
 set_itself [] k x y h e = refl
 set_itself (z ∷ xs) zero x y h e = let same : z ≡ x = cc in ap (λ w. w ∷ xs) (e ∙ sym same)
 set_itself (z ∷ xs) (suc k) x y h e = ap (λ l. z ∷ l) (set_itself xs k x y h e)
 
-with_number : (n : ℕ) → 0 < n → n ≡ suc (n - 1)
+pub with_number : (n : ℕ) → 0 < n → n ≡ suc (n - 1)
 with_number n some = omega arith
 
 pub edited_at : (old : List DeviceState) (n : ℕ) (edit : WorldEdit) (reading : ℕ) (d t : DeviceState) (c : Changed) → 0 < n → n - 1 < length old → AllByRecursion IsReady old

@@ -11,6 +11,7 @@ use Rattle.sync_server.specs.Answer.{answer_of}
 use Rattle.field_merge.specs.declared.message.Message.{Message}
 use Rattle.field_merge.specs.Log.{LogState}
 use Rattle.minute_trie.specs.declared.trie.Trie.{Trie}
+use Rattle.device_core.specs.Covering.{covered_by}
 use Rattle.device_core.specs.Device.{State, DeviceState, at_rest, begun}
 use Rattle.sync_wire.specs.declared.request.SyncRequest.{SyncRequest}
 use Rattle.sync_wire.specs.declared.response.SyncResponse.{SyncResponse}
@@ -26,10 +27,11 @@ use Rattle.sync_world.specs.declared.member.Changed.{Changed}
 use Rattle.sync_world.specs.World.{WorldState, Answer, start, device_of, made_by, request_of, asks_at, serves, halts, stepped, left_by}
 use Rattle.sync_world.specs.Right.{AreDifferent, IsRight, StepsStayRight}
 use Rattle.sync_world.specs.Steps.{states, EditsTo, Refuses, TakesTo, StopsTo}
+use Rattle.sync_world.specs.Covering.{ranges}
 use Rattle.sync_world.specs.Members.{IsReady}
 use Rattle.sync_world.proofs.Steps.{state_at}
 use Rattle.sync_world.proofs.Worlds.{own_start, start_right}
-use Rattle.sync_world.specs.Whole.{WorldModel, world_of, nodes_of, IsWorld, Holds, IsNotDone, wants_memory}
+use Rattle.sync_world.specs.Whole.{WorldModel, world_of, model_of, nodes_of, IsWorld, Holds, IsNotDone, wants_memory}
 
 -- a step leaves a world
 pub goes_on : StepsStayRight → (w v : WorldState) (e : Event) (o : Outcome) → stepped w e ≡ Ok (v, o) → IsWorld w → IsWorld v
@@ -74,14 +76,14 @@ refused_holds e devices new server trie made acknowledged kept requests replies 
 
 pub refused_done : (e : Event) (devices new : List DeviceState) (server : LogState) (made acknowledged : List Making) (kept : List Message) (requests : List SyncRequest) (replies : List SyncResponse) (fault : WorldFault)
     → Refuses e devices new fault
-    → IsNotDone e (record { world = world_of devices server made acknowledged kept requests replies; spent = false }) (record { world = world_of new server made acknowledged kept requests replies; spent = wants_memory fault }) fault
+    → IsNotDone e (model_of devices server made acknowledged kept requests replies false) (model_of new server made acknowledged kept requests replies (wants_memory fault)) fault
 refused_done e devices new server made acknowledged kept requests replies fault r = by fault r
   where
-    again : new ≡ devices → ◌≡◌ {A = WorldModel} (record { world = world_of new server made acknowledged kept requests replies; spent = false }) (record { world = world_of devices server made acknowledged kept requests replies; spent = false })
-    again e = ap (λ (ds : List DeviceState). record { world = world_of ds server made acknowledged kept requests replies; spent = false }) e
+    again : new ≡ devices → model_of new server made acknowledged kept requests replies false ≡ model_of devices server made acknowledged kept requests replies false
+    again e = ap (λ (ds : List DeviceState). model_of ds server made acknowledged kept requests replies false) e
 
     by : (fault : WorldFault) → Refuses e devices new fault
-        → IsNotDone e (record { world = world_of devices server made acknowledged kept requests replies; spent = false }) (record { world = world_of new server made acknowledged kept requests replies; spent = wants_memory fault }) fault
+        → IsNotDone e (model_of devices server made acknowledged kept requests replies false) (model_of new server made acknowledged kept requests replies (wants_memory fault)) fault
     by faults.NoMemory r = refl
     by (faults.NoSuchDevice i) r = (r.1 (world_of devices server made acknowledged kept requests replies) refl, again r.0)
     by (faults.NoSuchRequest i) r = (r.1 (world_of devices server made acknowledged kept requests replies) refl, again r.0)
@@ -236,6 +238,13 @@ begins_world nodes devices server made acknowledged kept requests replies at s a
     ∙ ap₂ (λ (ms : List Message) (qs : List SyncRequest). record { devices = map (λ (node : List ℕ). begun node []) nodes; server = []; made = []; acknowledged = []; kept = ms; requests = qs; replies = replies }) c d
     ∙ ap (λ (rs : List SyncResponse). record { devices = map (λ (node : List ℕ). begun node []) nodes; server = []; made = []; acknowledged = []; kept = []; requests = []; replies = rs }) e
 
+pub begins_covered : (nodes : List (List ℕ)) (devices : List DeviceState) → devices ≡ map (λ (node : List ℕ). at_rest (begun node [])) nodes → ranges devices ≡ map (λ (node : List ℕ). covered_by (0, 0) []) nodes
+begins_covered nodes devices at = ap ranges at ∙ by nodes
+  where
+    by : (nodes : List (List ℕ)) → ranges (map (λ (node : List ℕ). at_rest (begun node [])) nodes) ≡ map (λ (node : List ℕ). covered_by (0, 0) []) nodes
+    by [] = refl
+    by (node ∷ nodes) = ap (λ (rs : List (ℕ × ℕ)). covered_by (0, 0) [] ∷ rs) (by nodes)
+
 start_world : (nodes : List (List ℕ)) → AreDifferent nodes → IsWorld (start nodes)
 start_world nodes differ = record {
   different = subst AreDifferent (sym (own_start nodes)) differ;
@@ -280,3 +289,23 @@ lent_ready (x ∷ devices) (suc k) d ready h = lent_ready devices k d ready.1 h
 
 pub server_is : (server : LogState) (ms : List Message) → server.spent ≡ false → server.messages ≡ ms → server ≡ record { messages = ms; spent = false }
 server_is server ms live is = ap₂ (λ (ns : List Message) (spent : Bool). record { messages = ns; spent = spent }) is live
+
+pub lent_covered : (devices : List DeviceState) (w : WorldModel) (i : ℕ) (d : DeviceState) → w.covered ≡ ranges devices → 0 < i → slice_get devices (i - 1) ≡ Some d
+    → option_map (λ (x : DeviceState). x.covered) (Some d) ≡ device_of w.covered i
+lent_covered devices w i d is some h =
+    let number : i ≡ suc (i - 1) = omega arith in
+    sym (ap (device_of w.covered) number
+    ∙ ap (λ (rs : List (ℕ × ℕ)). slice_get rs (i - 1)) is
+    ∙ slice_get-map (λ (x : DeviceState). x.covered) devices (i - 1)
+    ∙ ap (option_map (λ (x : DeviceState). x.covered)) h)
+
+pub lent_covered_none : (w : WorldModel) (i : ℕ) → i ≡ 0 → option_map (λ (x : DeviceState). x.covered) None ≡ device_of w.covered i
+lent_covered_none w i none = sym (ap (device_of w.covered) none)
+
+pub lent_covered_past : (devices : List DeviceState) (w : WorldModel) (i : ℕ) → w.covered ≡ ranges devices → 0 < i → length devices ≤ i - 1 → option_map (λ (x : DeviceState). x.covered) None ≡ device_of w.covered i
+lent_covered_past devices w i is some past =
+    let number : i ≡ suc (i - 1) = omega arith in
+    sym (ap (device_of w.covered) number
+    ∙ ap (λ (rs : List (ℕ × ℕ)). slice_get rs (i - 1)) is
+    ∙ slice_get-map (λ (x : DeviceState). x.covered) devices (i - 1)
+    ∙ ap (option_map (λ (x : DeviceState). x.covered)) (slice_get_past devices (i - 1) past))

@@ -6,4 +6,5 @@ pub mod Taking
 pub mod Members
 pub mod News
 pub mod Steps
+pub mod Covering
 pub mod Whole

@@ -1,8 +1,10 @@
 //! The devices of a world, as an event leaves them.
-ghost use Rattle.std.specs.Prelude.{◌≡◌, false, [], IfOk, IfErr, OnOk};
+ghost use Rattle.std.specs.Prelude.{◌≡◌, true, false, [], IfOk, IfErr, OnOk};
 ghost use Rattle.std.specs.List.{AllByRecursion};
 ghost use Rattle.sync_world.specs.declared.event.Event.TheVariants as events;
 ghost use Rattle.field_merge.specs.Messages.{AreMessages};
+ghost use Rattle.book_rows.specs.Months.{is_month};
+ghost use Rattle.sync_world.specs.Covering.{CoversNone, CoversTo};
 ghost use Rattle.sync_world.specs.Members.{IsReady, IsWorldEdit};
 ghost use Rattle.sync_world.specs.Steps.{EditsTo, Refuses, RefusesReply, StopsTo, TakesTo, fault_of};
 
@@ -114,5 +116,30 @@ pub(crate) fn stop_at<G: Ledger>(
     match stop_device(alloc, &mut devices[index], edit, reading, whole, steps) {
         Ok(told) => Ok(told),
         Err(refusal) => Err(fault_of(refusal)),
+    }
+}
+
+/// The device with this number covers a month YYYYMM.
+pub(crate) fn cover_at<G: Ledger>(
+    devices: &mut Vec<Device>,
+    number: u32,
+    month: u32,
+    steps: &mut Steps<G>,
+) -> Result<(), WorldFault>
+    requires ready { AllByRecursion IsReady devices.old.items }
+    requires month { is_month month ≡ true }
+    ensures ok { OnOk result (CoversTo number month devices.old.items devices.new.items) }
+    ensures none { IfErr result (CoversNone number devices.old.items devices.new.items) }
+{
+    if number == 0 {
+        return Err(WorldFault::NoSuchDevice { device: number });
+    }
+    let index = (number - 1) as usize;
+    if index >= devices.as_slice().len() {
+        return Err(WorldFault::NoSuchDevice { device: number });
+    }
+    match devices[index].cover(month, steps) {
+        Ok(()) => Ok(()),
+        Err(_) => Err(WorldFault::NoMemory),
     }
 }

@@ -1,5 +1,5 @@
 //! A world, and what an event makes of it.
-ghost use Rattle.std.specs.Prelude.{◌≡◌, ◌<◌, ◌-◌, ◌^◌, ◌++◌, ◌∷◌, [], length, map, false, IfOk, IfErr, IfSome, OnOk, option_map};
+ghost use Rattle.std.specs.Prelude.{◌≡◌, ◌<◌, ◌-◌, ◌^◌, ◌++◌, ◌∷◌, [], length, map, true, false, IfOk, IfErr, IfSome, OnOk, option_map};
 ghost use Rattle.std.specs.Option.{option_copied};
 ghost use Rattle.field_merge.specs.Log.{join};
 ghost use Rattle.field_merge.specs.Messages.{AreMessages};
@@ -9,17 +9,19 @@ ghost use Rattle.hybrid_clock.specs.Node.{IsNode};
 ghost use Rattle.device_core.specs.Device.{at_rest, begun};
 ghost use Rattle.sync_server.specs.Answer.{answer_of};
 ghost use Rattle.sync_world.specs.declared.event.Event.TheVariants as events;
+ghost use Rattle.book_rows.specs.Months.{is_month};
+ghost use Rattle.sync_world.specs.Covering.{covers};
 ghost use Rattle.sync_world.specs.Members.{IsEvent, IsReady, IsWorldEdit};
-ghost use Rattle.sync_world.specs.World.{device_of, request_of, start};
+ghost use Rattle.sync_world.specs.World.{device_of, request_of};
 ghost use Rattle.sync_world.specs.Promises.{KeepsPromises};
 ghost use Rattle.sync_world.specs.Right.{AreDifferent};
-ghost use Rattle.sync_world.specs.Whole.{IsDone, IsNotDone, IsWorld, wants_memory};
+ghost use Rattle.sync_world.specs.Whole.{HasCovered, IsDone, IsNotCovered, IsNotDone, IsWorld, at_start, wants_memory};
 
 use crate::adding::{add_makings, add_messages, note};
 use crate::event::{Event, Outcome, WorldEdit, WorldFault};
 use crate::laws::{right_worlds_keep, steps_stay_right};
 use crate::making::Making;
-use crate::places::{change_at, stop_at, take_at};
+use crate::places::{change_at, cover_at, stop_at, take_at};
 use device_core::Device;
 use field_merge::{Log, Message};
 use field_values::{NoMemory, Steps, Txt};
@@ -35,8 +37,8 @@ use sync_wire::{SyncRequest, SyncResponse};
 /// Devices and one server over a network that may lose a request or a reply, repeat it, and bring it late.
 ///
 /// A contract sees the messages, the clock and what can be undone and redone of each device, the messages that the server has, the lists of what
-/// was made, of what devices and the server acknowledged, and of the requests and replies that were sent, and whether the world is spent: a step
-/// that answers `NoMemory` leaves it so, and then nothing but `is_spent` may be asked of it.
+/// was made, of what devices and the server acknowledged, and of the requests and replies that were sent, the months whose cells each device keeps,
+/// and whether the world is spent: a call that answers `NoMemory` leaves it so, and then nothing but `is_spent` may be asked of it.
 #[derive(Drop)]
 pub struct World {
     alloc: Global,
@@ -53,11 +55,11 @@ pub struct World {
 
 impl Model for World {
     ghost use Rattle.std.specs.Prelude.{◌≡◌, false};
-    ghost use Rattle.sync_world.specs.Whole.{WorldModel, world_of, Holds};
+    ghost use Rattle.sync_world.specs.Whole.{WorldModel, world_of, model_of, Holds};
 
     ghost Value = { WorldModel };
 
-    ghost view = { λ w. record { world = world_of w.devices.items w.server w.made.items w.acknowledged.items w.kept.items w.requests.items w.replies.items; spent = w.spent } };
+    ghost view = { λ w. model_of w.devices.items w.server w.made.items w.acknowledged.items w.kept.items w.requests.items w.replies.items w.spent };
 
     ghost invariant = { λ w. w.spent ≡ false → Holds w.devices.items w.server w.trie (world_of w.devices.items w.server w.made.items w.acknowledged.items w.kept.items w.requests.items w.replies.items) };
 }
@@ -158,7 +160,7 @@ impl World {
     /// each clock stands at the start of 1970, and nothing was sent. The devices are numbered from 1, in the order of their nodes.
     pub fn new(alloc: Global, nodes: &[Node]) -> Result<World, NoMemory>
         requires { AreDifferent nodes.now }
-        ensures { IfOk result (λ w. w ≡ record { world = start nodes.now; spent = false }) }
+        ensures { IfOk result (λ w. w ≡ at_start nodes.now) }
     {
         let devices = begin_devices(alloc, nodes)?;
         let server = Log::new(alloc);
@@ -420,10 +422,42 @@ impl World {
         }
     }
 
+    /// Covers a month YYYYMM of the device with this number, so that it tells its cells, as [`Device::cover`] does.
+    ///
+    /// # Errors
+    ///
+    /// `NoSuchDevice` exactly where the number names none, before anything else; or `NoMemory`, after which the world is spent. No other
+    /// fault comes.
+    pub fn cover<G: Ledger>(
+        &mut self,
+        number: u32,
+        month: u32,
+        steps: &mut Steps<G>,
+    ) -> Result<(), WorldFault>
+        requires live { self.old.spent ≡ false }
+        requires month { is_month month ≡ true }
+        ensures ok { OnOk result (HasCovered number month self.old self.new) }
+        ensures covered { OnOk result (covers (device_of self.new.covered number) month ≡ true) }
+        ensures err { IfErr result (IsNotCovered number self.old self.new) }
+    {
+        self.spent = true;
+        match cover_at(&mut self.devices, number, month, steps) {
+            Ok(()) => {
+                self.spent = false;
+                Ok(())
+            }
+            Err(fault) => {
+                self.spent = wants_memory(&fault);
+                Err(fault)
+            }
+        }
+    }
+
     /// The device with this number, counted from 1. Nothing of it is pending.
     pub fn device(&self, number: u32) -> Option<&Device>
         requires { self.now.spent ≡ false }
         ensures state { option_map (λ d. d.state) (option_copied result) ≡ device_of self.now.world.devices number }
+        ensures covered { option_map (λ d. d.covered) (option_copied result) ≡ device_of self.now.covered number }
         ensures ready { IfSome (option_copied result) IsReady }
     {
         if number == 0 {

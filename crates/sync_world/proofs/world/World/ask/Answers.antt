@@ -2,7 +2,7 @@ use Rattle.std.proofs.Common.{ℕ, ◌-◌, Ok, false, length, refl, sym, ap, �
 use Rattle.std.proofs.lemmas.Option.{slice_get_read}
 use Rattle.sync_world.specs.declared.event.Event.TheVariants as events
 use Rattle.sync_world.specs.declared.event.Outcome.TheVariants.{Asked}
-use Rattle.sync_world.specs.Whole.{WorldModel, world_of, IsDone}
+use Rattle.sync_world.specs.Whole.{WorldModel, world_of, model_of, IsDone}
 use Rattle.sync_world.proofs.Wholes.{ask_done, ask_holds}
 use Rattle.sync_world.proofs.world.World.ask.Goals as goal
 
@@ -18,7 +18,7 @@ pub returns-in-Ok-clause-ok : goal.returns-in-Ok-clause-ok
 returns-in-Ok-clause-ok c =
     let i = c.self.inside in
     subst (λ (m : WorldModel). IsDone (events.Ask c.args.number c.args.since.now) m
-    (record { world = world_of i.devices.items i.server i.made.items i.acknowledged.items i.kept.items c.ask_at.new.requests.items i.replies.items; spent = false })
+    (model_of i.devices.items i.server i.made.items i.acknowledged.items i.kept.items c.ask_at.new.requests.items i.replies.items false)
     (Asked (length c.as_slice-2.result.now))) c.self.view_is
     (record {
       steps =

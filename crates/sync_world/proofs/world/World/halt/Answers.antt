@@ -3,7 +3,7 @@ use Rattle.std.proofs.lemmas.Option.{slice_get_read}
 use Rattle.field_merge.specs.Log.{join}
 use Rattle.sync_world.specs.declared.event.Event.TheVariants as events
 use Rattle.sync_world.specs.declared.event.Outcome.TheVariants.{Halted}
-use Rattle.sync_world.specs.Whole.{WorldModel, world_of, IsDone}
+use Rattle.sync_world.specs.Whole.{WorldModel, world_of, model_of, IsDone}
 use Rattle.sync_world.proofs.Wholes.{halt_done, halt_holds}
 use Rattle.sync_world.proofs.world.World.halt.Goals as goal
 
@@ -19,7 +19,7 @@ pub returns-in-Ok-clause-ok : goal.returns-in-Ok-clause-ok
 returns-in-Ok-clause-ok c =
     let i = c.self.inside in
     subst (λ (m : WorldModel). IsDone (events.Halt c.args.number c.args.whole) m
-    (record { world = world_of i.devices.items c.join_all.new.log i.made.items i.acknowledged.items i.kept.items i.requests.items i.replies.items; spent = false })
+    (model_of i.devices.items c.join_all.new.log i.made.items i.acknowledged.items i.kept.items i.requests.items i.replies.items false)
     Halted) c.self.view_is
     (record {
       steps = halt_done i.devices.items i.server c.join_all.new.log i.made.items i.acknowledged.items i.kept.items i.requests.items i.replies.items

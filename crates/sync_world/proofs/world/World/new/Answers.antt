@@ -1,6 +1,6 @@
-use Rattle.std.proofs.Common.{false, ap}
+use Rattle.std.proofs.Common.{ℕ, List, false, ap₂}
 use Rattle.sync_world.specs.World.{WorldState}
-use Rattle.sync_world.proofs.Wholes.{begins_holds, begins_world}
+use Rattle.sync_world.proofs.Wholes.{begins_holds, begins_world, begins_covered}
 use Rattle.sync_world.proofs.world.World.new.Goals as goal
 
 pub invariant_of-result : goal.invariant_of-result
@@ -11,6 +11,7 @@ invariant_of-result c = λ _.
 
 pub returns : goal.returns
 returns c =
-    ap (λ (w : WorldState). record { world = w; spent = false })
+    ap₂ (λ (w : WorldState) (rs : List (ℕ × ℕ)). record { world = w; covered = rs; spent = false })
     (begins_world c.args.nodes.now c.in_ok-devices.devices.items c.new-server.result c.new.result.items c.new-2.result.items c.new-3.result.items c.new-4.result.items c.new-5.result.items
     c.in_ok-devices.ensures c.new-server.ensures c.new.ensures.items c.new-2.ensures.items c.new-3.ensures.items c.new-4.ensures.items c.new-5.ensures.items)
+    (begins_covered c.args.nodes.now c.in_ok-devices.devices.items c.in_ok-devices.ensures)

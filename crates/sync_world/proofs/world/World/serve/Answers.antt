@@ -2,7 +2,7 @@ use Rattle.std.proofs.Common.{ℕ, Ok, false, length, refl, sym, ap, ◌∙◌, 
 use Rattle.std.proofs.lemmas.Option.{slice_get_read}
 use Rattle.sync_world.specs.declared.event.Event.TheVariants as events
 use Rattle.sync_world.specs.declared.event.Outcome.TheVariants.{Served}
-use Rattle.sync_world.specs.Whole.{WorldModel, world_of, IsDone}
+use Rattle.sync_world.specs.Whole.{WorldModel, world_of, model_of, IsDone}
 use Rattle.sync_world.proofs.Wholes.{serve_done, serve_holds}
 use Rattle.sync_world.proofs.world.World.serve.Goals as goal
 
@@ -19,7 +19,7 @@ pub returns-in-Ok-clause-ok : goal.returns-in-Ok-clause-ok
 returns-in-Ok-clause-ok c =
     let i = c.self.inside in
     subst (λ (m : WorldModel). IsDone (events.Serve c.args.number) m
-    (record { world = world_of i.devices.items c.serve_at.new.server i.made.items i.acknowledged.items c.serve_at.new.kept.items i.requests.items c.serve_at.new.replies.items; spent = false })
+    (model_of i.devices.items c.serve_at.new.server i.made.items i.acknowledged.items c.serve_at.new.kept.items i.requests.items c.serve_at.new.replies.items false)
     (Served (length c.as_slice-2.result.now) c.in-Ok.messages)) c.self.view_is
     (record {
       steps =
