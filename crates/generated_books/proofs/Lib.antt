@@ -1,0 +1,11 @@
+pub mod Ranges
+pub mod Numbers
+pub mod Rising
+pub mod Valid
+pub mod Joined
+pub mod Drawn
+pub mod WorkedOut
+pub mod Nodes
+pub mod Receiving
+pub mod Results
+pub mod Told
