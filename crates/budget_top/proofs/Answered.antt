@@ -1,11 +1,13 @@
 -- Commands that only read: they leave the state, and are answered.
-use Rattle.std.proofs.Common.{◌≡◌, ℕ, sym, ap, Result, Ok, Err, IfOk, OnOk}
-use Rattle.device_core.specs.Device.{State}
+use Rattle.std.proofs.Common.{◌≡◌, ℕ, [], sym, ap, ◌∙◌, subst, Result, Ok, Err, IfOk, OnOk}
+use Rattle.device_core.specs.Device.{State, DeviceState}
+use Rattle.device_core.specs.Accepting.{Brings}
 use Rattle.command_lines.specs.declared.command.Command.{Command}
 use Rattle.command_lines.specs.declared.command.Command.TheVariants.{Edit, Undo, Redo, Receive, Fields, Messages, Value, Trie, Balance, Register, Cell, Sheet, Broken, ScheduleStatus, Goals, TrackCell, TrackSheet, Sync}
 use Rattle.command_lines.specs.declared.reply.Reply.{Reply}
 use Rattle.command_lines.specs.Readings.{answer, IsReading}
 use Rattle.budget_top.specs.Session.{obeyed}
+use Rattle.budget_top.proofs.Obeying.{whether_ok}
 
 -- such a command is obeyed so, with this reply
 abbrev IsObeyed : State → Command → Reply → ℕ → Type 0
@@ -31,16 +33,25 @@ replied s (Goals month) reply h e reading = ap (λ (r : Reply). (s, r)) (sym e)
 replied s (TrackCell month name) reply h e reading = ap (λ (r : Reply). (s, r)) (sym e)
 replied s (TrackSheet month) reply h e reading = ap (λ (r : Reply). (s, r)) (sym e)
 
-pub reads : {E : Type 0} (s : State) (command : Command) (result : Result Reply E) → IsReading command → IfOk result (λ reply. reply ≡ answer s.messages command)
+reads_now : {E : Type 0} (s : State) (command : Command) (result : Result Reply E) → IsReading command → IfOk result (λ reply. reply ≡ answer s.messages command)
     → IfOk result (λ reply. (reading : ℕ) → obeyed s reading (Ok command) ≡ (s, reply))
-reads s command (Ok reply) h e = replied s command reply h e
-reads s command (Err fault) h e = tt
+reads_now s command (Ok reply) h e = replied s command reply h e
+reads_now s command (Err fault) h e = tt
 
-pub at_reading : {E : Type 0} (s : State) (command : Command) (reading : ℕ) (result : Result Reply E) → IfOk result (λ reply. (at : ℕ) → obeyed s at (Ok command) ≡ (s, reply))
-    → IfOk result (λ reply. obeyed s reading (Ok command) ≡ (s, reply))
-at_reading s command reading (Ok reply) h = h reading
-at_reading s command reading (Err fault) h = tt
+-- a device that is in the same state answers so
+pub reads : {E : Type 0} (old new : State) (command : Command) (result : Result Reply E) → IsReading command → new ≡ old → IfOk result (λ reply. reply ≡ answer new.messages command)
+    → IfOk result (λ reply. (reading : ℕ) → obeyed old reading (Ok command) ≡ (new, reply))
+reads old new command result h same e =
+    let P : State → Type 0 = λ s. IfOk result (λ reply. (reading : ℕ) → obeyed s reading (Ok command) ≡ (new, reply)) in
+    subst P same (reads_now new command result h e)
 
-pub on_any : {T E P : Type 0} (result : Result T E) → P → OnOk result P
-on_any (Ok value) p = p
-on_any (Err fault) p = tt
+-- and has brought nothing, where nothing is pending
+pub brings_none : {T E : Type 0} (old new : DeviceState) (result : Result T E) → old.batch ≡ [] → new.batch ≡ old.batch → new.state ≡ old.state
+    → OnOk result (Brings old.state.messages new)
+brings_none old new result idle batch same =
+    whether_ok (Brings old.state.messages new) result (record { news = []; batch = batch ∙ idle; messages = ap (λ (s : State). s.messages) same })
+
+pub at_reading : {E : Type 0} (old new : State) (command : Command) (reading : ℕ) (result : Result Reply E) → IfOk result (λ reply. (at : ℕ) → obeyed old at (Ok command) ≡ (new, reply))
+    → IfOk result (λ reply. obeyed old reading (Ok command) ≡ (new, reply))
+at_reading old new command reading (Ok reply) h = h reading
+at_reading old new command reading (Err fault) h = tt

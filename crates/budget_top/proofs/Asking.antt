@@ -11,13 +11,13 @@ use Rattle.hybrid_clock.specs.declared.node.NodeFault.{NodeFault}
 use Rattle.hybrid_clock.specs.Node.{node_of}
 use Rattle.field_merge.proofs.Members.{here, there}
 use Rattle.budget_top.specs.declared.words.Mode.{Mode}
-use Rattle.budget_top.specs.declared.words.Mode.TheVariants.{Merge, Device, Serve}
+use Rattle.budget_top.specs.declared.words.Mode.TheVariants.{Merge, Device, Serve, Generate, World}
 use Rattle.budget_top.specs.declared.words.Plan.{Plan}
 use Rattle.budget_top.specs.declared.words.WordFault.{WordFault}
 use Rattle.budget_top.specs.declared.words.WordFault.TheVariants.{Mode as BadMode, Count, Token, Name}
 use Rattle.budget_top.specs.Line.{Pair, mode, parts, anywhere, has, each_once, is_line, line_of, line, value_in}
-use Rattle.budget_top.specs.Words.{◌>>=◌, mode_named, node_given, node_for, is_plain_number, is_within, count_of, count_from, is_name_byte, is_name, name_or, planned_by, planned_line}
-use Rattle.budget_top.specs.Asking.{IsAbsent, IsGivenOr, IsModeOf, IsNodeOf, IsStoreOf, IsCount, IsCountOf, IsNameText, IsPlanOf, PlansAreAsked}
+use Rattle.budget_top.specs.Words.{◌>>=◌, mode_named, most_of, node_given, node_for, is_plain_number, is_within, count_of, count_from, is_name_byte, is_name, name_or, planned_by, planned_line}
+use Rattle.budget_top.specs.Asking.{IsAbsent, IsGivenOr, IsModeOf, IsNodeOf, IsStoreOf, IsCount, most_in, IsCountOf, IsNameText, IsPlanOf, PlansAreAsked}
 
 -- ---- what stands under a name
 
@@ -121,27 +121,32 @@ is_store pairs (Some path) once c = given_value pairs (codes "store") path once 
 mode_is : (pairs : List Pair) (m : Mode) → mode_named (unwrap_or (value_in pairs mode) []) ≡ Ok m → IsModeOf pairs m
 mode_is pairs m e = of_given (value_in pairs mode) refl e
   where
-    named : (word : List ℕ) (merge device serve : Bool) → value_in pairs mode ≡ Some word → bytes_eq word (codes "merge") ≡ merge → bytes_eq word (codes "device") ≡ device → bytes_eq word (codes "serve") ≡ serve
-        → cond merge (Ok Merge) (cond device (Ok Device) (cond serve (Ok Serve) (Err BadMode))) ≡ Ok m → IsModeOf pairs m
-    named word true device serve given f g h e =
-        let same : Merge ≡ m = cc in
-        subst (IsModeOf pairs) same (value_given pairs mode (codes "merge") (given ∙ ap (λ x. Some x) ((bytes_eq-Decides word (codes "merge")).0 f)))
-    named word false true serve given f g h e =
-        let same : Device ≡ m = cc in
-        subst (IsModeOf pairs) same (value_given pairs mode (codes "device") (given ∙ ap (λ x. Some x) ((bytes_eq-Decides word (codes "device")).0 g)))
-    named word false false true given f g h e =
-        let same : Serve ≡ m = cc in
-        subst (IsModeOf pairs) same (value_given pairs mode (codes "serve") (given ∙ ap (λ x. Some x) ((bytes_eq-Decides word (codes "serve")).0 h)))
-    named word false false false given f g h e = absurd (cc)
+    -- the word is the one that is given
+    is_given : (word name : List ℕ) → value_in pairs mode ≡ Some word → bytes_eq word name ≡ true → Contains pairs (mode, name)
+    is_given word name given f = value_given pairs mode name (given ∙ ap (λ x. Some x) ((bytes_eq-Decides word name).0 f))
+
+    named : (word : List ℕ) (merge device serve generate world : Bool) → value_in pairs mode ≡ Some word
+        → bytes_eq word (codes "merge") ≡ merge → bytes_eq word (codes "device") ≡ device → bytes_eq word (codes "serve") ≡ serve → bytes_eq word (codes "generate") ≡ generate → bytes_eq word (codes "world") ≡ world
+        → cond merge (Ok Merge) (cond device (Ok Device) (cond serve (Ok Serve) (cond generate (Ok Generate) (cond world (Ok World) (Err BadMode))))) ≡ Ok m → IsModeOf pairs m
+    named word true device serve generate world given f g h k l e = let same : Merge ≡ m = cc in subst (IsModeOf pairs) same (is_given word (codes "merge") given f)
+    named word false true serve generate world given f g h k l e = let same : Device ≡ m = cc in subst (IsModeOf pairs) same (is_given word (codes "device") given g)
+    named word false false true generate world given f g h k l e = let same : Serve ≡ m = cc in subst (IsModeOf pairs) same (is_given word (codes "serve") given h)
+    named word false false false true world given f g h k l e = let same : Generate ≡ m = cc in subst (IsModeOf pairs) same (is_given word (codes "generate") given k)
+    named word false false false false true given f g h k l e = let same : World ≡ m = cc in subst (IsModeOf pairs) same (is_given word (codes "world") given l)
+    named word false false false false false given f g h k l e = absurd (cc)
 
     of_given : (o : Option (List ℕ)) → value_in pairs mode ≡ o → mode_named (unwrap_or o []) ≡ Ok m → IsModeOf pairs m
     of_given None f e = absurd (cc)
-    of_given (Some word) f e = named word (bytes_eq word (codes "merge")) (bytes_eq word (codes "device")) (bytes_eq word (codes "serve")) f refl refl refl e
+    of_given (Some word) f e =
+        named word (bytes_eq word (codes "merge")) (bytes_eq word (codes "device")) (bytes_eq word (codes "serve")) (bytes_eq word (codes "generate")) (bytes_eq word (codes "world"))
+        f refl refl refl refl refl e
 
 is_mode : (pairs : List Pair) (m : Mode) → each_once pairs ≡ true → IsModeOf pairs m → mode_named (unwrap_or (value_in pairs mode) []) ≡ Ok m
 is_mode pairs Merge once c = ap (λ o. mode_named (unwrap_or o [])) (given_value pairs mode (codes "merge") once c)
 is_mode pairs Device once c = ap (λ o. mode_named (unwrap_or o [])) (given_value pairs mode (codes "device") once c)
 is_mode pairs Serve once c = ap (λ o. mode_named (unwrap_or o [])) (given_value pairs mode (codes "serve") once c)
+is_mode pairs Generate once c = ap (λ o. mode_named (unwrap_or o [])) (given_value pairs mode (codes "generate") once c)
+is_mode pairs World once c = ap (λ o. mode_named (unwrap_or o [])) (given_value pairs mode (codes "world") once c)
 
 node_is : (pairs : List Pair) (m : Mode) (node : Option (List ℕ)) → node_for m (value_in pairs (codes "node")) ≡ Ok node → IsNodeOf pairs m node
 node_is pairs m node e = of_given m (value_in pairs (codes "node")) refl e
@@ -157,20 +162,30 @@ node_is pairs m node e = of_given m (value_in pairs (codes "node")) refl e
         let same : ◌≡◌ {A = Option (List ℕ)} None node = cc in subst (IsNodeOf pairs Merge) same (value_absent pairs (codes "node") f, λ is. cc)
     of_given Serve None f e =
         let same : ◌≡◌ {A = Option (List ℕ)} None node = cc in subst (IsNodeOf pairs Serve) same (value_absent pairs (codes "node") f, λ is. cc)
+    of_given Generate None f e =
+        let same : ◌≡◌ {A = Option (List ℕ)} None node = cc in subst (IsNodeOf pairs Generate) same (value_absent pairs (codes "node") f, λ is. cc)
+    of_given World None f e =
+        let same : ◌≡◌ {A = Option (List ℕ)} None node = cc in subst (IsNodeOf pairs World) same (value_absent pairs (codes "node") f, λ is. cc)
     of_given Device None f e = absurd (cc)
     of_given Merge (Some text) f e = named Merge text (node_of text) f refl e
     of_given Device (Some text) f e = named Device text (node_of text) f refl e
     of_given Serve (Some text) f e = named Serve text (node_of text) f refl e
+    of_given Generate (Some text) f e = named Generate text (node_of text) f refl e
+    of_given World (Some text) f e = named World text (node_of text) f refl e
 
 given_for : (m : Mode) (text : List ℕ) → node_for m (Some text) ≡ node_given (node_of text)
 given_for Merge text = refl
 given_for Device text = refl
 given_for Serve text = refl
+given_for Generate text = refl
+given_for World text = refl
 
 without : (m : Mode) → m ≢ Device → node_for m None ≡ Ok None
 without Merge other = refl
 without Device other = absurd (other refl)
 without Serve other = refl
+without Generate other = refl
+without World other = refl
 
 is_node : (pairs : List Pair) (m : Mode) (node : Option (List ℕ)) → each_once pairs ≡ true → IsNodeOf pairs m node → node_for m (value_in pairs (codes "node")) ≡ Ok node
 is_node pairs m None once absent =
@@ -178,51 +193,60 @@ is_node pairs m None once absent =
 is_node pairs m (Some node) once (text, c, e) =
     ap (node_for m) (given_value pairs (codes "node") text once c) ∙ given_for m text ∙ ap node_given e
 
-count_is : (text : List ℕ) (number : ℕ) → count_of text ≡ Some number → IsCount text number
-count_is text number e = by (is_plain_number text && is_within (digits_value 10 text)) refl e
+most_is : (m : Mode) → most_of m ≡ most_in m
+most_is Merge = refl
+most_is Device = refl
+most_is Serve = refl
+most_is Generate = refl
+most_is World = refl
+
+count_is : (most : ℕ) (text : List ℕ) (number : ℕ) → count_of most text ≡ Some number → IsCount most text number
+count_is most text number e = by (is_plain_number text && is_within most (digits_value 10 text)) refl e
   where
-    by : (t : Bool) → (is_plain_number text && is_within (digits_value 10 text)) ≡ t → cond t (Some (digits_value 10 text)) None ≡ Some number → IsCount text number
+    by : (t : Bool) → (is_plain_number text && is_within most (digits_value 10 text)) ≡ t → cond t (Some (digits_value 10 text)) None ≡ Some number → IsCount most text number
     by false f e = absurd (cc)
     by true f e =
         let value : digits_value 10 text ≡ number = cc in
-        let both = and_parts (is_plain_number text) (is_within (digits_value 10 text)) f in
+        let both = and_parts (is_plain_number text) (is_within most (digits_value 10 text)) f in
         let plain = and_parts (list_all is_ascii_digit text) (not (slice_index text 0 == 48)) both.0 in
-        let within = and_parts (nat_le 1 (digits_value 10 text)) (nat_le (digits_value 10 text) 1_000_000) both.1 in
+        let within = and_parts (nat_le 1 (digits_value 10 text)) (nat_le (digits_value 10 text) most) both.1 in
         record {
           digits = plain.0;
           plain = eqb-false (slice_index text 0) 48 (not_true (slice_index text 0 == 48) plain.1);
           value = value;
           some = subst (λ n. 1 ≤ n) value (leb-true 1 (digits_value 10 text) within.0);
-          few = subst (λ n. n ≤ 1_000_000) value (leb-true (digits_value 10 text) 1_000_000 within.1);
+          few = subst (λ n. n ≤ most) value (leb-true (digits_value 10 text) most within.1);
         }
       where
         not_true : (t : Bool) → not t ≡ true → t ≡ false
         not_true true e = cc
         not_true false e = refl
 
-is_count : (text : List ℕ) (number : ℕ) → IsCount text number → count_of text ≡ Some number
-is_count text number h =
+is_count : (most : ℕ) (text : List ℕ) (number : ℕ) → IsCount most text number → count_of most text ≡ Some number
+is_count most text number h =
     let plain : is_plain_number text ≡ true = and_from (list_all is_ascii_digit text) (not (slice_index text 0 == 48)) h.digits (ap not (ne_eqb (slice_index text 0) 48 h.plain)) in
-    let within : is_within number ≡ true = and_from (nat_le 1 number) (nat_le number 1_000_000) (le-leb 1 number h.some) (le-leb number 1_000_000 h.few) in
-    let tests : (is_plain_number text && is_within (digits_value 10 text)) ≡ true = and_from (is_plain_number text) (is_within (digits_value 10 text)) plain (ap is_within h.value ∙ within) in
+    let within : is_within most number ≡ true = and_from (nat_le 1 number) (nat_le number most) (le-leb 1 number h.some) (le-leb number most h.few) in
+    let tests : (is_plain_number text && is_within most (digits_value 10 text)) ≡ true = and_from (is_plain_number text) (is_within most (digits_value 10 text)) plain (ap (is_within most) h.value ∙ within) in
     ap (λ t. cond t (Some (digits_value 10 text)) None) tests ∙ ap (λ n. Some n) h.value
 
-count_asked : (pairs : List Pair) (count : ℕ) → count_from (value_in pairs (codes "count")) ≡ Ok count → IsCountOf pairs count
-count_asked pairs count e = of_given (value_in pairs (codes "count")) refl e
+count_asked : (pairs : List Pair) (m : Mode) (count : ℕ) → count_from m (value_in pairs (codes "count")) ≡ Ok count → IsCountOf pairs m count
+count_asked pairs m count e = of_given (value_in pairs (codes "count")) refl e
   where
-    said : (text : List ℕ) (o : Option ℕ) → value_in pairs (codes "count") ≡ Some text → count_of text ≡ o → ok_or o Count ≡ Ok count → IsCountOf pairs count
+    said : (text : List ℕ) (o : Option ℕ) → value_in pairs (codes "count") ≡ Some text → count_of (most_of m) text ≡ o → ok_or o Count ≡ Ok count → IsCountOf pairs m count
     said text None given f e = absurd (cc)
     said text (Some number) given f e =
-        let same : number ≡ count = cc in inl (text, value_given pairs (codes "count") text given, subst (IsCount text) same (count_is text number f))
+        let same : number ≡ count = cc in
+        inl (text, value_given pairs (codes "count") text given, subst (λ n. IsCount n text count) (most_is m) (subst (IsCount (most_of m) text) same (count_is (most_of m) text number f)))
 
-    of_given : (o : Option (List ℕ)) → value_in pairs (codes "count") ≡ o → count_from o ≡ Ok count → IsCountOf pairs count
+    of_given : (o : Option (List ℕ)) → value_in pairs (codes "count") ≡ o → count_from m o ≡ Ok count → IsCountOf pairs m count
     of_given None f e = let same : 1000 ≡ count = cc in inr (value_absent pairs (codes "count") f, sym same)
-    of_given (Some text) f e = said text (count_of text) f refl e
+    of_given (Some text) f e = said text (count_of (most_of m) text) f refl e
 
-asked_count : (pairs : List Pair) (count : ℕ) → each_once pairs ≡ true → IsCountOf pairs count → count_from (value_in pairs (codes "count")) ≡ Ok count
-asked_count pairs count once (inl (text, c, is)) =
-    ap count_from (given_value pairs (codes "count") text once c) ∙ ap (λ (o : Option ℕ). ok_or o Count) (is_count text count is)
-asked_count pairs count once (inr absent) = ap count_from (absent_value pairs (codes "count") absent.0) ∙ ap (λ n. Ok n) (sym absent.1)
+asked_count : (pairs : List Pair) (m : Mode) (count : ℕ) → each_once pairs ≡ true → IsCountOf pairs m count → count_from m (value_in pairs (codes "count")) ≡ Ok count
+asked_count pairs m count once (inl (text, c, is)) =
+    ap (count_from m) (given_value pairs (codes "count") text once c)
+    ∙ ap (λ (o : Option ℕ). ok_or o Count) (is_count (most_of m) text count (subst (λ n. IsCount n text count) (sym (most_is m)) is))
+asked_count pairs m count once (inr absent) = ap (count_from m) (absent_value pairs (codes "count") absent.0) ∙ ap (λ n. Ok n) (sym absent.1)
 
 name_text : (text : List ℕ) → is_name text ≡ true → IsNameText text
 name_text text e =
@@ -253,7 +277,7 @@ planned_is : (pairs : List Pair) (plan : Plan) → planned_by (value_in pairs) �
 planned_is pairs plan e =
     let m = then_ok (mode_named (unwrap_or (value_in pairs mode) [])) _ plan e in
     let node = then_ok (node_for m.0 (value_in pairs (codes "node"))) _ plan m.2 in
-    let count = then_ok (count_from (value_in pairs (codes "count"))) _ plan node.2 in
+    let count = then_ok (count_from m.0 (value_in pairs (codes "count"))) _ plan node.2 in
     let token = then_ok (name_or Token (unwrap_or (value_in pairs (codes "token")) (codes "local"))) _ plan count.2 in
     let file = then_ok (name_or Name (unwrap_or (value_in pairs (codes "file")) (codes "home"))) _ plan token.2 in
     let group = then_ok (name_or Name (unwrap_or (value_in pairs (codes "group")) (codes "home"))) _ plan file.2 in
@@ -273,7 +297,7 @@ planned_is pairs plan e =
       mode = mode_is pairs m.0 m.1;
       store = store_is pairs made.store refl;
       node = node_is pairs m.0 node.0 node.1;
-      count = count_asked pairs count.0 count.1;
+      count = count_asked pairs m.0 count.0 count.1;
       token = name_is Token pairs (codes "token") (codes "local") token.0 token.1;
       file = name_is Name pairs (codes "file") (codes "home") file.0 file.1;
       group = name_is Name pairs (codes "group") (codes "home") group.0 group.1;
@@ -288,7 +312,7 @@ is_planned pairs plan once h =
     let store = is_store pairs plan.store once h.store in
     ok_then (mode_named (unwrap_or (value_in pairs mode) [])) _ plan.mode plan (is_mode pairs plan.mode once h.mode) (
     ok_then (node_for plan.mode (value_in pairs (codes "node"))) _ plan.node plan (is_node pairs plan.mode plan.node once h.node) (
-    ok_then (count_from (value_in pairs (codes "count"))) _ plan.count plan (asked_count pairs plan.count once h.count) (
+    ok_then (count_from plan.mode (value_in pairs (codes "count"))) _ plan.count plan (asked_count pairs plan.mode plan.count once h.count) (
     ok_then (name_or Token (unwrap_or (value_in pairs (codes "token")) (codes "local"))) _ plan.token plan (is_named Token pairs (codes "token") (codes "local") plan.token once h.token) (
     ok_then (name_or Name (unwrap_or (value_in pairs (codes "file")) (codes "home"))) _ plan.file plan (is_named Name pairs (codes "file") (codes "home") plan.file once h.file) (
     ok_then (name_or Name (unwrap_or (value_in pairs (codes "group")) (codes "home"))) _ plan.group plan (is_named Name pairs (codes "group") (codes "home") plan.group once h.group) (

@@ -14,6 +14,8 @@ pub mod Plain
 pub mod Syncing
 pub mod Serving
 pub mod Answering
+pub mod Playing
+pub mod WorldRuns
 pub mod Obeying
 mod Obeyed
 mod Answered
@@ -28,6 +30,7 @@ pub mod ClapWhole
 pub mod Spelled
 pub mod Hyphens
 pub mod Refusing
+pub mod RefusingPlays
 pub mod LineWriting
 pub mod Valid
 pub mod CutLines
@@ -43,6 +46,8 @@ pub mod ServeEnds
 pub mod Staying
 pub mod NotRisen
 pub mod RepliedTo
+pub mod Inputs
+pub mod UnfailedPlays
 pub mod WithoutFaults
 pub mod NeverLost
 pub mod Acknowledged

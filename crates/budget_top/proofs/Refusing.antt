@@ -21,7 +21,7 @@ use Rattle.budget_top.proofs.Running.{run_untouched}
 at_fault : (due : Result Plan WordFault) (fault : WordFault) → due ≡ Err fault → IsErr due
 at_fault due fault e = subst IsErr (sym e) refl
 
-refusal : (due : Result Plan WordFault) (fault : WordFault) → IsWordFault due fault → IsErr due ⊎ (refusal_status fault ≡ 7)
+pub refusal : (due : Result Plan WordFault) (fault : WordFault) → IsWordFault due fault → IsErr due ⊎ (refusal_status fault ≡ 7)
 refusal due Words h = inl (at_fault due Words h)
 refusal due BadMode h = inl (at_fault due BadMode h)
 refusal due NodeMissing h = inl (at_fault due NodeMissing h)

@@ -272,7 +272,7 @@ halts_between e read old now s =
 
 -- what was due goes on
 
-first_more : (xs ys zs : List (List ℕ)) → AreFirst xs ys → AreFirst ys zs → AreFirst xs zs
+pub first_more : (xs ys zs : List (List ℕ)) → AreFirst xs ys → AreFirst ys zs → AreFirst xs zs
 first_more xs ys zs h k = (h.0 ++ k.0, sym (append_assoc xs h.0 k.0) ∙ ap (λ ls. ls ++ k.0) h.1 ∙ k.1)
 
 halts_more : (e : Entry) (alone : Type 0) (due more : List (List ℕ)) (now : Seen) → AreFirst due more → Halts e alone due now → Halts e alone more now
@@ -322,7 +322,7 @@ stands_rest e read bytes at session now s =
 
 -- the end of the input
 
-no_bytes : (line : List ℕ) → kept_line line ≡ Some [] → line ≡ []
+pub no_bytes : (line : List ℕ) → kept_line line ≡ Some [] → line ≡ []
 no_bytes line h = by (nat_lt longest_line (length line)) h
   where
     by : (t : Bool) → cond t None (Some line) ≡ Some [] → line ≡ []

@@ -36,26 +36,8 @@ use Rattle.budget_top.specs.Outside.{Outside}
 use Rattle.budget_top.specs.Ran.{Ran}
 use Rattle.budget_top.specs.Unfailed.{IsInput, Ends, all_good, one_bad, no_memory, Merges, MergesUnfailed, HandlesEach, HandlesUnfailed, IsUnfailedTurn, ServesEach, Serves, all_served, none_served, ServesUnfailed, EndsWell, MergesWell, HandlesWell, EndsUnfailed}
 use Rattle.budget_top.proofs.NotRisen.{by_known, is_not, not_so, count_grows, stays_more, rises_by}
-
--- the mode that the words name is that of their plan
-named_mode : (asked : List (List ℕ)) (plan : Plan) (mode : Mode) → planned asked ≡ Ok plan → plan.mode ≡ mode → planned_mode asked ≡ Some mode
-named_mode asked plan mode is e = ap (λ (r : Result Plan WordFault). option_map (λ (p : Plan). p.mode) (result_ok r)) is ∙ ap Some e
-
--- no more was read than there was
-read_within : (left new_left : Option (List ℕ)) (input read : List ℕ) → IsInput left input → Consumes left new_left read → length read ≤ most_input
-read_within left new_left input read h reads = by new_left (subst (λ (x : Option (List ℕ)). Consumes x new_left read) h.has reads)
-  where
-    by : (new : Option (List ℕ)) → Consumes (Some input) new read → length read ≤ most_input
-    by None c = absurd c
-    by (Some rest) c = omega (arith, h.within, ap length c, length-append read rest)
-
--- at the end all was read
-read_all : (left new_left : Option (List ℕ)) (input read : List ℕ) → IsInput left input → Consumes left new_left read → IsAtEnd new_left → read ≡ input
-read_all left new_left input read h reads end = by new_left (subst (λ (x : Option (List ℕ)). Consumes x new_left read) h.has reads) end
-  where
-    by : (new : Option (List ℕ)) → Consumes (Some input) new read → IsAtEnd new → read ≡ input
-    by None c e = absurd c
-    by (Some rest) c e = sym (c ∙ ap (λ r. read ++ r) e ∙ append-nil read)
+use Rattle.budget_top.proofs.Inputs.{named_mode, read_within, read_all, ends_well}
+use Rattle.budget_top.proofs.UnfailedPlays.{generates, plays, plays_well}
 
 merges_so : (status : ℕ) (left new_left taken new_taken : Option (List ℕ)) (input : List ℕ) → MergeRun status left new_left taken new_taken → IsInput left input
     → (status ≡ 4 → ⊥) → (status ≡ 5 → ⊥) → Ends status (λ has_bad. Merges has_bad input new_left taken new_taken)
@@ -241,9 +223,6 @@ serves law asked status old now ran = λ plan is mode sink keeper door.
 
 -- ---- whatever the source tells
 
-ends_well : (status n : ℕ) → EndsWell n → status ≡ n → EndsWell status
-ends_well status n good e = subst EndsWell (sym e) good
-
 device_well : (node : List ℕ) (target : Target) (status : ℕ) (left new_left : Option (List ℕ)) (faults new_faults : ℕ) (old now : Seen) (first : List Message)
     → DeviceRun node target status left new_left faults new_faults old now → now.tells → kept_set (device_records old.contents) ≡ Ok first
     → (status ≡ 4 → ⊥) → (status ≡ 5 → ⊥) → (status ≡ 6 → ⊥) → EndsWell status
@@ -283,6 +262,9 @@ ends_unfailed plans connections asked status old now ran = record {
   merge = merges asked status old now ran;
   device = handles plans asked status old now ran;
   serve = serves connections asked status old now ran;
+  generate = generates asked status old now ran;
+  world = plays asked status old now ran;
   merge_untold = merges_well asked status old now ran;
   device_untold = handles_well plans asked status old now ran;
+  world_untold = plays_well asked status old now ran;
 }

@@ -5,7 +5,7 @@ use Rattle.std.specs.List.{list_all, Contains}
 use Rattle.std.specs.Str.Parse.{digits_value}
 use Rattle.hybrid_clock.specs.Node.{node_of}
 use Rattle.budget_top.specs.declared.words.Mode.{Mode}
-use Rattle.budget_top.specs.declared.words.Mode.TheVariants.{Merge, Device, Serve}
+use Rattle.budget_top.specs.declared.words.Mode.TheVariants.{Merge, Device, Serve, Generate, World}
 use Rattle.budget_top.specs.declared.words.Plan.{Plan}
 use Rattle.budget_top.specs.Line.{Pair, line}
 use Rattle.budget_top.specs.Words.{is_name_byte, planned}
@@ -23,30 +23,37 @@ abbrev pub IsModeOf : List Pair → Mode → Type 0
 IsModeOf pairs Merge = Contains pairs (codes "mode", codes "merge")
 IsModeOf pairs Device = Contains pairs (codes "mode", codes "device")
 IsModeOf pairs Serve = Contains pairs (codes "mode", codes "serve")
+IsModeOf pairs Generate = Contains pairs (codes "mode", codes "generate")
+IsModeOf pairs World = Contains pairs (codes "mode", codes "world")
 
 -- the node is the one that the given text names; a device has one
 abbrev pub IsNodeOf : List Pair → Mode → Option (List ℕ) → Type 0
 IsNodeOf pairs mode None = IsAbsent pairs (codes "node") × (mode ≢ Device)
 IsNodeOf pairs mode (Some node) = (text : List ℕ) × Contains pairs (codes "node", text) × (node_of text ≡ Ok node)
 
--- the text is the plain digits of the number, which is from 1 to 1,000,000
-pub record IsCount (text : List ℕ) (number : ℕ) : Type 0 where
+-- the text is the plain digits of the number, which is from 1 to the greatest one
+pub record IsCount (most : ℕ) (text : List ℕ) (number : ℕ) : Type 0 where
   pub digits : list_all is_ascii_digit text ≡ true
   -- no `0` in front
   pub plain : slice_index text 0 ≢ 48
   pub value : digits_value 10 text ≡ number
   pub some : 1 ≤ number
-  pub few : number ≤ 1_000_000
+  pub few : number ≤ most
 
 -- the store is the path that is given, or there is none
 abbrev pub IsStoreOf : List Pair → Option (List ℕ) → Type 0
 IsStoreOf pairs None = IsAbsent pairs (codes "store")
 IsStoreOf pairs (Some path) = Contains pairs (codes "store", path)
 
+-- the most that a count may be: 100,000 transactions of a book that is generated, and else 1,000,000
+abbrev pub most_in : Mode → ℕ
+most_in Generate = 100_000
+most_in other = 1_000_000
+
 -- the count is the number that the given text says, or 1000
-abbrev pub IsCountOf : List Pair → ℕ → Type 0
-IsCountOf pairs count =
-    ((text : List ℕ) × Contains pairs (codes "count", text) × IsCount text count) ⊎ (IsAbsent pairs (codes "count") × (count ≡ 1000))
+abbrev pub IsCountOf : List Pair → Mode → ℕ → Type 0
+IsCountOf pairs mode count =
+    ((text : List ℕ) × Contains pairs (codes "count", text) × IsCount (most_in mode) text count) ⊎ (IsAbsent pairs (codes "count") × (count ≡ 1000))
 
 -- one to sixty-four letters, digits, hyphens and low lines
 pub record IsNameText (text : List ℕ) : Type 0 where
@@ -59,7 +66,7 @@ pub record IsPlanOf (pairs : List Pair) (plan : Plan) : Type 0 where
   pub mode : IsModeOf pairs plan.mode
   pub store : IsStoreOf pairs plan.store
   pub node : IsNodeOf pairs plan.mode plan.node
-  pub count : IsCountOf pairs plan.count
+  pub count : IsCountOf pairs plan.mode plan.count
   pub token : IsGivenOr pairs (codes "token") (codes "local") plan.token × IsNameText plan.token
   pub file : IsGivenOr pairs (codes "file") (codes "home") plan.file × IsNameText plan.file
   pub group : IsGivenOr pairs (codes "group") (codes "home") plan.group × IsNameText plan.group

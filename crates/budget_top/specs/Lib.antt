@@ -8,6 +8,7 @@ pub mod Verdicts
 pub mod KeptLine
 pub mod Fronts
 pub mod MergeRun
+pub mod GenerateRun
 pub mod Stops
 pub mod Steps
 pub mod Session
@@ -20,6 +21,9 @@ pub mod SyncSteps
 pub mod Standing
 pub mod DeviceRun
 pub mod DeviceSteps
+pub mod Playing
+pub mod WorldRun
+pub mod WorldSteps
 pub mod Outside
 pub mod Serving
 pub mod Answers

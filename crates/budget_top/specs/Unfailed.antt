@@ -5,7 +5,7 @@ use Rattle.std.specs.Io.KnownBytes.{Appends, IsAtEnd}
 use Rattle.budget_ports.specs.Faults.{IsUnfailed}
 use Rattle.field_merge.specs.declared.message.Message.{Message}
 use Rattle.kept_messages.specs.Records.{kept_set}
-use Rattle.budget_top.specs.declared.words.Mode.TheVariants.{Merge, Device, Serve}
+use Rattle.budget_top.specs.declared.words.Mode.TheVariants.{Merge, Device, Serve, Generate, World}
 use Rattle.budget_top.specs.declared.words.Plan.{Plan}
 use Rattle.budget_top.specs.Words.{planned}
 use Rattle.budget_top.specs.Lines.{all_lines}
@@ -20,6 +20,8 @@ use Rattle.sync_server.specs.Outside.{HasFound}
 use Rattle.sync_server.specs.Serving.{Accepts, Decides}
 use Rattle.budget_top.specs.Serving.{Turn, kept_by}
 use Rattle.budget_top.specs.ServeRun.{AtDoor, door_of, with_file, HasServed}
+use Rattle.budget_top.specs.GenerateRun.{book_text}
+use Rattle.budget_top.specs.Playing.{replies_text, some_line_refused}
 use Rattle.budget_top.specs.Outside.{Outside}
 use Rattle.budget_top.specs.Replied.{GetsReply}
 
@@ -88,6 +90,30 @@ ServesUnfailed asked status old now = (plan : Plan) → planned asked ≡ Ok pla
     → IsUnfailed old.sink_faults now.sink_faults → IsUnfailed old.keeper_faults now.keeper_faults → IsUnfailed old.door_faults now.door_faults
     → Serves plan status (door_of old) (door_of now)
 
+-- ---- generate
+
+-- all was written; or memory ran out
+pub data Generates (count status : ℕ) (taken new_taken : Option (List ℕ)) : Type 0 where
+  all_written : status ≡ 0 → Appends taken new_taken (book_text count) → Generates count status taken new_taken
+  none_written : status ≡ 7 → Generates count status taken new_taken
+
+abbrev pub GeneratesUnfailed : List (List ℕ) → ℕ → Outside → Outside → Type 0
+GeneratesUnfailed asked status old now = (plan : Plan) → planned asked ≡ Ok plan → plan.mode ≡ Generate
+    → IsUnfailed old.sink_faults now.sink_faults → Generates plan.count status old.seen.taken now.seen.taken
+
+-- ---- world
+
+-- all lines of the input were read, each has its reply, and one was refused or none
+pub record Plays (has_bad : Bool) (input : List ℕ) (left taken new_taken : Option (List ℕ)) : Type 0 where
+  pub at_end : IsAtEnd left
+  pub bad : some_line_refused (all_lines input) ≡ has_bad
+  pub written : Appends taken new_taken (replies_text (all_lines input))
+
+abbrev pub PlaysUnfailed : List (List ℕ) → ℕ → Outside → Outside → Type 0
+PlaysUnfailed asked status old now = (plan : Plan) (input : List ℕ) → planned asked ≡ Ok plan → plan.mode ≡ World
+    → IsInput old.left input → IsUnfailed old.source_faults now.source_faults → IsUnfailed old.sink_faults now.sink_faults
+    → Ends status (λ has_bad. Plays has_bad input now.left old.seen.taken now.seen.taken)
+
 -- ---- of a source that doesn't tell what it has left, as standard input
 
 -- 0, 1 or 7; or 9, where more was read than a run takes
@@ -103,6 +129,10 @@ HandlesWell asked status old now = (plan : Plan) (first : List Message) → plan
     → now.seen.tells → kept_set (device_records old.seen.contents) ≡ Ok first
     → IsUnfailed old.source_faults now.source_faults → IsUnfailed old.sink_faults now.sink_faults → IsUnfailed old.keeper_faults now.keeper_faults → EndsWell status
 
+abbrev pub PlaysWell : List (List ℕ) → ℕ → Outside → Outside → Type 0
+PlaysWell asked status old now = (plan : Plan) → planned asked ≡ Ok plan → plan.mode ≡ World
+    → IsUnfailed old.source_faults now.source_faults → IsUnfailed old.sink_faults now.sink_faults → EndsWell status
+
 -- ---- each mode
 
 -- where words are accepted, no count rose, and what is kept reads as messages, all that is asked for was done, or memory ran out
@@ -110,6 +140,9 @@ pub record EndsUnfailed (asked : List (List ℕ)) (status : ℕ) (old now : Outs
   pub merge : MergesUnfailed asked status old now
   pub device : HandlesUnfailed asked status old now
   pub serve : ServesUnfailed asked status old now
+  pub generate : GeneratesUnfailed asked status old now
+  pub world : PlaysUnfailed asked status old now
   -- whatever the source tells
   pub merge_untold : MergesWell asked status old now
   pub device_untold : HandlesWell asked status old now
+  pub world_untold : PlaysWell asked status old now

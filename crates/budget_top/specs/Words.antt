@@ -1,5 +1,5 @@
 -- What the words of the command line ask for.
-use Rattle.std.specs.Prelude.{◌≡◌, ℕ, ◌&&◌, ◌||◌, ◌==◌, nat_le, Bool, not, List, [], length, Option, None, Some, Result, Ok, Err, IfSome, IsSome, codes, bytes_eq, slice_index, if◌then◌else◌}
+use Rattle.std.specs.Prelude.{◌≡◌, ◌≤◌, ℕ, ◌&&◌, ◌||◌, ◌==◌, nat_le, Bool, not, List, [], length, Option, None, Some, Result, Ok, Err, IfSome, IsSome, codes, bytes_eq, slice_index, if◌then◌else◌}
 use Rattle.std.specs.List.{list_all}
 use Rattle.std.specs.Result.{result_ok}
 use Rattle.std.specs.Option.{option_map, unwrap_or, ok_or}
@@ -9,7 +9,7 @@ use Rattle.hybrid_clock.specs.declared.node.NodeFault.{NodeFault}
 use Rattle.hybrid_clock.specs.Node.{IsNode, node_of}
 use Rattle.budget_top.specs.Line.{mode, line, value_in}
 use Rattle.budget_top.specs.declared.words.Mode.{Mode}
-use Rattle.budget_top.specs.declared.words.Mode.TheVariants.{Merge, Device, Serve}
+use Rattle.budget_top.specs.declared.words.Mode.TheVariants.{Merge, Device, Serve, Generate, World}
 use Rattle.budget_top.specs.declared.words.Plan.{Plan}
 use Rattle.budget_top.specs.declared.words.WordFault.{WordFault}
 use Rattle.budget_top.specs.declared.words.WordFault.TheVariants.{Words, Mode as BadMode, NodeMissing, Node as BadNode, Count, Token, Name, NoMemory}
@@ -25,7 +25,9 @@ abbrev pub mode_named : List ℕ → Result Mode WordFault
 mode_named word =
     if bytes_eq word (codes "merge") then Ok Merge else (
     if bytes_eq word (codes "device") then Ok Device else (
-    if bytes_eq word (codes "serve") then Ok Serve else Err BadMode))
+    if bytes_eq word (codes "serve") then Ok Serve else (
+    if bytes_eq word (codes "generate") then Ok Generate else (
+    if bytes_eq word (codes "world") then Ok World else Err BadMode))))
 
 -- a node that is given, in any mode
 abbrev pub node_given : Result (List ℕ) NodeFault → Result (Option (List ℕ)) WordFault
@@ -38,23 +40,30 @@ node_for any (Some text) = node_given (node_of text)
 node_for Merge None = Ok None
 node_for Device None = Err NodeMissing
 node_for Serve None = Ok None
+node_for Generate None = Ok None
+node_for World None = Ok None
 
 -- whether a text has digits alone, and no `0` (48) in front
 abbrev pub is_plain_number : List ℕ → Bool
 is_plain_number text = list_all is_ascii_digit text && not (slice_index text 0 == 48)
 
--- whether a number is one that a count may be
-abbrev pub is_within : ℕ → Bool
-is_within number = nat_le 1 number && nat_le number 1_000_000
+-- the most that a count may be: of transactions where a book is generated
+abbrev pub most_of : Mode → ℕ
+most_of Generate = 100_000
+most_of other = 1_000_000
 
--- the number from 1 to 1,000,000 that a text says by its plain digits
-abbrev pub count_of : List ℕ → Option ℕ
-count_of text = if is_plain_number text && is_within (digits_value 10 text) then Some (digits_value 10 text) else None
+-- whether a number is from 1 to the greatest one
+abbrev pub is_within : ℕ → ℕ → Bool
+is_within most number = nat_le 1 number && nat_le number most
 
--- the count, which is 1000 where none is given
-abbrev pub count_from : Option (List ℕ) → Result ℕ WordFault
-count_from None = Ok 1000
-count_from (Some text) = ok_or (count_of text) Count
+-- such a number, which a text says by its plain digits
+abbrev pub count_of : ℕ → List ℕ → Option ℕ
+count_of most text = if is_plain_number text && is_within most (digits_value 10 text) then Some (digits_value 10 text) else None
+
+-- the count of a mode, which is 1000 where none is given
+abbrev pub count_from : Mode → Option (List ℕ) → Result ℕ WordFault
+count_from any None = Ok 1000
+count_from any (Some text) = ok_or (count_of (most_of any) text) Count
 
 -- a letter or a digit of ASCII, `-` or `_`
 abbrev pub is_name_byte : ℕ → Bool
@@ -91,7 +100,7 @@ abbrev pub planned_by : (List ℕ → Option (List ℕ)) → Result Plan WordFau
 planned_by given = do
   mode ← mode_named (unwrap_or (given mode) [])
   node ← node_for mode (given (codes "node"))
-  count ← count_from (given (codes "count"))
+  count ← count_from mode (given (codes "count"))
   plan_with given mode node count
 
 -- the plan that the pairs of a command line ask for; other words are refused
@@ -112,9 +121,14 @@ pub record IsNodeFor (mode : Mode) (node : Option (List ℕ)) : Type 0 where
   pub valid : IfSome node IsNode
   pub device : mode ≡ Device → IsSome node
 
+-- a number from 1 to the greatest one
+abbrev pub IsCountIn : ℕ → ℕ → Type 0
+IsCountIn most number = (1 ≤ number) × (number ≤ most)
+
 -- what holds of each plan
-abbrev pub IsPlan : Plan → Type 0
-IsPlan plan = IsNodeFor plan.mode plan.node
+pub record IsPlan (plan : Plan) : Type 0 where
+  pub node : IsNodeFor plan.mode plan.node
+  pub count : IsCountIn (most_of plan.mode) plan.count
 
 -- memory ran out, or it is the fault of the result
 abbrev pub IsWordFault : {A : Type 0} → Result A WordFault → WordFault → Type 0

@@ -31,6 +31,7 @@ use field_values::{NoMemory, Steps, Txt, TxtFault};
 use kept_messages::{batches_are_kept, new_ones_are_added};
 use std::alloc::Global;
 use std::sync::ledger::Ledger;
+use world_lines::month_to_cover;
 
 /// The reply to a line.
 #[derive(Drop)]
@@ -141,14 +142,42 @@ fn receive<G: Ledger>(
     }
 }
 
-/// Answers a command that only reads. A device of which nothing is pending stays one that has brought nothing.
-fn read(alloc: Global, device: &Device, command: &Command) -> Result<Reply, NoMemory>
-    requires live { device.now.spent ≡ false }
-    requires idle { device.now.batch ≡ [] }
-    requires reads { IsReading command.now }
-    ensures ok { IfOk result (λ reply. (reading : ℕ) → obeyed device.now.state reading (Ok command.now) ≡ (device.now.state, reply)) }
-    ensures brings { Brings device.now.state.messages device.now }
+/// Covers the month of whose cells a command asks, where it is near to those that are covered.
+fn cover_asked<G: Ledger>(
+    device: &mut Device,
+    steps: &mut Steps<G>,
+    command: &Command,
+) -> Result<(), NoMemory>
+    requires { device.old.spent ≡ false }
+    ensures state { OnOk result (device.new.state ≡ device.old.state) }
+    ensures batch { OnOk result (device.new.batch ≡ device.old.batch) }
+    ensures live { OnOk result (device.new.spent ≡ false) }
 {
+    match month_to_cover(device, command) {
+        Some(month) => device.cover(month, steps),
+        None => Ok(()),
+    }
+}
+
+/// Answers a command that only reads. A device of which nothing is pending stays one that has brought nothing.
+///
+/// The month of whose cells a command asks is covered first, so that what is computed for the answer is kept, and a later line about that
+/// month reads it. A month that is far from those that are covered isn't: all months between them would be covered too, and each later
+/// edit would pay for them. Its cells are computed, and not kept. The answer is the same.
+fn read<G: Ledger>(
+    alloc: Global,
+    device: &mut Device,
+    steps: &mut Steps<G>,
+    command: &Command,
+) -> Result<Reply, NoMemory>
+    requires live { device.old.spent ≡ false }
+    requires idle { device.old.batch ≡ [] }
+    requires reads { IsReading command.now }
+    ensures ok { IfOk result (λ reply. (reading : ℕ) → obeyed device.old.state reading (Ok command.now) ≡ (device.new.state, reply)) }
+    ensures live { OnOk result (device.new.spent ≡ false) }
+    ensures brings { OnOk result (Brings device.old.state.messages device.new) }
+{
+    cover_asked(device, steps, command)?;
     read_reply(alloc, device, command)
 }
 
@@ -174,7 +203,7 @@ fn obey<G: Ledger>(
         Command::Redo => redo(alloc, device, steps, reading),
         Command::Receive { message } => receive(alloc, device, steps, reading, message),
         Command::Sync => unreachable!(),
-        other => read(alloc, device, other),
+        other => read(alloc, device, steps, other),
     }
 }
 

@@ -8,11 +8,13 @@ ghost use Rattle.budget_top.specs.Unfailed.{EndsUnfailed};
 ghost use Rattle.budget_top.specs.Acknowledged.{AcknowledgedStay};
 
 use crate::device_run::run_device;
+use crate::generate_run::run_generate;
 use crate::laws::plans_are_asked;
 use crate::merge::run_merge;
 use crate::planning::plan;
 use crate::serve_run::run_serve;
 use crate::words::{Mode, Plan, WordFault};
+use crate::world_run::run_world;
 use budget_ports::{Door, Keeper, Link, Sink, Source, WallClock};
 use device_core::accepted_are_joined;
 use device_sync::Target;
@@ -104,6 +106,8 @@ pub fn run<S: Source, W: Sink, K: Keeper, L: Link, D: Door, C: WallClock, G: Led
     ensures merge_alone { planned_mode words.now ≡ Some Mode.Merge → (keeper.new ≡ keeper.old) × (link.new ≡ link.old) × (door.new ≡ door.old) × (clock.new ≡ clock.old) }
     ensures device_alone { planned_mode words.now ≡ Some Mode.Device → door.new ≡ door.old }
     ensures serve_alone { planned_mode words.now ≡ Some Mode.Serve → (source.new ≡ source.old) × (link.new ≡ link.old) × (clock.new ≡ clock.old) }
+    ensures generate_alone { planned_mode words.now ≡ Some Mode.Generate → (source.new ≡ source.old) × (keeper.new ≡ keeper.old) × (link.new ≡ link.old) × (door.new ≡ door.old) × (clock.new ≡ clock.old) }
+    ensures world_alone { planned_mode words.now ≡ Some Mode.World → (keeper.new ≡ keeper.old) × (link.new ≡ link.old) × (door.new ≡ door.old) × (clock.new ≡ clock.old) }
 {
     plans_are_asked();
     accepted_are_joined();
@@ -118,6 +122,8 @@ pub fn run<S: Source, W: Sink, K: Keeper, L: Link, D: Door, C: WallClock, G: Led
                 )
             }
             (Mode::Serve, _) => run_serve(alloc, &plan, sink, keeper, door),
+            (Mode::Generate, _) => run_generate(alloc, plan.count, sink),
+            (Mode::World, _) => run_world(alloc, source, sink, steps),
             // no plan of a device lacks its node
             (Mode::Device, None) => unreachable!(),
         },

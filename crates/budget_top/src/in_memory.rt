@@ -34,6 +34,8 @@ pub fn run_in_memory<G: Ledger>(
     ensures merge_alone { planned_mode words.now ≡ Some Mode.Merge → (keeper.new ≡ keeper.old) × (link.new ≡ link.old) × (door.new ≡ door.old) × (clock.new ≡ clock.old) }
     ensures device_alone { planned_mode words.now ≡ Some Mode.Device → door.new ≡ door.old }
     ensures serve_alone { planned_mode words.now ≡ Some Mode.Serve → (source.new ≡ source.old) × (link.new ≡ link.old) × (clock.new ≡ clock.old) }
+    ensures generate_alone { planned_mode words.now ≡ Some Mode.Generate → (source.new ≡ source.old) × (keeper.new ≡ keeper.old) × (link.new ≡ link.old) × (door.new ≡ door.old) × (clock.new ≡ clock.old) }
+    ensures world_alone { planned_mode words.now ≡ Some Mode.World → (keeper.new ≡ keeper.old) × (link.new ≡ link.old) × (door.new ≡ door.old) × (clock.new ≡ clock.old) }
 {
     run(alloc, words, source, sink, keeper, link, door, clock, steps)
 }

@@ -1,11 +1,12 @@
-//! What the program does, from the words of the command line to the status: it merges message
-//! lines, answers the lines of a device, or serves the requests of devices, over the outside that it is given.
+//! What the program does, from the words of the command line to the status: it merges message lines, answers the lines of a device,
+//! serves the requests of devices, tells of a book that it generates, or plays a world of devices, over the outside that it is given.
 #![tactic(auto)]
 
 mod answer;
 mod begun;
 mod device_run;
 mod dispatch;
+mod generate_run;
 mod in_memory;
 mod input;
 mod laws;
@@ -13,6 +14,7 @@ mod line;
 mod merge;
 mod opening;
 mod planning;
+mod play;
 mod serve_run;
 mod session;
 mod stop;
@@ -21,6 +23,7 @@ mod tally;
 mod values;
 mod verdict;
 mod words;
+mod world_run;
 mod write;
 
 pub use dispatch::{refusal_status, run};

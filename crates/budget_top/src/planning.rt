@@ -2,10 +2,10 @@
 ghost use Rattle.std.specs.Prelude.{◌≡◌, ◌≢◌, IfOk, IfErr, Ok, Err, IsUtf8, map, option_map, unwrap_or};
 ghost use Rattle.std.specs.List.{All};
 ghost use Rattle.clap.specs.Words.{first_value, found_of};
-ghost use Rattle.budget_top.specs.Words.{IsWordFault, IsPlan, IsNodeFor, planned, planned_by, plan_with, mode_named, node_for, count_from, name_or};
+ghost use Rattle.budget_top.specs.Words.{IsWordFault, IsPlan, IsNodeFor, IsCountIn, planned, planned_by, plan_with, mode_named, most_of, node_for, count_from, name_or};
 
 use crate::line::line_matches;
-use crate::values::{count_of, is_name};
+use crate::values::{count_of, is_name, most_of};
 use crate::words::{Mode, Plan, WordFault};
 use clap::ArgMatches;
 use field_values::{Items, NoMemory, Txt};
@@ -26,6 +26,8 @@ fn mode_named(word: &str) -> Result<Mode, WordFault>
         "merge" => Ok(Mode::Merge),
         "device" => Ok(Mode::Device),
         "serve" => Ok(Mode::Serve),
+        "generate" => Ok(Mode::Generate),
+        "world" => Ok(Mode::World),
         _ => Err(WordFault::Mode),
     }
 }
@@ -42,17 +44,18 @@ fn node_for(mode: Mode, text: Option<&str>) -> Result<Option<Node>, WordFault>
         },
         None => match mode {
             Mode::Device => Err(WordFault::NodeMissing),
-            Mode::Merge | Mode::Serve => Ok(None),
+            Mode::Merge | Mode::Serve | Mode::Generate | Mode::World => Ok(None),
         },
     }
 }
 
-/// The count, from the text that is given for it.
-fn count_from(text: Option<&str>) -> Result<u32, WordFault>
-    ensures { result ≡ count_from (option_map (λ t. t.now) text.entry) }
+/// The count of a mode, from the text that is given for it.
+fn count_from(mode: Mode, text: Option<&str>) -> Result<u32, WordFault>
+    ensures is { result ≡ count_from mode (option_map (λ t. t.now) text.entry) }
+    ensures within { IfOk result (IsCountIn (most_of mode)) }
 {
     match text {
-        Some(text) => count_of(text).ok_or(WordFault::Count),
+        Some(text) => count_of(text, most_of(mode)).ok_or(WordFault::Count),
         None => Ok(COUNT),
     }
 }
@@ -89,7 +92,7 @@ fn plan_with(
 ) -> Result<Plan, WordFault>
     ensures ok { IfOk result (λ plan. plan_with (λ name. first_value (found_of given.now) name) mode node count ≡ Ok plan) }
     ensures err { IfErr result (IsWordFault (plan_with (λ name. first_value (found_of given.now) name) mode node count)) }
-    ensures node { IfOk result (λ plan. (plan.mode ≡ mode) × (plan.node ≡ node)) }
+    ensures same { IfOk result (λ plan. (plan.mode ≡ mode) × (plan.node ≡ node) × (plan.count ≡ count)) }
 {
     let token = given.get_str("token").unwrap_or("local");
     let file = given.get_str("file").unwrap_or("home");
@@ -117,7 +120,7 @@ fn plan_of(alloc: Global, given: &ArgMatches<'_>) -> Result<Plan, WordFault>
 {
     let mode = mode_named(given.get_str("mode").unwrap_or(""))?;
     let node = node_for(mode, given.get_str("node"))?;
-    let count = count_from(given.get_str("count"))?;
+    let count = count_from(mode, given.get_str("count"))?;
     plan_with(alloc, given, mode, node, count)
 }
 

@@ -1,11 +1,17 @@
 //! Judges the values of options.
-ghost use Rattle.std.specs.Prelude.{◌≡◌};
+ghost use Rattle.std.specs.Prelude.{◌≡◌, IfSome};
 ghost use Rattle.std.specs.List.{list_all};
 ghost use Rattle.std.specs.Char.{is_ascii_digit};
 ghost use Rattle.budget_top.specs.Words as spec;
+ghost use Rattle.budget_top.specs.Words.{IsCountIn};
 
-/// The most that a count may be.
+use crate::words::Mode;
+
+/// The most that a count may be where no book is generated.
 const MOST: u32 = 1_000_000;
+
+/// The most transactions that are generated.
+const MOST_GENERATED: u32 = 100_000;
 
 /// The longest name.
 const LONGEST_NAME: usize = 64;
@@ -24,15 +30,26 @@ fn is_plain_number(text: &[u8]) -> bool
     are_digits(text) && !matches!(text, [b'0', ..])
 }
 
-/// The number from 1 to 1,000,000 that a text says by its plain digits.
-pub fn count_of(text: &str) -> Option<u32>
-    ensures { result ≡ spec.count_of text.now }
+/// The most that a count may be in a mode.
+pub fn most_of(mode: Mode) -> u32
+    ensures { result ≡ spec.most_of mode }
+{
+    match mode {
+        Mode::Generate => MOST_GENERATED,
+        Mode::Merge | Mode::Device | Mode::Serve | Mode::World => MOST,
+    }
+}
+
+/// The number from 1 to a greatest one that a text says by its plain digits.
+pub fn count_of(text: &str, most: u32) -> Option<u32>
+    ensures is { result ≡ spec.count_of most text.now }
+    ensures within { IfSome result (IsCountIn most) }
 {
     if !is_plain_number(text.as_bytes()) {
         return None;
     }
     match text.parse::<u32>() {
-        Ok(count) => (1..=MOST).contains(&count).then_some(count),
+        Ok(count) => (1..=most).contains(&count).then_some(count),
         Err(_) => None,
     }
 }

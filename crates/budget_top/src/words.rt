@@ -14,6 +14,10 @@ pub enum Mode {
     Device,
     /// Answers the requests of devices, one connection after the other.
     Serve,
+    /// Generates a household's book, and tells what a device tells of it.
+    Generate,
+    /// Answers the lines of the source as a world of devices and one server.
+    World,
 }
 
 /// What the words ask for.
@@ -31,7 +35,8 @@ pub struct Plan {
     pub file: Txt,
     /// The group of that file.
     pub group: Txt,
-    /// How many connections a server takes, from 1 to 1,000,000.
+    /// How many connections a server takes, from 1 to 1,000,000, or of how many transactions a book is generated, from 1 to
+    /// 100,000.
     pub count: u32,
     /// The address to listen on.
     pub listen: Txt,
@@ -44,13 +49,13 @@ pub struct Plan {
 pub enum WordFault {
     /// The words are not one mode word and options, each at most once.
     Words,
-    /// The mode word is none of `merge`, `device` and `serve`.
+    /// The mode word is none of `merge`, `device`, `serve`, `generate` and `world`.
     Mode,
     /// A device has no node.
     NodeMissing,
     /// The node is none.
     Node(NodeFault),
-    /// The count is not a number from 1 to 1,000,000 in its plain digits.
+    /// The count is not a number from 1 to 1,000,000, of `generate` from 1 to 100,000, in its plain digits.
     Count,
     /// The token is not one to sixty-four of `0-9A-Za-z_-`.
     Token,
