@@ -6,7 +6,7 @@ ghost use Rattle.std.specs.Process.{exit_status};
 ghost use Rattle.budget_top.specs.Words.{planned, planned_mode, refusal_status};
 ghost use Rattle.budget_top.specs.Outside.{outside};
 ghost use Rattle.budget_top.specs.Ran.{Ran};
-ghost use Rattle.budget_top.specs.declared.words.Mode.TheVariants.{Merge, Device, Serve};
+ghost use Rattle.budget_top.specs.declared.words.Mode.TheVariants.{Merge, Device, Serve, Generate, World};
 
 mod causes;
 mod connection;
@@ -104,6 +104,8 @@ fn status_over<G: Ledger, S: Source, W: Sink, K: Keeper, L: Link, D: Door, C: Wa
     ensures merge_alone { planned_mode words.now ≡ Some Merge → (keeper.new ≡ keeper.old) × (link.new ≡ link.old) × (door.new ≡ door.old) × (clock.new ≡ clock.old) }
     ensures device_alone { planned_mode words.now ≡ Some Device → door.new ≡ door.old }
     ensures serve_alone { planned_mode words.now ≡ Some Serve → (source.new ≡ source.old) × (link.new ≡ link.old) × (clock.new ≡ clock.old) }
+    ensures generate_alone { planned_mode words.now ≡ Some Generate → (source.new ≡ source.old) × (keeper.new ≡ keeper.old) × (link.new ≡ link.old) × (door.new ≡ door.old) × (clock.new ≡ clock.old) }
+    ensures world_alone { planned_mode words.now ≡ Some World → (keeper.new ≡ keeper.old) × (link.new ≡ link.old) × (door.new ≡ door.old) × (clock.new ≡ clock.old) }
 {
     let mut steps = Steps::<G>::new(blank);
     run(
@@ -217,7 +219,7 @@ fn main(rt: HostRuntime) -> ExitCode {
     };
     let mut door = match plan.mode {
         Mode::Serve => TcpDoor::listen(&rt, &rt, plan.listen.as_str()),
-        Mode::Merge | Mode::Device => TcpDoor::shut(&rt),
+        Mode::Merge | Mode::Device | Mode::Generate | Mode::World => TcpDoor::shut(&rt),
     };
     let refusal = door.refusal();
     let peer = plan.peer.as_str();

@@ -7,9 +7,11 @@ pub const USAGE: &str = "\
 usage: budget_cli MODE [--OPTION VALUE]..
 
 modes:
-  merge   joins the message lines of standard input, and writes the latest message of each field
-  device  answers the lines of standard input, as a device of the household
-  serve   answers the requests of devices at an address
+  merge     joins the message lines of standard input, and writes the latest message of each field
+  device    answers the lines of standard input, as a device of the household
+  serve     answers the requests of devices at an address
+  generate  tells of a household's book that it generates
+  world     answers the lines of standard input, as devices and a server of their own
 
 options, each at most once, in any order:
   --node NAME      a device's own: 1 to 16 letters and digits, not all of them 0
@@ -19,7 +21,7 @@ options, each at most once, in any order:
   --group NAME     the group of that file (home)
   --listen ADDRESS where a server listens (127.0.0.1:5006)
   --peer ADDRESS   where the server of a device is (127.0.0.1:5006)
-  --count NUMBER   how many connections a server takes before it ends (1000)
+  --count NUMBER   how many connections a server takes before it ends, or transactions are generated (1000)
 
 docs/FORMATS.md has the lines of a device, every refusal and what to do then, and the statuses.
 
