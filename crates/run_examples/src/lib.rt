@@ -38,3 +38,5 @@ mod tracking;
 mod undo;
 #[cfg(test)]
 mod words;
+#[cfg(test)]
+mod worlds;

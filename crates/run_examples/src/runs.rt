@@ -67,7 +67,14 @@ fn merges(rt: HostRuntime) -> Result<(), Fail> {
 /// Words that are refused: nothing is written.
 #[test]
 fn refuses_words(rt: HostRuntime) -> Result<(), Fail> {
-    for words in ["merge x", "", "device", "merge --count 0"] {
+    for words in [
+        "merge x",
+        "",
+        "device",
+        "merge --count 0",
+        "generate --count 100001",
+        "world x",
+    ] {
         let run = Run {
             words,
             input: FOOD,
@@ -81,7 +88,7 @@ fn refuses_words(rt: HostRuntime) -> Result<(), Fail> {
 }
 
 /// The calls of the source, of the sink and of the keeper that fail, the status, and what is written.
-type Failing = (
+pub(crate) type Failing = (
     &'static [u64],
     &'static [u64],
     &'static [u64],
@@ -90,7 +97,7 @@ type Failing = (
 );
 
 /// The run of a row, over a keeper of its own.
-fn failing(
+pub(crate) fn failing(
     alloc: Global,
     words: &'static str,
     input: &'static str,

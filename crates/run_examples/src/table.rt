@@ -167,18 +167,31 @@ fn sides_of(alloc: Global, tables: &[&str]) -> Result<(String, String), Fail> {
     Ok((lines, replies))
 }
 
-/// The status and the text of a run of the device `aa` in which nothing fails.
-fn device(alloc: Global, input: &str) -> Result<(u8, String), Fail> {
+/// The status and the text of a run of these words in which nothing fails.
+fn run_of<'a>(alloc: Global, words: &'a str, input: &'a str) -> Result<(u8, String), Fail> {
     let mut keeper = MemoryKeeper::new(alloc);
-    let run = Run { input, ..DEVICE };
+    let run = Run {
+        words,
+        input,
+        ..DEVICE
+    };
     outcome(alloc, &mut keeper, &run)
 }
 
 /// What the device `aa` replies to the lines of the tables, one run for all of them, and what the tables say that it replies. The status
 /// tells whether a line was refused.
 pub(crate) fn talk(alloc: Global, tables: &[&str]) -> Result<(String, String), Fail> {
+    talk_of(alloc, DEVICE.words, tables)
+}
+
+/// The same of a run of these words.
+pub(crate) fn talk_of(
+    alloc: Global,
+    words: &str,
+    tables: &[&str],
+) -> Result<(String, String), Fail> {
     let (lines, mut replies) = sides_of(alloc, tables)?;
-    let (status, told) = device(alloc, lines.as_str())?;
+    let (status, told) = run_of(alloc, words, lines.as_str())?;
     if status != u8::from(replies.as_str().contains("refused ")) {
         replies.push_str("another status\n")?;
     }

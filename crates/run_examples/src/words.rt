@@ -11,7 +11,14 @@ merge --count 5 > Merge ................ local home home 5 127.0.0.1:5006 127.0.
 device --node aa > Device 00000000000000aa local home home 1000 127.0.0.1:5006 127.0.0.1:5006
 --token=-t --file f_ --group=9 --count 1000000 --listen=--a --peer= --node=Z -- device > Device 000000000000000Z -t f_ 9 1000000 --a 
 serve > Serve ................ local home home 1000 127.0.0.1:5006 127.0.0.1:5006
+world > World ................ local home home 1000 127.0.0.1:5006 127.0.0.1:5006
+--count=100000 --node aa generate > Generate 00000000000000aa local home home 100000 127.0.0.1:5006 127.0.0.1:5006
+generate x > Words
+world --node=- > Node(BadByte { at: 0 })
 serve --listen 0.0.0.0:80 --token t --group g --file f --count 1000000 > Serve ................ t f g 1000000 0.0.0.0:80 127.0.0.1:5006
+generate > Generate ................ local home home 1000 127.0.0.1:5006 127.0.0.1:5006
+generate --count 100000 > Generate ................ local home home 100000 127.0.0.1:5006 127.0.0.1:5006
+world --count 1000000 > World ................ local home home 1000000 127.0.0.1:5006 127.0.0.1:5006
 merge x > Words
 merge -- x > Words
 -- merge --count 5 > Words
@@ -45,6 +52,11 @@ merge --count=+5 > Count
 merge --count= > Count
 merge --count 1000001 > Count
 merge --count 4294967301 --token= > Count
+generate --count 100001 --token= > Count
+generate --count 0 > Count
+world --count 1000001 > Count
+generate --node=- --count 0 > Node(BadByte { at: 0 })
+worlds > Mode
 merge --file a.b --token a.b > Token
 merge --file a.b > Name
 merge --group= > Name";
