@@ -1,5 +1,7 @@
-"""A running device, and a running server, for the measurements beside this file."""
+"""A running device, a running server, and runs from beginning to end, for the measurements beside this file."""
+import hashlib
 import os
+import shlex
 import socket
 import subprocess
 import sys
@@ -72,3 +74,29 @@ def serving(program):
         except ConnectionRefusedError:
             time.sleep(0.05)
     sys.exit("%s doesn't listen" % program)
+
+
+def run(words, source, out):
+    """CPU seconds, peak memory in MiB, status, and a digest of the output."""
+    with open(source, "rb") as reads, open(out, "wb") as writes:
+        child = os.posix_spawn(words[0], words, os.environ, file_actions=[
+            (os.POSIX_SPAWN_DUP2, reads.fileno(), 0), (os.POSIX_SPAWN_DUP2, writes.fileno(), 1)])
+        _, status, used = os.wait4(child, 0)
+    with open(out, "rb") as file:
+        digest = hashlib.file_digest(file, "sha256").hexdigest()
+    return used.ru_utime + used.ru_stime, used.ru_maxrss / 1024, os.waitstatus_to_exitcode(status), digest
+
+
+def measure(programs, source, out, repetitions):
+    """The programs take turns, so that a slow spell of the machine falls on each of them."""
+    runs = {who: [] for who in programs}
+    for _ in range(repetitions):
+        for who, words in programs.items():
+            runs[who].append(run(words, source, out))
+    return {who: (min(r[0] for r in of), max(r[1] for r in of), of[0][2], of[0][3]) for who, of in runs.items()}
+
+
+def words_of(text):
+    words = shlex.split(text)
+    words[0] = os.path.abspath(words[0]) if os.path.exists(words[0]) else words[0]
+    return words
