@@ -14,7 +14,7 @@ use Rattle.field_merge.specs.declared.message.Message.{Message}
 use Rattle.field_merge.specs.Log.{IsByField, IsRising, at_stamp, by_stamp, fields, has_field, has_stamp, join, join_one, latest, placed}
 use Rattle.field_merge.specs.Latest.{CameFrom, KeepsLatest, LatestState, is_among, most_kept, next_most}
 use Rattle.field_merge.proofs.Joining.{found, in_turn, rising, stamp_of}
-use Rattle.field_merge.proofs.Stored.{flips, join-fresh, join-there, marked-more}
+use Rattle.field_merge.proofs.Stored.{join-fresh, join-there}
 use Rattle.field_merge.proofs.Entering.{latest-placed, wins}
 use Rattle.field_merge.proofs.Few.{fields_more}
 use Rattle.field_merge.proofs.Fields.{field_of, fields_in_order, find-fields}
@@ -29,7 +29,7 @@ swapped true false c = refl
 swapped false b c = refl
 
 -- one more comes last
-any-last : (t : Message → Bool) (ms : List Message) (n : Message) → list_any t (ms ++ n ∷ []) ≡ (t n || list_any t ms)
+any-last : {X : Type 0} (t : X → Bool) (ms : List X) (n : X) → list_any t (ms ++ n ∷ []) ≡ (t n || list_any t ms)
 any-last t [] n = refl
 any-last t (m ∷ ms) n = ap (λ b. t m || b) (any-last t ms n) ∙ swapped (t m) (t n) (list_any t ms)
 
@@ -118,15 +118,9 @@ came_again ms n l m came there same_stamps same_messages same_most =
       most = still_few ms n l m came same_most;
     }
 
--- the set of timestamps, whose test for equal ones is that of the order
-module _ (eq : Stamp → Stamp → Bool) (alike : (s t : Stamp) → eq s t ≡ is_eq (stamp_cmp s t)) where
-  pub has_in_set : (s : Stamp) (ts : List Stamp) → list_any (eq s) ts ≡ is_among s ts
-  has_in_set s ts = ap (λ test. list_any test ts) (λ i t. alike s t i)
-
-  pub has_more : (n : Message) (old new : List Stamp) → ((s : Stamp) → list_any (eq s) new ≡ cond (eq n.stamp s) true (list_any (eq s) old)) → (s : Stamp) → is_among s new ≡ (has_stamp s n || is_among s old)
-  has_more n old new update s =
-      sym (has_in_set s new) ∙ update s ∙ marked-more (eq n.stamp s) (list_any (eq s) old)
-      ∙ (λ i. (alike n.stamp s ∙ ap is_eq (stamps_total.antisymm n.stamp s) ∙ flips (stamp_cmp s n.stamp)) i || has_in_set s old i)
+-- one timestamp more came
+pub has_more : (n : Message) (old new : List Stamp) → new ≡ old ++ n.stamp ∷ [] → (s : Stamp) → is_among s new ≡ (has_stamp s n || is_among s old)
+has_more n old new is s = ap (is_among s) is ∙ any-last (λ t. is_eq (stamp_cmp s t)) old n.stamp
 
 -- ---- where older messages go
 level : (r : Ordering) → is_lt r ≡ false → is_gt r ≡ false → r ≡ Equal

@@ -6,6 +6,7 @@ pub mod StampLemmas
 pub mod Orders
 pub mod Members
 mod Noting
+mod Links
 pub mod Ordered
 pub mod Placing
 pub mod Joining

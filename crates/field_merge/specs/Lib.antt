@@ -5,6 +5,7 @@ pub mod Log
 pub mod Joining
 pub mod Stored
 pub mod Latest
+pub mod Stamps
 pub mod Pieces
 pub mod Laws
 pub mod LineFaults

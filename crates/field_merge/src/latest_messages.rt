@@ -8,10 +8,9 @@ ghost use Rattle.field_merge.specs.Latest.{CameFrom, IsFew, KeepsLatest, next_mo
 use crate::arrival::Arrival;
 use crate::message::Message;
 use crate::pieces::FieldLines;
+use crate::stamps::Stamps;
 use field_values::NoMemory;
-use hybrid_clock::Stamp;
 use std::alloc::Global;
-use std::collections::HashSet;
 use std::marker::Model;
 
 /// The latest message of each field, for those who want no older ones, in whatever order messages come and however often.
@@ -21,7 +20,7 @@ use std::marker::Model;
 #[derive(Drop)]
 pub struct LatestMessages {
     alloc: Global,
-    stamps: HashSet<Stamp>,
+    stamps: Stamps,
     /// Messages among which are the latest ones. From time to time they are sorted by field, and the older ones go.
     came: Vec<Arrival>,
     /// How many there are when that is done next.
@@ -37,7 +36,7 @@ impl Model for LatestMessages {
 
     ghost Value = { LatestState };
 
-    ghost view = { λ l. record { stamps = l.stamps.keys; messages = l.came.items; most = l.most; spent = l.spent } };
+    ghost view = { λ l. record { stamps = l.stamps; messages = l.came.items; most = l.most; spent = l.spent } };
 }
 
 /// Sorts messages by field, and keeps the latest of each field.
@@ -57,7 +56,7 @@ impl LatestMessages {
     {
         LatestMessages {
             alloc,
-            stamps: HashSet::new(alloc),
+            stamps: Stamps::new(alloc),
             came: Vec::new(alloc),
             most: FEW,
             spent: false,

@@ -12,6 +12,7 @@ mod log;
 mod message;
 mod pieces;
 mod shared;
+mod stamps;
 
 pub use escape::{bad_escape, push_escaped, unescape};
 pub use latest_messages::LatestMessages;

@@ -1,9 +1,7 @@
-use Rattle.std.proofs.Common.{◌≡◌, [], ◌∷◌, ◌++◌, ◌∙◌, sym, ap, refl, not, true, false, Bool, subst}
-use Rattle.std.specs.Bool.{OnFalse}
+use Rattle.std.proofs.Common.{◌≡◌, [], ◌∷◌, ◌++◌, ◌∙◌, sym, ap, refl, not, true, false, Bool, cond, subst}
 use Rattle.field_merge.specs.declared.message.Message.{Message}
 use Rattle.field_merge.specs.Latest.{CameFrom, LatestState}
-use Rattle.field_merge.proofs.Orders.{stamps_alike}
-use Rattle.field_merge.proofs.Coming.{came_again, came_new, has_in_set, has_more}
+use Rattle.field_merge.proofs.Coming.{came_again, came_new, has_more}
 use Rattle.field_merge.proofs.latest_messages.LatestMessages.gather.Goals as goal
 use Rattle.field_merge.proofs.latest_messages.LatestMessages.gather.Goals.{then-branch+in_ok-new+in_ok-push, else-branch}
 
@@ -15,18 +13,18 @@ not_back false false h = h
 
 pub returns-clause-came : goal.returns-clause-came
 returns-clause-came c ms came =
-    let before : CameFrom ms (record { stamps = c.self.inside.stamps.keys; messages = c.self.inside.came.items; most = c.self.inside.most; spent = c.self.inside.spent }) =
+    let before : CameFrom ms (record { stamps = c.self.inside.stamps; messages = c.self.inside.came.items; most = c.self.inside.most; spent = c.self.inside.spent }) =
     subst (λ (l : LatestState). CameFrom ms l) (sym c.self.view_is) came in
     elim c.if-branch.branch [
       | then-branch+in_ok-new+in_ok-push w ↦
           rw w.self-inside-is
           (came_new ms c.args.message _ _ before
-          (sym (has_in_set _ stamps_alike c.args.message.stamp c.self.inside.stamps.keys) ∙ not_back _ _ (c.in_ok-insert.ensures.added) ∙ ap not w.if-branch.true)
-          (has_more _ stamps_alike c.args.message c.self.inside.stamps.keys c.insert.new.self.keys (λ s. c.in_ok-insert.ensures.updates.0 s))
+          (not_back _ _ c.in_ok-insert.ensures.fresh ∙ ap not w.if-branch.true)
+          (has_more c.args.message c.self.inside.stamps c.insert.new.self (c.in_ok-insert.ensures.kept ∙ ap (λ b. cond b (c.self.inside.stamps ++ c.args.message.stamp ∷ []) c.self.inside.stamps) w.if-branch.true))
           (w.in_ok-push.ensures.items ∙ ap (λ (m : Message). c.self.inside.came.items ++ m ∷ []) w.in_ok-new.ensures) refl)
       | else-branch w ↦
           rw w.self-inside-is
           (came_again ms c.args.message _ _ before
-          (sym (has_in_set _ stamps_alike c.args.message.stamp c.self.inside.stamps.keys) ∙ not_back _ _ (c.in_ok-insert.ensures.added) ∙ ap not w.if-branch.false)
-          (subst (λ (b : Bool). OnFalse b (c.insert.new.self.keys ≡ c.self.inside.stamps.keys)) w.if-branch.false c.in_ok-insert.ensures.unchanged) refl refl)
+          (not_back _ _ c.in_ok-insert.ensures.fresh ∙ ap not w.if-branch.false)
+          (c.in_ok-insert.ensures.kept ∙ ap (λ b. cond b (c.self.inside.stamps ++ c.args.message.stamp ∷ []) c.self.inside.stamps) w.if-branch.false) refl refl)
     ]
