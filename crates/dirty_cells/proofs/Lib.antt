@@ -10,6 +10,7 @@ pub mod Marked
 pub mod Totals
 pub mod Settling
 pub mod Spots
+pub mod Rows
 pub mod Refreshed
 pub mod Begun
 pub mod WholeSettled

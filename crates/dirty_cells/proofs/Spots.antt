@@ -1,26 +1,24 @@
 -- Cells by id, and those of an id by month and kind, as one map by name.
 use Rattle.std.proofs.Common.{◌≡◌, ℕ, inl, inr, Bool, true, false, cond, List, [], ◌∷◌, ◌++◌, Option, None, Some, refl, sym, ap, ◌∙◌, subst, true≢false, Ordering, Less, Equal, Greater, OnOk, Result, Ok, Err}
-use lib.IntN.{ℤ, pos}
-use Rattle.std.specs.Prelude.{unwrap_or, T, ◌&&◌}
+use lib.IntN.{ℤ}
+use Rattle.std.specs.Prelude.{unwrap_or, T}
 use Rattle.std.specs.Ordering.{is_lt, is_eq, eq_by_cmp, ordering_then, nat_cmp}
-use Rattle.std.specs.Cmp.{tied_itself, eq_by_cmp_equiv}
 use Rattle.std.specs.List.{AllByRecursion}
 use Rattle.std.specs.BTreeMap.{is_at}
 use Rattle.std.specs.Map.{lookup}
 use Rattle.std.proofs.lemmas.Bool.{cases_Bool, and_parts}
 use Rattle.std.specs.FinMap.Entries.{below_all}
-use Rattle.std.specs.FinMap.{FinMap, is_sorted, find, entries, entries_sorted, empty, from_entries, get, insert, remove, get-from_entries, get-entries, get-empty, get-insert, get-remove, same_map, IsAntisymmetric}
+use Rattle.std.specs.FinMap.{FinMap, is_sorted, find, entries, entries_sorted, empty, from_entries, get, insert, get-from_entries, get-entries, get-empty, get-insert, same_map}
 use Rattle.finite_sums.specs.Maps.{Text, text_cmp}
 use Rattle.finite_sums.proofs.Texts.{text_total, text_same}
 use Rattle.finite_sums.proofs.Maps.{IsRising, get_is, one_put}
 use Rattle.envelope_cells.specs.Names.{Cells, cell_cmp, cells_total, kind_number}
 use Rattle.envelope_cells.proofs.Exact.{cells_same}
 use Rattle.envelope_cells.specs.declared.name.CellName.{CellName}
-use Rattle.envelope_cells.specs.declared.name.CellKind.{CellKind}
-use Rattle.envelope_cells.specs.declared.name.CellKind.TheVariants.{GroupSum, GroupBudget, GroupLeftover, Sum, Budget as OfBudget, Carryover, Leftover}
-use Rattle.dirty_cells.specs.declared.spot.Spot.{Spot}
+use Rattle.envelope_cells.specs.declared.name.CellKind.TheVariants.{TotalIncome, FromLastMonth, AvailableFunds, LastMonthOverspent, TotalBudgeted, Buffered, ToBudget, TotalSpent, TotalLeftover, GroupSum, GroupBudget, GroupLeftover, Sum, Budget as OfBudget, Carryover, Leftover}
+use Rattle.dirty_cells.specs.declared.row.WholeCells.{WholeCells}
 use Rattle.dirty_cells.specs.Right.{Settled}
-use Rattle.dirty_cells.specs.Spots.{spot_cmp, spots_total, spot_at, RowCells, value_in, value_of_name, name_at, named, all_named, flattened, RowSettled, RowFour, RowThree, SettledFour, SettledThree}
+use Rattle.dirty_cells.specs.Spots.{Spot, spot_cmp, spot_at, RowCells, name_at, named, all_named, flattened, RowSettled, RowFour, RowThree, RowNine, SettledFour, SettledThree, SettledNine}
 
 -- where a name stands in the row of its id
 abbrev pub spot_of : CellName → Spot
@@ -168,11 +166,6 @@ module _ (es fs : List (Text × RowCells)) (all : Cells) (id : Text) (o : Option
   end : Puts → flattened (from_entries fs) ≡ flattened (insert (from_entries es) id new)
   end puts = ap flattened (one_put text_total text_same es fs id new puts)
 
-  pub row_settled : flattened (from_entries es) ≡ all → lookup (is_at (text_cmp id)) es ≡ o → Puts → (s : Spot) (value : Option ℤ) → RowSettled (cells_of o) new s value → Settled all (flattened (from_entries fs)) (name_at id s) value
-  row_settled is found puts s value set =
-      subst (λ (c : Cells). Settled c (flattened (from_entries fs)) (name_at id s) value) (begin is found)
-      (subst (λ (c : Cells). Settled (flattened (insert (from_entries es) id (cells_of o))) c (name_at id s) value) (sym (end puts)) (step (from_entries es) id (cells_of o) new s value set))
-
   pub row_four : flattened (from_entries es) ≡ all → lookup (is_at (text_cmp id)) es ≡ o → Puts → (month : ℕ) (a b c d : Option ℤ) → RowFour (cells_of o) new month a b c d → SettledFour all (flattened (from_entries fs)) month id a b c d
   row_four is found puts month a b c d set =
       let n = from_entries es in
@@ -197,24 +190,33 @@ module _ (es fs : List (Text × RowCells)) (all : Cells) (id : Text) (o : Option
         third = subst (λ (x : Cells). Settled (flattened (insert n id set.two)) x (name_at id (spot_at month GroupLeftover)) c) (sym (end puts)) (step n id set.two new (spot_at month GroupLeftover) c set.third);
       }
 
+  pub row_nine : flattened (from_entries es) ≡ all → lookup (is_at (text_cmp id)) es ≡ o → Puts → (month : ℕ) (cells : WholeCells) → RowNine (cells_of o) new month cells → SettledNine all (flattened (from_entries fs)) month id cells
+  row_nine is found puts month cells set =
+      let n = from_entries es in
+      record {
+        one = flattened (insert n id set.one);
+        two = flattened (insert n id set.two);
+        three = flattened (insert n id set.three);
+        four = flattened (insert n id set.four);
+        five = flattened (insert n id set.five);
+        six = flattened (insert n id set.six);
+        seven = flattened (insert n id set.seven);
+        eight = flattened (insert n id set.eight);
+        first = subst (λ (x : Cells). Settled x (flattened (insert n id set.one)) (name_at id (spot_at month TotalIncome)) cells.income) (begin is found) (step n id (cells_of o) set.one (spot_at month TotalIncome) cells.income set.first);
+        second = step n id set.one set.two (spot_at month FromLastMonth) cells.from_last set.second;
+        third = step n id set.two set.three (spot_at month AvailableFunds) cells.available set.third;
+        fourth = step n id set.three set.four (spot_at month LastMonthOverspent) cells.overspent set.fourth;
+        fifth = step n id set.four set.five (spot_at month TotalBudgeted) cells.budgeted set.fifth;
+        sixth = step n id set.five set.six (spot_at month Buffered) cells.buffered set.sixth;
+        seventh = step n id set.six set.seven (spot_at month ToBudget) cells.to_budget set.seventh;
+        eighth = step n id set.seven set.eight (spot_at month TotalSpent) cells.spent set.eighth;
+        ninth = subst (λ (x : Cells). Settled (flattened (insert n id set.eight)) x (name_at id (spot_at month TotalLeftover)) cells.leftover) (sym (end puts)) (step n id set.eight new (spot_at month TotalLeftover) cells.leftover set.ninth);
+      }
+
 -- ---- what is read
 
 pub got : (es : List (Text × RowCells)) (all : Cells) (id : Text) (o : Option RowCells) → flattened (from_entries es) ≡ all → lookup (is_at (text_cmp id)) es ≡ o → (s : Spot) → cell_in o s ≡ get all (name_at id s)
 got es all id o is found s = sym (ap (λ (c : Cells). get c (name_at id s)) (sym is) ∙ get-flattened (from_entries es) (name_at id s) ∙ ap (λ x. cell_in x s) (get_is text_total text_same es id ∙ found))
-
--- ---- in one row
-
-pub spots_same : IsAntisymmetric spot_cmp
-spots_same a b e = spot_back a b (cells_same (name_at [] a) (name_at [] b) (same_id (nat_cmp a.month b.month) (nat_cmp (kind_number a.kind) (kind_number b.kind)) Equal refl ∙ e))
-  where
-    spot_back : (a b : Spot) → name_at [] a ≡ name_at [] b → a ≡ b
-    spot_back a b h = ap spot_of h
-
-pub put_settles : (old new : RowCells) (s : Spot) (z : ℤ) → new ≡ insert old s z → RowSettled old new s (Some z)
-put_settles old new s z e = record { each = λ q. ap (λ (m : RowCells). get m q) e ∙ get-insert spots_total old s z q }
-
-pub take_settles : (old new : RowCells) (s : Spot) → new ≡ remove old s → RowSettled old new s None
-take_settles old new s e = record { each = λ q. ap (λ (m : RowCells). get m q) e ∙ get-remove spots_total old s q }
 
 pub on_ok : {A E : Type 0} {P Q : Type 0} (r : Result A E) → (P → Q) → OnOk r P → OnOk r Q
 on_ok (Ok x) f p = f p

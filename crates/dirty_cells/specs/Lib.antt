@@ -3,6 +3,7 @@ pub mod Governing
 pub mod Grid
 pub mod Right
 pub mod Spots
+pub mod Rows
 pub mod WholeOf
 pub mod Touching
 pub mod Steps

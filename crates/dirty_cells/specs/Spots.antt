@@ -1,8 +1,8 @@
 -- Cells by id, and those of an id by month and kind.
-use Rattle.std.specs.Prelude.{◌≡◌, ℕ, ℤ, pos, List, [], ◌∷◌, ◌++◌, map, Option, unwrap_or, if◌then◌else◌}
+use Rattle.std.specs.Prelude.{◌≡◌, refl, ℕ, ℤ, pos, List, [], ◌∷◌, ◌++◌, map, Option, unwrap_or, if◌then◌else◌}
 use Rattle.std.specs.declared.cmp.Ordering.{Ordering}
 use Rattle.std.specs.Ordering.{nat_cmp, ordering_then, eq_by_cmp}
-use Rattle.std.specs.Coded.{Coded, coded_ℤ}
+use Rattle.std.specs.Coded.{Coded, code_by, coded×, coded_ℕ, coded_ℤ}
 use Rattle.std.specs.FinMap.{FinMap, get, entries, from_entries, code}
 use Rattle.std.specs.Cmp.{IsTotalOrder, on_total, nat_cmp_total}
 use Rattle.std.proofs.lemmas.Cmp.{then_total}
@@ -10,10 +10,18 @@ use Rattle.finite_sums.specs.Maps.{Text, text_cmp}
 use Rattle.envelope_cells.specs.Names.{Cells, kind_number}
 use Rattle.envelope_cells.specs.declared.name.CellName.{CellName}
 use Rattle.envelope_cells.specs.declared.name.CellKind.{CellKind}
-use Rattle.envelope_cells.specs.declared.name.CellKind.TheVariants.{GroupSum, GroupBudget, GroupLeftover, Sum, Budget as OfBudget, Carryover, Leftover}
-use Rattle.dirty_cells.specs.declared.spot.Spot.{Spot}
-use Rattle.dirty_cells.specs.contracts.spot.Spot as spot
+use Rattle.envelope_cells.specs.declared.name.CellKind.TheVariants.{TotalIncome, FromLastMonth, AvailableFunds, LastMonthOverspent, TotalBudgeted, Buffered, ToBudget, TotalSpent, TotalLeftover, GroupSum, GroupBudget, GroupLeftover, Sum, Budget as OfBudget, Carryover, Leftover}
+use Rattle.envelope_cells.specs.contracts.name.CellKind as cell_kind
+use Rattle.dirty_cells.specs.declared.row.WholeCells.{WholeCells}
 use Rattle.dirty_cells.specs.Right.{Settled}
+
+-- a month and a kind: which of the cells of an id
+pub record Spot : Type 0 where
+  pub month : ℕ
+  pub kind : CellKind
+
+abbrev pub spot_code : Coded Spot
+spot_code = code_by (ℕ × CellKind) (coded× coded_ℕ cell_kind.the_row.coded) (λ s. (s.month, s.kind)) (λ p. record { month = p.0; kind = p.1 }) (λ _. refl)
 
 -- spots are ordered by month and kind
 abbrev pub spot_cmp : Spot → Spot → Ordering
@@ -31,7 +39,7 @@ abbrev pub RowCells : Type 0
 RowCells = FinMap spot_cmp ℤ
 
 abbrev pub row_code : Coded RowCells
-row_code = code spot.the_row.coded coded_ℤ
+row_code = code spot_code coded_ℤ
 
 -- what a cell tells, or 0
 abbrev pub value_in : RowCells → ℕ → CellKind → ℤ
@@ -80,6 +88,26 @@ pub record RowThree (old new : RowCells) (month : ℕ) (sum budget leftover : Op
   pub second : RowSettled one two (spot_at month GroupBudget) budget
   pub third : RowSettled two new (spot_at month GroupLeftover) leftover
 
+-- and the nine of a whole month
+pub record RowNine (old new : RowCells) (month : ℕ) (cells : WholeCells) : Type 0 where
+  pub one : RowCells
+  pub two : RowCells
+  pub three : RowCells
+  pub four : RowCells
+  pub five : RowCells
+  pub six : RowCells
+  pub seven : RowCells
+  pub eight : RowCells
+  pub first : RowSettled old one (spot_at month TotalIncome) cells.income
+  pub second : RowSettled one two (spot_at month FromLastMonth) cells.from_last
+  pub third : RowSettled two three (spot_at month AvailableFunds) cells.available
+  pub fourth : RowSettled three four (spot_at month LastMonthOverspent) cells.overspent
+  pub fifth : RowSettled four five (spot_at month TotalBudgeted) cells.budgeted
+  pub sixth : RowSettled five six (spot_at month Buffered) cells.buffered
+  pub seventh : RowSettled six seven (spot_at month ToBudget) cells.to_budget
+  pub eighth : RowSettled seven eight (spot_at month TotalSpent) cells.spent
+  pub ninth : RowSettled eight new (spot_at month TotalLeftover) cells.leftover
+
 -- the same among the cells of all ids
 pub record SettledFour (old new : Cells) (month : ℕ) (id : Text) (sum budget carryover leftover : Option ℤ) : Type 0 where
   pub one : Cells
@@ -96,3 +124,23 @@ pub record SettledThree (old new : Cells) (month : ℕ) (id : Text) (sum budget 
   pub first : Settled old one (name_at id (spot_at month GroupSum)) sum
   pub second : Settled one two (name_at id (spot_at month GroupBudget)) budget
   pub third : Settled two new (name_at id (spot_at month GroupLeftover)) leftover
+
+-- and of the nine cells of a whole month
+pub record SettledNine (old new : Cells) (month : ℕ) (id : Text) (cells : WholeCells) : Type 0 where
+  pub one : Cells
+  pub two : Cells
+  pub three : Cells
+  pub four : Cells
+  pub five : Cells
+  pub six : Cells
+  pub seven : Cells
+  pub eight : Cells
+  pub first : Settled old one (name_at id (spot_at month TotalIncome)) cells.income
+  pub second : Settled one two (name_at id (spot_at month FromLastMonth)) cells.from_last
+  pub third : Settled two three (name_at id (spot_at month AvailableFunds)) cells.available
+  pub fourth : Settled three four (name_at id (spot_at month LastMonthOverspent)) cells.overspent
+  pub fifth : Settled four five (name_at id (spot_at month TotalBudgeted)) cells.budgeted
+  pub sixth : Settled five six (name_at id (spot_at month Buffered)) cells.buffered
+  pub seventh : Settled six seven (name_at id (spot_at month ToBudget)) cells.to_budget
+  pub eighth : Settled seven eight (name_at id (spot_at month TotalSpent)) cells.spent
+  pub ninth : Settled eight new (name_at id (spot_at month TotalLeftover)) cells.leftover

@@ -16,6 +16,7 @@ ghost use Rattle.envelope_cells.specs.declared.name.CellKind.TheVariants.{Sum, B
 ghost use Rattle.dirty_cells.specs.Grid.{is_pending, nothing};
 ghost use Rattle.dirty_cells.specs.Right.{AreRightBut, none_pending};
 
+use crate::row::CategoryCells;
 use crate::store::Store;
 use book_rows::{Book, CategoryRow, budget_id};
 use envelope_cells::{CellKind, CellName, CellValues, month_at};
@@ -135,16 +136,10 @@ fn kept_before(cells: &Store, book: &Book, id: &Txt, number: u32) -> Left
     ensures carries { result.carries ≡ carried_before (budget_of book.now.rows) id.now number }
 {
     let month = month_at(number - 1);
-    let past = cells.three(
-        id,
-        month,
-        CellKind::Leftover,
-        CellKind::Carryover,
-        CellKind::Budget,
-    );
+    let past = cells.category(id, month);
     Left {
-        left: past.one,
-        carries: is_one(past.two),
+        left: past.leftover,
+        carries: is_one(past.carryover),
     }
 }
 
@@ -201,15 +196,6 @@ fn flag_value(flag: bool) -> i128
 }
 
 /// What the cells of a category tell in a month; none where there is no such cell.
-#[derive(Clone, Copy)]
-pub(crate) struct Told {
-    sum: Option<i128>,
-    budget: Option<i128>,
-    carryover: Option<i128>,
-    leftover: Option<i128>,
-}
-
-/// What the cells of a category tell in a month.
 fn told_of(
     alloc: Global,
     cells: &Store,
@@ -218,7 +204,7 @@ fn told_of(
     id: &Txt,
     number: u32,
     first: u32,
-) -> Result<Told, NoMemory>
+) -> Result<CategoryCells, NoMemory>
     requires live { book.now.spent ≡ false }
     requires number { number < 2760 }
     requires within { first ≤ number }
@@ -238,7 +224,7 @@ fn told_of(
         } else {
             None
         };
-        return Ok(Told {
+        return Ok(CategoryCells {
             sum,
             budget: None,
             carryover: None,
@@ -246,7 +232,7 @@ fn told_of(
         });
     }
     let past = left_before(cells, book, id, number, first);
-    Ok(Told {
+    Ok(CategoryCells {
         sum: Some(said.sum),
         budget: Some(i128::from(said.budget)),
         carryover: Some(flag_value(said.carries)),
@@ -277,15 +263,7 @@ pub(crate) fn refresh_category<G: Ledger>(
 {
     let told = told_of(alloc, cells, sums, book, id, number, first)?;
     let month = month_at(number);
-    cells.settle_category(
-        id,
-        month,
-        told.sum,
-        told.budget,
-        told.carryover,
-        told.leftover,
-        steps,
-    )
+    cells.settle_category(id, month, told, steps)
 }
 
 /// The same of some categories, one after the other.

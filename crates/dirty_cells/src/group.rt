@@ -17,6 +17,7 @@ ghost use Rattle.dirty_cells.specs.Grid.{is_pending};
 ghost use Rattle.dirty_cells.specs.Right.{AreRightBut, cell_at, kept_value, HasCategories};
 
 use crate::category::kept;
+use crate::row::GroupCells;
 use crate::store::Store;
 use book_rows::Book;
 use envelope_cells::{BudgetGroup, CellKind, CellName, month_at};
@@ -66,16 +67,10 @@ fn sums_kept(cells: &Store, ids: &[Txt], month: u32, number: u32) -> Sums
     let mut budget = 0i128;
     let mut leftover = 0i128;
     for id in ids {
-        let more = cells.three(
-            id,
-            month,
-            CellKind::Sum,
-            CellKind::Budget,
-            CellKind::Leftover,
-        );
-        sum += more.one;
-        budget += more.two;
-        leftover += more.three;
+        let more = cells.category(id, month);
+        sum += more.sum;
+        budget += more.budget;
+        leftover += more.leftover;
     }
     Sums {
         sum,
@@ -100,7 +95,12 @@ fn settle_group<G: Ledger>(
     ensures others { OnOk result ((q : CellNameIs) → (q.month ≡ month_at number → ⊥) → map.get cells.new q ≡ map.get cells.old q) }
     ensures cost { OnOk result (steps.new ≡ steps.old + 3) }
 {
-    cells.settle_group(id, month, sum, budget, leftover, steps)
+    let told = GroupCells {
+        sum,
+        budget,
+        leftover,
+    };
+    cells.settle_group(id, month, told, steps)
 }
 
 /// Computes the cells of a live group in a month anew, from the kept cells of its categories: three of them are written or taken away.

@@ -13,7 +13,6 @@ mod group;
 pub mod marks;
 pub mod month;
 mod row;
-mod spot;
 pub mod store;
 pub mod sums;
 pub mod touching;

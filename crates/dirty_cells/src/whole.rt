@@ -11,11 +11,11 @@ ghost use Rattle.envelope_cells.specs.Ids.{month_at};
 ghost use Rattle.envelope_cells.specs.declared.name.CellName.{CellName as CellNameIs};
 ghost use Rattle.envelope_cells.specs.declared.name.CellKind.TheVariants.{GroupSum, GroupBudget, GroupLeftover};
 ghost use Rattle.dirty_cells.specs.Grid.{is_pending, nothing};
-ghost use Rattle.dirty_cells.specs.Right.{AreRightBut, cell_at, kept_value, Settled, none_pending};
+ghost use Rattle.dirty_cells.specs.Right.{AreRightBut, none_pending};
 ghost use Rattle.dirty_cells.specs.WholeOf.{IsWhole, is_on, kept_of_group, AreTotals, IsBegin, whole_by};
 
 use crate::category::kept;
-use crate::row::Three;
+use crate::row::{GroupAmounts, WholeCells};
 use crate::store::Store;
 use book_rows::{Book, month_id};
 use envelope_cells::{BudgetGroup, CellKind, CellName, month_at};
@@ -37,25 +37,6 @@ pub(crate) struct Whole {
     pub leftover: i128,
 }
 
-/// Settles one cell of the whole month.
-fn settle_one<G: Ledger>(
-    cells: &mut Store,
-    none: &Txt,
-    month: u32,
-    number: u32,
-    kind: CellKind,
-    value: i128,
-    steps: &mut Steps<G>,
-) -> Result<(), NoMemory>
-    requires month { month ≡ month_at number }
-    requires none { none.now ≡ [] }
-    ensures set { OnOk result (Settled cells.old cells.new (cell_at number kind []) (Some value)) }
-    ensures cost { steps.new ≤ steps.old + 1 }
-{
-    let name = CellName::make(month, kind, none)?;
-    cells.settle(name, Some(value), steps)
-}
-
 /// Settles the nine cells of a whole month.
 pub(crate) fn settle_whole<G: Ledger>(
     cells: &mut Store,
@@ -71,87 +52,18 @@ pub(crate) fn settle_whole<G: Ledger>(
     ensures others { OnOk result ((q : CellNameIs) → (q.month ≡ month_at number → ⊥) → map.get cells.new q ≡ map.get cells.old q) }
     ensures cost { OnOk result (steps.new ≤ steps.old + 9) }
 {
-    settle_one(
-        cells,
-        none,
-        month,
-        number,
-        CellKind::TotalIncome,
-        whole.income,
-        steps,
-    )?;
-    settle_one(
-        cells,
-        none,
-        month,
-        number,
-        CellKind::FromLastMonth,
-        whole.from_last,
-        steps,
-    )?;
-    settle_one(
-        cells,
-        none,
-        month,
-        number,
-        CellKind::AvailableFunds,
-        whole.available,
-        steps,
-    )?;
-    settle_one(
-        cells,
-        none,
-        month,
-        number,
-        CellKind::LastMonthOverspent,
-        whole.overspent,
-        steps,
-    )?;
-    settle_one(
-        cells,
-        none,
-        month,
-        number,
-        CellKind::TotalBudgeted,
-        whole.budgeted,
-        steps,
-    )?;
-    settle_one(
-        cells,
-        none,
-        month,
-        number,
-        CellKind::Buffered,
-        whole.buffered,
-        steps,
-    )?;
-    settle_one(
-        cells,
-        none,
-        month,
-        number,
-        CellKind::ToBudget,
-        whole.to_budget,
-        steps,
-    )?;
-    settle_one(
-        cells,
-        none,
-        month,
-        number,
-        CellKind::TotalSpent,
-        whole.spent,
-        steps,
-    )?;
-    settle_one(
-        cells,
-        none,
-        month,
-        number,
-        CellKind::TotalLeftover,
-        whole.leftover,
-        steps,
-    )
+    let told = WholeCells {
+        income: Some(whole.income),
+        from_last: Some(whole.from_last),
+        available: Some(whole.available),
+        overspent: Some(whole.overspent),
+        budgeted: Some(whole.budgeted),
+        buffered: Some(whole.buffered),
+        to_budget: Some(whole.to_budget),
+        spent: Some(whole.spent),
+        leftover: Some(whole.leftover),
+    };
+    cells.settle_whole(none, month, told, steps)
 }
 
 /// What the groups of a month have together.
@@ -234,26 +146,20 @@ pub(crate) struct Spending {
 }
 
 /// What the three kept cells of a group tell, each 0 where it takes income.
-fn group_three(cells: &Store, group: &BudgetGroup, number: u32) -> Three
+fn group_amounts(cells: &Store, group: &BudgetGroup, number: u32) -> GroupAmounts
     requires { number < 2760 }
-    ensures one { result.one ≡ kept_of_group cells.now number GroupSum false group.now }
-    ensures two { result.two ≡ kept_of_group cells.now number GroupBudget false group.now }
-    ensures three { result.three ≡ kept_of_group cells.now number GroupLeftover false group.now }
+    ensures sum { result.sum ≡ kept_of_group cells.now number GroupSum false group.now }
+    ensures budget { result.budget ≡ kept_of_group cells.now number GroupBudget false group.now }
+    ensures leftover { result.leftover ≡ kept_of_group cells.now number GroupLeftover false group.now }
 {
     if !is_on(false, group) {
-        return Three {
-            one: 0,
-            two: 0,
-            three: 0,
+        return GroupAmounts {
+            sum: 0,
+            budget: 0,
+            leftover: 0,
         };
     }
-    cells.three(
-        &group.id,
-        month_at(number),
-        CellKind::GroupSum,
-        CellKind::GroupBudget,
-        CellKind::GroupLeftover,
-    )
+    cells.group(&group.id, month_at(number))
 }
 
 /// What the kept cells of the groups of expenses tell, added up.
@@ -270,10 +176,10 @@ fn spending_kept(cells: &Store, groups: &[BudgetGroup], number: u32) -> Spending
     let mut budgets = 0i128;
     let mut leftover = 0i128;
     for group in groups {
-        let more = group_three(cells, group, number);
-        spent += more.one;
-        budgets += more.two;
-        leftover += more.three;
+        let more = group_amounts(cells, group, number);
+        spent += more.sum;
+        budgets += more.budget;
+        leftover += more.leftover;
     }
     Spending {
         spent,
@@ -306,16 +212,6 @@ fn totals_of(
     })
 }
 
-/// What a kept cell of a whole month tells, or 0.
-fn whole_kept(cells: &Store, none: &Txt, kind: CellKind, number: u32) -> Result<i128, NoMemory>
-    requires number { number < 2760 }
-    requires none { none.now ≡ [] }
-    ensures { IfOk result (λ z. z ≡ kept_value cells.now number kind []) }
-{
-    let name = CellName::make(month_at(number), kind, none)?;
-    Ok(kept(cells, &name))
-}
-
 /// What a month left to budget and held back.
 fn brought(to_budget: i128, held: i128) -> i128
     requires to_budget { unsigned_abs to_budget ≤ 2 ^ 121 }
@@ -326,45 +222,40 @@ fn brought(to_budget: i128, held: i128) -> i128
 }
 
 /// What a month begins with, from the kept cells of the month before.
-fn begin_kept(cells: &Store, book: &Book, none: &Txt, number: u32) -> Result<Begin, NoMemory>
+fn begin_kept(cells: &Store, book: &Book, none: &Txt, number: u32) -> Begin
     requires live { book.now.spent ≡ false }
     requires none { none.now ≡ [] }
     requires some { 0 < number }
     requires number { number < 2760 }
     requires prior { AreRightBut cells.now (budget_of book.now.rows) (number - 1) none_pending }
-    ensures { IfOk result (λ p. IsBegin (budget_of book.now.rows) number p) }
+    ensures { IsBegin (budget_of book.now.rows) number result }
 {
     book.sizes();
-    let to_budget = whole_kept(cells, none, CellKind::ToBudget, number - 1)?;
-    let held = whole_kept(cells, none, CellKind::Buffered, number - 1)?;
-    let left = whole_kept(cells, none, CellKind::TotalLeftover, number - 1)?;
-    let from_last = brought(to_budget, held);
-    Ok(Begin { from_last, left })
+    let past = cells.handed_on(none, month_at(number - 1));
+    let from_last = brought(past.to_budget, past.buffered);
+    Begin {
+        from_last,
+        left: past.leftover,
+    }
 }
 
 /// What a month begins with. Before month `first` there is nothing.
-fn begin_of(
-    cells: &Store,
-    book: &Book,
-    none: &Txt,
-    number: u32,
-    first: u32,
-) -> Result<Begin, NoMemory>
+fn begin_of(cells: &Store, book: &Book, none: &Txt, number: u32, first: u32) -> Begin
     requires live { book.now.spent ≡ false }
     requires none { none.now ≡ [] }
     requires number { number < 2760 }
     requires within { first ≤ number }
     requires quiet { (c : Text) → IsPast (budget_of book.now.rows) c first nothing }
     requires prior { first < number → AreRightBut cells.now (budget_of book.now.rows) (number - 1) none_pending }
-    ensures { IfOk result (λ p. IsBegin (budget_of book.now.rows) number p) }
+    ensures { IsBegin (budget_of book.now.rows) number result }
 {
     if first < number {
         return begin_kept(cells, book, none, number);
     }
-    Ok(Begin {
+    Begin {
         from_last: 0,
         left: 0,
-    })
+    }
 }
 
 /// What is held back in a month.
@@ -479,7 +370,7 @@ fn whole_of(
 {
     book.sizes();
     let totals = totals_of(cells, book, groups, number)?;
-    let begin = begin_of(cells, book, none, number, first)?;
+    let begin = begin_of(cells, book, none, number, first);
     let held = held_in(alloc, book, number)?;
     Ok(whole_by(totals, begin, held))
 }

@@ -43,10 +43,10 @@ whole_by-requires-clause-from_last c =
     let rows = c.args.book.now.rows in
     let b = budget_of rows in
     let n = c.args.number in
-    omega (arith, ints, c.in_ok-begin.ensures.from_last, ap unsigned_abs c.in_ok-begin.ensures.from_last, cell_small rows c.sizes.ensures n c.requires.number FromLastMonth (from_last_month b n) refl)
+    omega (arith, ints, c.begin_of-begin.ensures.from_last, ap unsigned_abs c.begin_of-begin.ensures.from_last, cell_small rows c.sizes.ensures n c.requires.number FromLastMonth (from_last_month b n) refl)
 
 pub whole_by-requires-clause-left : goal.whole_by-requires-clause-left
-whole_by-requires-clause-left c = omega (arith, ap unsigned_abs c.in_ok-begin.ensures.left, left_small_before c.args.book.now.rows c.sizes.ensures c.args.number c.requires.number)
+whole_by-requires-clause-left c = omega (arith, ap unsigned_abs c.begin_of-begin.ensures.left, left_small_before c.args.book.now.rows c.sizes.ensures c.args.number c.requires.number)
 
 pub returns : goal.returns
 returns c =
@@ -54,4 +54,4 @@ returns c =
     let n = c.args.number in
     let fits : SFits w64 c.in_ok-held.held = search rules in
     subst (IsWhole b n) (sym c.whole_by.ensures)
-    (whole_is b n c.in_ok-totals.totals c.in_ok-begin.begin (to_z w64 (of_z w64 c.in_ok-held.held)) c.in_ok-totals.ensures c.in_ok-begin.ensures (to_z-of_z w64 c.in_ok-held.held fits ∙ c.in_ok-held.ensures))
+    (whole_is b n c.in_ok-totals.totals c.begin_of-begin.result (to_z w64 (of_z w64 c.in_ok-held.held)) c.in_ok-totals.ensures c.begin_of-begin.ensures (to_z-of_z w64 c.in_ok-held.held fits ∙ c.in_ok-held.ensures))

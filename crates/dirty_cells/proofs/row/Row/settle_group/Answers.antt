@@ -1,12 +1,7 @@
-use Rattle.dirty_cells.proofs.Spots.{on_ok}
+use Rattle.dirty_cells.proofs.Rows.{group_settles}
 use Rattle.dirty_cells.proofs.row.Row.settle_group.Goals as goal
 
 pub returns : goal.returns
 returns c =
-    on_ok c.settle-3.result (λ last. record {
-      one = c.settle.new.self;
-      two = c.settle-2.new.self;
-      first = c.in_ok-settle.ensures;
-      second = c.in_ok-settle-2.ensures;
-      third = last;
-    }) c.settle-3.ensures
+    let inside = c.self.inside in
+    group_settles inside.wholes.entries inside.groups.entries inside.categories.entries c.insert.new.self.entries c.args.month c.args.cells c.args.self.now c.self.view_is c.in_ok-insert.ensures.updates.0

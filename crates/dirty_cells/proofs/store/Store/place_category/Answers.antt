@@ -1,4 +1,4 @@
-use Rattle.std.proofs.Common.{◌≡◌, ◌∙◌, [], Some, None, IsSome, cond, refl, ap, sym, subst, rules}
+use Rattle.std.proofs.Common.{◌≡◌, ◌∙◌, Some, None, IsSome, cond, refl, ap, sym, subst, rules}
 use Rattle.std.specs.BTreeMap as tree
 use Rattle.std.specs.BTreeMap.{is_at}
 use Rattle.finite_sums.specs.Maps.{text_cmp}
@@ -13,7 +13,7 @@ returns-in-Some c =
     let there : tree.get text_cmp rows id ≡ Some c.in-Some.row.now = search rules in
     let updates = (c.get_mut.follows.holds c.settle_category.new.self).3 (subst IsSome (sym there) refl) in
     on_ok c.settle_category.result (λ set. row_four rows.entries (c.get_mut.follows.lender c.settle_category.new.self).entries c.args.self.now id (Some c.in-Some.row.now) c.settle_category.new.self
-    c.self.view_is there updates.0 c.args.month c.args.sum c.args.budget c.args.carryover c.args.leftover set) c.settle_category.ensures
+    c.self.view_is there updates.0 c.args.month c.args.cells.sum c.args.cells.budget c.args.cells.carryover c.args.cells.leftover set) c.settle_category.ensures
 
 pub returns : goal.returns
 returns c =
@@ -25,5 +25,5 @@ returns c =
     c.self.view_is none
     (λ q. c.in_ok-insert.ensures.updates.0 q ∙ ap (λ k. cond (is_at (text_cmp k) q) (Some c.settle_category-2.new.self) (tree.get text_cmp c.get_mut.follows.lender-at-none q)) c.in_ok-copy.ensures
     ∙ ap (λ m. cond (is_at (text_cmp id) q) (Some c.settle_category-2.new.self) (tree.get text_cmp m q)) same)
-    c.args.month c.args.sum c.args.budget c.args.carryover c.args.leftover
-    (subst (λ e. RowFour e c.settle_category-2.new.self c.args.month c.args.sum c.args.budget c.args.carryover c.args.leftover) c.new-row.ensures c.in_ok-settle_category.ensures)
+    c.args.month c.args.cells.sum c.args.cells.budget c.args.cells.carryover c.args.cells.leftover
+    (subst (λ e. RowFour e c.settle_category-2.new.self c.args.month c.args.cells.sum c.args.cells.budget c.args.cells.carryover c.args.cells.leftover) c.new-row.ensures c.in_ok-settle_category.ensures)

@@ -1,0 +1,7 @@
+use Rattle.dirty_cells.proofs.Rows.{whole_settles}
+use Rattle.dirty_cells.proofs.row.Row.settle_whole.Goals as goal
+
+pub returns : goal.returns
+returns c =
+    let inside = c.self.inside in
+    whole_settles inside.wholes.entries inside.groups.entries inside.categories.entries c.insert.new.self.entries c.args.month c.args.cells c.args.self.now c.self.view_is c.in_ok-insert.ensures.updates.0
