@@ -2,8 +2,16 @@
 #![tactic(auto)]
 
 #[cfg(test)]
+mod chance;
+#[cfg(test)]
+mod choices;
+#[cfg(test)]
+mod crowd;
+#[cfg(test)]
 mod events;
 #[cfg(test)]
 mod lines;
 #[cfg(test)]
 mod playing;
+#[cfg(test)]
+mod told;
