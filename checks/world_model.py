@@ -3,8 +3,7 @@
 
 `World` answers one line after the other. Of the lines of a device it knows `set`, `undo` and `redo`, and of those that only read `fields`,
 `messages`, `value`, `trie`, `balance`, `sheet` and `cell`; any other line that only reads is answered by None, which stands for a reply that
-isn't told. Run as a program it answers the lines on standard input, and it says what the world of crates/world_examples comes to with the word
-`played`.
+isn't told. Run as a program it answers the lines on standard input.
 """
 import datetime
 import re
@@ -541,7 +540,7 @@ class World:
         return ["equal %d" % (self.device(one).messages == self.device(other).messages)]
 
 
-# ---- the world of crates/world_examples
+# ---- a world of many devices and events
 
 CROWD = 16
 EVENTS = 5_000
