@@ -11,9 +11,12 @@ ghost use Rattle.kept_messages.specs.Records.{record_of, message_in};
 
 use budget_ports::Record;
 use field_merge::{LineFault, Message, push_body, read_line};
-use field_values::{NoMemory, Txt};
+use field_values::{NoMemory, Txt, Value};
 use hybrid_clock::Stamp;
 use std::alloc::Global;
+
+/// The most bytes that the text of a number takes.
+const LONGEST_NUMBER: usize = 17;
 
 /// The text of a timestamp, in memory of its own.
 pub fn stamp_text(alloc: Global, stamp: &Stamp) -> Result<Txt, NoMemory>
@@ -28,12 +31,24 @@ pub fn stamp_text(alloc: Global, stamp: &Stamp) -> Result<Txt, NoMemory>
     }
 }
 
+/// How many bytes what stands behind the timestamp takes at most, but for escapes: three TABs, a mark of the value and its text.
+fn room_for(message: &Message) -> usize {
+    let field = &message.field;
+    let text = match &message.value {
+        Value::Null => 0,
+        Value::Number(_) => LONGEST_NUMBER,
+        Value::Text(text) | Value::Other(text) => text.bytes().len(),
+    };
+    let names = field.dataset().len() + field.row().len() + field.column().len();
+    names.saturating_add(text).saturating_add(5)
+}
+
 /// What stands behind the timestamp in a message's line.
 fn body(alloc: Global, message: &Message) -> Result<Txt, NoMemory>
     requires { IsMessage message.now }
     ensures { IfOk result (λ t. t ≡ message_body message.now) }
 {
-    let mut body = String::new(alloc);
+    let mut body = String::with_capacity(alloc, room_for(message))?;
     push_body(&mut body, message)?;
     Ok(Txt::new(body))
 }
@@ -53,10 +68,14 @@ pub fn write_record(alloc: Global, message: &Message) -> Result<Record, NoMemory
 fn record_line(alloc: Global, kept: &Record) -> Result<Txt, NoMemory>
     ensures { IfOk result (λ t. t ≡ kept.now.key ++ 9 ∷ kept.now.body) }
 {
-    let mut line = String::new(alloc);
-    line.push_str(kept.key.as_str())?;
+    let (key, body) = (kept.key.as_str(), kept.body.as_str());
+    let mut line = String::with_capacity(
+        alloc,
+        key.len().saturating_add(body.len()).saturating_add(1),
+    )?;
+    line.push_str(key)?;
     line.push('\t')?;
-    line.push_str(kept.body.as_str())?;
+    line.push_str(body)?;
     Ok(Txt::new(line))
 }
 
