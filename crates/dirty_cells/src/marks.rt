@@ -61,23 +61,22 @@ fn set_in(field: &Field) -> Option<Dataset>
 
 /// The category in the id of a budget row, if it has one.
 #[tactic(auto, unfolding(crate::specs::Marking::budget_category))]
-fn budget_category(alloc: Global, id: &Txt) -> Result<Option<Txt>, NoMemory>
-    ensures { IfOk result (λ c. c ≡ budget_category id.now) }
+fn budget_category(alloc: Global, row: &str) -> Result<Option<Txt>, NoMemory>
+    ensures { IfOk result (λ c. c ≡ budget_category row.now) }
 {
-    let text = id.as_str();
-    let bytes = text.as_bytes();
+    let bytes = row.as_bytes();
     if bytes.len() < 7 || bytes[6] != b'-' {
         return Ok(None);
     }
-    let (_, category) = text.split_at(7);
+    let (_, category) = row.split_at(7);
     Ok(Some(Txt::from_text(alloc, category)?))
 }
 
 /// Puts the category of a budget row among others.
-fn mark_budget(alloc: Global, cs: &mut BTreeSet<Txt>, id: &Txt) -> Result<(), NoMemory>
-    ensures { OnOk result ((q : Text) → set.contains text_cmp cs.new q ≡ (is_among text_cmp (listed (budget_category id.now)) q || set.contains text_cmp cs.old q)) }
+fn mark_budget(alloc: Global, cs: &mut BTreeSet<Txt>, row: &str) -> Result<(), NoMemory>
+    ensures { OnOk result ((q : Text) → set.contains text_cmp cs.new q ≡ (is_among text_cmp (listed (budget_category row.now)) q || set.contains text_cmp cs.old q)) }
 {
-    match budget_category(alloc, id)? {
+    match budget_category(alloc, row)? {
         None => Ok(()),
         Some(category) => put_one(cs, &category),
     }
@@ -140,48 +139,64 @@ pub(crate) fn mark_groups(book: &Book, gs: &mut BTreeSet<Txt>, ids: &[Txt]) -> R
     Ok(())
 }
 
-/// Puts the categories that a changed row marks among others.
-fn mark_categories_in(
+/// Puts a category that has changed and the group that it names among others.
+fn mark_category(
+    book: &Book,
+    cs: &mut BTreeSet<Txt>,
+    gs: &mut BTreeSet<Txt>,
+    id: &Txt,
+) -> Result<(), NoMemory>
+    ensures categories { OnOk result ((q : Text) → set.contains text_cmp cs.new q ≡ (is_among text_cmp (id.now ∷ []) q || set.contains text_cmp cs.old q)) }
+    ensures groups { OnOk result ((q : Text) → set.contains text_cmp gs.new q ≡ (is_among text_cmp (group_at book.now.rows id.now) q || set.contains text_cmp gs.old q)) }
+{
+    put_one(cs, id)?;
+    mark_group(book, gs, id)
+}
+
+/// Puts a group that has changed and the categories that name it among others.
+fn mark_whole_group(
+    book: &Book,
+    cs: &mut BTreeSet<Txt>,
+    gs: &mut BTreeSet<Txt>,
+    id: &Txt,
+) -> Result<(), NoMemory>
+    ensures categories { OnOk result ((q : Text) → set.contains text_cmp cs.new q ≡ (is_among text_cmp (members book.now.rows id.now) q || set.contains text_cmp cs.old q)) }
+    ensures groups { OnOk result ((q : Text) → set.contains text_cmp gs.new q ≡ (is_among text_cmp (id.now ∷ []) q || set.contains text_cmp gs.old q)) }
+{
+    mark_members(book, cs, id)?;
+    put_one(gs, id)
+}
+
+/// Puts the categories and groups that a changed row marks among others. Of a row that marks none no text is made.
+fn mark_row(
     alloc: Global,
     book: &Book,
     cs: &mut BTreeSet<Txt>,
-    dataset: Option<Dataset>,
-    id: &Txt,
-) -> Result<(), NoMemory>
-    ensures { OnOk result ((q : Text) → set.contains text_cmp cs.new q ≡ (is_among text_cmp (categories_in book.now.rows dataset id.now) q || set.contains text_cmp cs.old q)) }
-{
-    match dataset {
-        Some(Dataset::Categories) => put_one(cs, id),
-        Some(Dataset::CategoryGroups) => mark_members(book, cs, id),
-        Some(Dataset::ZeroBudgets) => mark_budget(alloc, cs, id),
-        _ => Ok(()),
-    }
-}
-
-/// Puts the groups that a changed row marks among others.
-fn mark_groups_in(
-    book: &Book,
     gs: &mut BTreeSet<Txt>,
     dataset: Option<Dataset>,
-    id: &Txt,
+    row: &str,
 ) -> Result<(), NoMemory>
-    ensures { OnOk result ((q : Text) → set.contains text_cmp gs.new q ≡ (is_among text_cmp (groups_in book.now.rows dataset id.now) q || set.contains text_cmp gs.old q)) }
+    ensures categories { OnOk result ((q : Text) → set.contains text_cmp cs.new q ≡ (is_among text_cmp (categories_in book.now.rows dataset row.now) q || set.contains text_cmp cs.old q)) }
+    ensures groups { OnOk result ((q : Text) → set.contains text_cmp gs.new q ≡ (is_among text_cmp (groups_in book.now.rows dataset row.now) q || set.contains text_cmp gs.old q)) }
 {
     match dataset {
-        Some(Dataset::Categories) => mark_group(book, gs, id),
-        Some(Dataset::CategoryGroups) => put_one(gs, id),
+        Some(Dataset::Categories) => mark_category(book, cs, gs, &Txt::from_text(alloc, row)?),
+        Some(Dataset::CategoryGroups) => {
+            mark_whole_group(book, cs, gs, &Txt::from_text(alloc, row)?)
+        }
+        Some(Dataset::ZeroBudgets) => mark_budget(alloc, cs, row),
         _ => Ok(()),
     }
 }
 
-/// The month of a changed row, if it has one in its id.
-fn month_in(dataset: Option<Dataset>, id: &Txt) -> Option<u32>
-    ensures { result ≡ month_in dataset id.now }
+/// The month of a changed row, if it has one in its id. Of a row that has none no text is made.
+fn month_in(alloc: Global, dataset: Option<Dataset>, row: &str) -> Result<Option<u32>, NoMemory>
+    ensures { IfOk result (λ m. m ≡ month_in dataset row.now) }
 {
     match dataset {
-        Some(Dataset::ZeroBudgets) => budget_month(id),
-        Some(Dataset::ZeroBudgetMonths) => month_row_month(id),
-        _ => None,
+        Some(Dataset::ZeroBudgets) => Ok(budget_month(&Txt::from_text(alloc, row)?)),
+        Some(Dataset::ZeroBudgetMonths) => Ok(month_row_month(&Txt::from_text(alloc, row)?)),
+        _ => Ok(None),
     }
 }
 
@@ -218,10 +233,7 @@ pub(crate) fn mark_changes(
     ensures groups { OnOk result ((q : Text) → set.contains text_cmp gs.new q ≡ (is_among text_cmp (flat_map (groups_by book.now.rows) changes.now) q || set.contains text_cmp gs.old q)) }
 {
     for (field, _) in changes {
-        let id = Txt::from_text(alloc, field.row())?;
-        let dataset = set_in(field);
-        mark_categories_in(alloc, book, cs, dataset, &id)?;
-        mark_groups_in(book, gs, dataset, &id)?;
+        mark_row(alloc, book, cs, gs, set_in(field), field.row())?;
     }
     Ok(())
 }
@@ -236,8 +248,7 @@ pub(crate) fn first_changed(
 {
     let mut first = number;
     for (field, _) in changes {
-        let id = Txt::from_text(alloc, field.row())?;
-        first = earlier(first, month_in(set_in(field), &id));
+        first = earlier(first, month_in(alloc, set_in(field), field.row())?);
     }
     Ok(first)
 }

@@ -5,6 +5,6 @@ use Rattle.dirty_cells.proofs.marks.budget_category.Goals as goal
 pub split_at-requires : goal.split_at-requires
 split_at-requires c =
     let same = c.as_bytes-bytes.ensures.value in
-    let long : 6 < length c.as_str-text.result.now = omega (arith, c.if-bytes-lt7.false, ap length same) in
-    let ascii : get_or c.as_str-text.result.now 6 0 < 128 = omega (arith, c.if-bytes-ne45.false, ap (λ l. get_or l 6 0) same) in
-    IsCharBoundary-after_ascii c.as_str-text.result.now 6 c.as_str-text.utf8 long ascii
+    let long : 6 < length c.args.row.now = omega (arith, c.if-bytes-lt7.false, ap length same) in
+    let ascii : get_or c.args.row.now 6 0 < 128 = omega (arith, c.if-bytes-ne45.false, ap (λ l. get_or l 6 0) same) in
+    IsCharBoundary-after_ascii c.args.row.now 6 c.utf8.row long ascii

@@ -10,7 +10,7 @@ loop-field-preserved c =
     let x = c.loop-field-item.result in
     let inside : i < length changes = search rules in
     ap (λ n. earliest n (map month_by (drop (i + 1) changes)))
-    (c.earlier-first.ensures ∙ ap (earlier c.loop-field.first) (c.month_in.ensures ∙ ap (λ d. month_in d c.in_ok-id.id) c.set_in.ensures ∙ ap (month_in (set_in x)) (c.in_ok-id.ensures ∙ c.row.ensures.value)))
+    (c.earlier-first.ensures ∙ ap (earlier c.loop-field.first) (c.in_ok-month_in.ensures ∙ ap (λ d. month_in d c.row.result.now) c.set_in.ensures ∙ ap (month_in (set_in x)) c.row.ensures.value))
     ∙ ap (λ l. earliest c.loop-field.first (map month_by l)) (sym (from_here changes i x inside c.loop-field-item.is)) ∙ c.loop-field.invariant
 
 pub returns : goal.returns

@@ -17,16 +17,16 @@ loop-field-preserved c =
     let here = from_here changes i x inside c.loop-field-item.is in
     record {
       categories = λ q.
-          gather_step (categories_by r) changes i x (set.contains text_cmp c.loop-field.cs) (set.contains text_cmp c.mark_categories_in.new.cs) q here
-          (c.in_ok-mark_categories_in.ensures q
-          ∙ ap (λ d. is_among text_cmp (categories_in r d c.in_ok-id.id) q || set.contains text_cmp c.loop-field.cs q) c.set_in-dataset.ensures
-          ∙ ap (λ t. is_among text_cmp (categories_in r (set_in x) t) q || set.contains text_cmp c.loop-field.cs q) (c.in_ok-id.ensures ∙ c.row.ensures.value))
+          gather_step (categories_by r) changes i x (set.contains text_cmp c.loop-field.cs) (set.contains text_cmp c.mark_row.new.cs) q here
+          (c.in_ok-mark_row.ensures.categories q
+          ∙ ap (λ d. is_among text_cmp (categories_in r d c.row.result.now) q || set.contains text_cmp c.loop-field.cs q) c.set_in.ensures
+          ∙ ap (λ t. is_among text_cmp (categories_in r (set_in x) t) q || set.contains text_cmp c.loop-field.cs q) c.row.ensures.value)
           ∙ c.loop-field.invariant.categories q;
       groups = λ q.
-          gather_step (groups_by r) changes i x (set.contains text_cmp c.loop-field.gs) (set.contains text_cmp c.mark_groups_in.new.gs) q here
-          (c.in_ok-mark_groups_in.ensures q
-          ∙ ap (λ d. is_among text_cmp (groups_in r d c.in_ok-id.id) q || set.contains text_cmp c.loop-field.gs q) c.set_in-dataset.ensures
-          ∙ ap (λ t. is_among text_cmp (groups_in r (set_in x) t) q || set.contains text_cmp c.loop-field.gs q) (c.in_ok-id.ensures ∙ c.row.ensures.value))
+          gather_step (groups_by r) changes i x (set.contains text_cmp c.loop-field.gs) (set.contains text_cmp c.mark_row.new.gs) q here
+          (c.in_ok-mark_row.ensures.groups q
+          ∙ ap (λ d. is_among text_cmp (groups_in r d c.row.result.now) q || set.contains text_cmp c.loop-field.gs q) c.set_in.ensures
+          ∙ ap (λ t. is_among text_cmp (groups_in r (set_in x) t) q || set.contains text_cmp c.loop-field.gs q) c.row.ensures.value)
           ∙ c.loop-field.invariant.groups q;
     }
 
