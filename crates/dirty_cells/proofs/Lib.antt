@@ -23,6 +23,7 @@ pub mod Wholes
 pub mod Months
 pub mod LeftBefore
 pub mod Gathered
+pub mod Noted
 pub mod Following
 pub mod Covered
 pub mod Renewed

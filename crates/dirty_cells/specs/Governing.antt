@@ -1,5 +1,8 @@
 -- By which rows changes touch transactions, as the rows before them tell.
-use Rattle.std.specs.Prelude.{ℕ, ◌+◌, Bool, List, [], ◌∷◌, ◌++◌, flat_map, length, Option, Some, None, is_some, if◌then◌else◌}
+use Rattle.std.specs.Prelude.{◌≡◌, ℕ, ◌+◌, Bool, true, false, List, [], ◌∷◌, ◌++◌, flat_map, length, Option, Some, None, is_some, if◌then◌else◌}
+use Rattle.std.specs.Ordering.{eq_by_cmp}
+use Rattle.std.specs.FinMap as map
+use Rattle.std.specs.BTreeSet as set
 use Rattle.finite_sums.specs.Sums.{weight}
 use Rattle.finite_sums.specs.Maps.{Text, text_cmp, is_among}
 use Rattle.field_values.specs.declared.value.Value.{Value}
@@ -7,12 +10,14 @@ use Rattle.book_rows.specs.declared.rows.Rows.{Rows}
 use Rattle.book_rows.specs.declared.column.Dataset.{Dataset}
 use Rattle.book_rows.specs.declared.column.Dataset.TheVariants.{Accounts, Transactions, CategoryMapping}
 use Rattle.book_rows.specs.declared.column.Column.{Column}
+use Rattle.book_rows.specs.declared.column.Column.TheVariants.{Tombstone}
 use Rattle.book_rows.specs.Columns.{dataset_of, column_of}
 use Rattle.book_rows.specs.Rows.{dataset_kind}
 use Rattle.book_rows.specs.Parts.{children_of, account_txs, category_txs}
 use Rattle.dirty_cells.specs.Changes.{Change, account_governs, tx_governs, mapping_governs}
 use Rattle.dirty_cells.specs.declared.touching.Governor.{Governor}
 use Rattle.dirty_cells.specs.declared.touching.Governor.TheVariants.{Account, Parent, Mapping}
+use Rattle.dirty_cells.specs.declared.touching.Touching.{Touching}
 
 -- the transactions that a row governs: those of an account, the parts of a transaction, those whose category column is a mapping's id
 abbrev pub governed : Rows → Governor → Text → List Text
@@ -62,6 +67,24 @@ parents_by r c = of_change (parent_set r) c
 
 abbrev pub mappings_by : Rows → Change → List Text
 mappings_by r c = of_change (mapping_set r) c
+
+-- ---- the transaction that was noted last
+
+-- it is the row's, and the column's value neither deletes nor restores it
+abbrev pub is_last : Option Text → Text → Column → Bool
+is_last None id column = false
+is_last (Some last) id Tombstone = false
+is_last (Some last) id other = eq_by_cmp text_cmp last id
+
+abbrev pub IsNoted : Rows → Option Text → (Text → Bool) → (Text → Bool) → Type 0
+IsNoted r None txs parents = Unit {0}
+IsNoted r (Some last) txs parents = (txs last ≡ true) × (map.get r.txs last ≡ None → parents last ≡ true)
+
+-- it is among the transactions, and where it has no row, among those that govern their parts
+abbrev pub KnowsLast : Rows → Touching → Type 0
+KnowsLast r found = IsNoted r found.last (set.contains text_cmp found.txs) (set.contains text_cmp found.parents)
+
+-- ---- all that is touched
 
 -- the transactions that changes touch: those whose rows they set, and those that rows govern
 abbrev pub touched_list : Rows → List Change → List Text

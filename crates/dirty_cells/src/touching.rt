@@ -1,12 +1,12 @@
 //! Which transactions changes touch.
-ghost use Rattle.std.specs.Prelude.{◌≡◌, ◌+◌, ◌≤◌, ◌||◌, flat_map, length, true, false, OnOk};
+ghost use Rattle.std.specs.Prelude.{◌≡◌, ◌+◌, ◌≤◌, ◌||◌, ◌∷◌, [], flat_map, length, true, false, OnOk};
 ghost use Rattle.std.specs.Ordering.{eq_by_cmp};
 ghost use Rattle.std.specs.BTreeSet as set;
 ghost use Rattle.finite_sums.specs.Maps.{Text, text_cmp, is_among};
 ghost use Rattle.finite_sums.specs.Sums.{weight};
 ghost use Rattle.dirty_cells.specs.Changes.{account_governs, tx_governs, mapping_governs, same_text, AreDifferent, Within, Spares, with_fields};
 ghost use Rattle.dirty_cells.specs.Bound.{touched_txs, pairs};
-ghost use Rattle.dirty_cells.specs.Governing.{governed, only_where, tx_set, account_set, parent_set, mapping_set, txs_by, accounts_by, parents_by, mappings_by, touched_list};
+ghost use Rattle.dirty_cells.specs.Governing.{governed, only_where, tx_set, account_set, parent_set, mapping_set, is_last, KnowsLast, txs_by, accounts_by, parents_by, mappings_by, touched_list};
 ghost use Rattle.std.specs.List.Sorted.{IsStrictlySortedBy};
 ghost use Rattle.std.specs.Prelude.{IfOk};
 ghost use Rattle.book_rows.specs.Kinds.{text_of};
@@ -37,6 +37,8 @@ pub(crate) struct Touching {
     pub parents: BTreeSet<Txt>,
     /// The mappings that govern transactions.
     pub mappings: BTreeSet<Txt>,
+    /// The transaction that was noted last.
+    pub last: Option<Txt>,
 }
 
 /// Puts ids among others.
@@ -126,38 +128,79 @@ fn put_where(ids: &mut BTreeSet<Txt>, id: &Txt, passes: bool) -> Result<(), NoMe
     put_one(ids, id)
 }
 
+/// Whether a row is that of the transaction that was noted last, and a value of the column touches nothing more.
+fn is_last(last: &Option<Txt>, row: &str, column: Column) -> bool
+    ensures { result ≡ is_last last.now row.now column }
+{
+    match last {
+        None => false,
+        Some(id) => match column {
+            Column::Tombstone => false,
+            _ => id.as_str().cmp(row) == Ordering::Equal,
+        },
+    }
+}
+
+/// Notes a transaction of which a value sets a column. Where it is the one that was noted last, there is mostly nothing to do. It is at
+/// most one step.
+fn note_tx<G: Ledger>(
+    alloc: Global,
+    book: &Book,
+    found: &mut Touching,
+    column: Column,
+    row: &str,
+    value: &Value,
+    steps: &mut Steps<G>,
+) -> Result<(), NoMemory>
+    requires { KnowsLast book.now.rows found.old }
+    ensures kept { OnOk result (KnowsLast book.now.rows found.new) }
+    ensures txs { OnOk result ((q : Text) → set.contains text_cmp found.new.txs q ≡ (is_among text_cmp (row.now ∷ []) q || set.contains text_cmp found.old.txs q)) }
+    ensures accounts { found.new.accounts ≡ found.old.accounts }
+    ensures parents { OnOk result ((q : Text) → set.contains text_cmp found.new.parents q ≡ (is_among text_cmp (only_where (tx_governs book.now.rows row.now column value.now) row.now) q || set.contains text_cmp found.old.parents q)) }
+    ensures mappings { found.new.mappings ≡ found.old.mappings }
+    ensures cost { steps.new ≤ steps.old + 1 }
+{
+    if is_last(&found.last, row, column) {
+        return Ok(());
+    }
+    let id = Txt::from_text(alloc, row)?;
+    let governs = tx_governs(book, &id, column, value, steps);
+    put_where(&mut found.parents, &id, governs)?;
+    put_one(&mut found.txs, &id)?;
+    found.last = Some(id);
+    Ok(())
+}
+
 /// Notes the rows by which a value of a dataset's column touches transactions. It is at most one step.
 fn note_known<G: Ledger>(
+    alloc: Global,
     book: &Book,
     found: &mut Touching,
     dataset: Dataset,
     column: Column,
-    id: &Txt,
+    row: &str,
     value: &Value,
     steps: &mut Steps<G>,
 ) -> Result<(), NoMemory>
-    ensures txs { OnOk result ((q : Text) → set.contains text_cmp found.new.txs q ≡ (is_among text_cmp (tx_set dataset id.now) q || set.contains text_cmp found.old.txs q)) }
-    ensures accounts { OnOk result ((q : Text) → set.contains text_cmp found.new.accounts q ≡ (is_among text_cmp (account_set book.now.rows dataset column id.now value.now) q || set.contains text_cmp found.old.accounts q)) }
-    ensures parents { OnOk result ((q : Text) → set.contains text_cmp found.new.parents q ≡ (is_among text_cmp (parent_set book.now.rows dataset column id.now value.now) q || set.contains text_cmp found.old.parents q)) }
-    ensures mappings { OnOk result ((q : Text) → set.contains text_cmp found.new.mappings q ≡ (is_among text_cmp (mapping_set book.now.rows dataset column id.now value.now) q || set.contains text_cmp found.old.mappings q)) }
+    requires { KnowsLast book.now.rows found.old }
+    ensures kept { OnOk result (KnowsLast book.now.rows found.new) }
+    ensures txs { OnOk result ((q : Text) → set.contains text_cmp found.new.txs q ≡ (is_among text_cmp (tx_set dataset row.now) q || set.contains text_cmp found.old.txs q)) }
+    ensures accounts { OnOk result ((q : Text) → set.contains text_cmp found.new.accounts q ≡ (is_among text_cmp (account_set book.now.rows dataset column row.now value.now) q || set.contains text_cmp found.old.accounts q)) }
+    ensures parents { OnOk result ((q : Text) → set.contains text_cmp found.new.parents q ≡ (is_among text_cmp (parent_set book.now.rows dataset column row.now value.now) q || set.contains text_cmp found.old.parents q)) }
+    ensures mappings { OnOk result ((q : Text) → set.contains text_cmp found.new.mappings q ≡ (is_among text_cmp (mapping_set book.now.rows dataset column row.now value.now) q || set.contains text_cmp found.old.mappings q)) }
     ensures cost { steps.new ≤ steps.old + 1 }
 {
     match dataset {
         Dataset::Accounts => {
+            let id = &Txt::from_text(alloc, row)?;
             let governs = account_governs(book, id, column, value);
-            put_where(&mut found.accounts, id, governs)?;
-            Ok(())
+            put_where(&mut found.accounts, id, governs)
         }
-        Dataset::Transactions => {
-            let governs = tx_governs(book, id, column, value, steps);
-            put_where(&mut found.parents, id, governs)?;
-            put_where(&mut found.txs, id, true)?;
-            Ok(())
-        }
+        Dataset::Transactions => note_tx(alloc, book, found, column, row, value, steps),
         Dataset::CategoryMapping => {
+            let id = &Txt::from_text(alloc, row)?;
             let governs = mapping_governs(book, id, column, value);
-            put_where(&mut found.mappings, id, governs)?;
-            Ok(())
+            put_where(&mut found.mappings, id, governs)
         }
         _ => Ok(()),
     }
@@ -172,6 +215,8 @@ fn note<G: Ledger>(
     value: &Value,
     steps: &mut Steps<G>,
 ) -> Result<(), NoMemory>
+    requires { KnowsLast book.now.rows found.old }
+    ensures kept { OnOk result (KnowsLast book.now.rows found.new) }
     ensures txs { OnOk result ((q : Text) → set.contains text_cmp found.new.txs q ≡ (is_among text_cmp (txs_by (field.now, value.now)) q || set.contains text_cmp found.old.txs q)) }
     ensures accounts { OnOk result ((q : Text) → set.contains text_cmp found.new.accounts q ≡ (is_among text_cmp (accounts_by book.now.rows (field.now, value.now)) q || set.contains text_cmp found.old.accounts q)) }
     ensures parents { OnOk result ((q : Text) → set.contains text_cmp found.new.parents q ≡ (is_among text_cmp (parents_by book.now.rows (field.now, value.now)) q || set.contains text_cmp found.old.parents q)) }
@@ -187,8 +232,16 @@ fn note<G: Ledger>(
     if dataset_kind(dataset, column).is_none() {
         return Ok(());
     }
-    let id = Txt::from_text(alloc, field.row())?;
-    note_known(book, found, dataset, column, &id, value, steps)
+    note_known(
+        alloc,
+        book,
+        found,
+        dataset,
+        column,
+        field.row(),
+        value,
+        steps,
+    )
 }
 
 /// The rows by which changes touch transactions, by the book before them.
@@ -209,6 +262,7 @@ fn note_all<G: Ledger>(
         accounts: BTreeSet::new(alloc),
         parents: BTreeSet::new(alloc),
         mappings: BTreeSet::new(alloc),
+        last: None,
     };
     for (field, value) in changes {
         note(alloc, book, &mut found, field, value, steps)?;

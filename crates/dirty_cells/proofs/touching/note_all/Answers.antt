@@ -22,6 +22,7 @@ loop-field-preserved g c =
       accounts = λ q. gather_step (accounts_by r) changes i x (set.contains text_cmp old.accounts) (set.contains text_cmp new.accounts) q here (c.in_ok-note.ensures.accounts q) ∙ c.loop-field.invariant.accounts q;
       parents = λ q. gather_step (parents_by r) changes i x (set.contains text_cmp old.parents) (set.contains text_cmp new.parents) q here (c.in_ok-note.ensures.parents q) ∙ c.loop-field.invariant.parents q;
       mappings = λ q. gather_step (mappings_by r) changes i x (set.contains text_cmp old.mappings) (set.contains text_cmp new.mappings) q here (c.in_ok-note.ensures.mappings q) ∙ c.loop-field.invariant.mappings q;
+      last = c.in_ok-note.ensures.kept;
       cost = omega (arith, c.in_ok-note.ensures.cost, c.loop-field.invariant.cost);
     }
 
