@@ -34,6 +34,7 @@ pub(crate) struct Begun {
     pub categories: BTreeSet<Txt>,
     pub groups: BTreeSet<Txt>,
     pub first: u32,
+    pub rearranged: bool,
 }
 
 /// What changes mark: off these categories and groups, and before this month, everything stays.
@@ -221,38 +222,6 @@ fn earlier(number: u32, month: Option<u32>) -> u32
     }
 }
 
-/// Puts the categories and groups that changes mark among others.
-pub(crate) fn mark_changes(
-    alloc: Global,
-    book: &Book,
-    changes: &[(Field, Value)],
-    cs: &mut BTreeSet<Txt>,
-    gs: &mut BTreeSet<Txt>,
-) -> Result<(), NoMemory>
-    ensures categories { OnOk result ((q : Text) → set.contains text_cmp cs.new q ≡ (is_among text_cmp (flat_map (categories_by book.now.rows) changes.now) q || set.contains text_cmp cs.old q)) }
-    ensures groups { OnOk result ((q : Text) → set.contains text_cmp gs.new q ≡ (is_among text_cmp (flat_map (groups_by book.now.rows) changes.now) q || set.contains text_cmp gs.old q)) }
-{
-    for (field, _) in changes {
-        mark_row(alloc, book, cs, gs, set_in(field), field.row())?;
-    }
-    Ok(())
-}
-
-/// The least of a number and those of the months of changed rows.
-pub(crate) fn first_changed(
-    alloc: Global,
-    changes: &[(Field, Value)],
-    number: u32,
-) -> Result<u32, NoMemory>
-    ensures { IfOk result (λ n. n ≡ earliest number (list_map month_by changes.now)) }
-{
-    let mut first = number;
-    for (field, _) in changes {
-        first = earlier(first, month_in(alloc, set_in(field), field.row())?);
-    }
-    Ok(first)
-}
-
 /// Whether a changed row is one of a category or a group.
 fn is_order(dataset: Option<Dataset>) -> bool
     ensures { result ≡ is_order dataset }
@@ -263,16 +232,45 @@ fn is_order(dataset: Option<Dataset>) -> bool
     )
 }
 
-/// Whether some change is one of a category's or a group's row.
-pub(crate) fn is_rearranged(changes: &[(Field, Value)]) -> bool
-    ensures { result ≡ is_rearranged changes.now }
+/// Marks what the row of a change marks.
+fn mark_change(alloc: Global, book: &Book, begun: &mut Begun, field: &Field) -> Result<(), NoMemory>
+    ensures categories { OnOk result ((q : Text) → set.contains text_cmp begun.new.categories q ≡ (is_among text_cmp (categories_in book.now.rows (dataset_with (dataset_of field.now.dataset) (column_of field.now.column)) field.now.row) q || set.contains text_cmp begun.old.categories q)) }
+    ensures groups { OnOk result ((q : Text) → set.contains text_cmp begun.new.groups q ≡ (is_among text_cmp (groups_in book.now.rows (dataset_with (dataset_of field.now.dataset) (column_of field.now.column)) field.now.row) q || set.contains text_cmp begun.old.groups q)) }
+    ensures first { OnOk result (begun.new.first ≡ earlier begun.old.first (month_in (dataset_with (dataset_of field.now.dataset) (column_of field.now.column)) field.now.row)) }
+    ensures rearranged { OnOk result (begun.new.rearranged ≡ (begun.old.rearranged || is_order (dataset_with (dataset_of field.now.dataset) (column_of field.now.column)))) }
 {
+    let dataset = set_in(field);
+    let row = field.row();
+    mark_row(
+        alloc,
+        book,
+        &mut begun.categories,
+        &mut begun.groups,
+        dataset,
+        row,
+    )?;
+    begun.first = earlier(begun.first, month_in(alloc, dataset, row)?);
+    begun.rearranged = begun.rearranged || is_order(dataset);
+    Ok(())
+}
+
+/// What the rows of changes mark, by the book before them.
+fn mark_changes(alloc: Global, book: &Book, changes: &[(Field, Value)]) -> Result<Begun, NoMemory>
+    ensures categories { IfOk result (λ m. (q : Text) → set.contains text_cmp m.categories q ≡ is_among text_cmp (flat_map (categories_by book.now.rows) changes.now) q) }
+    ensures groups { IfOk result (λ m. (q : Text) → set.contains text_cmp m.groups q ≡ is_among text_cmp (flat_map (groups_by book.now.rows) changes.now) q) }
+    ensures first { IfOk result (λ m. m.first ≡ earliest 2760 (list_map month_by changes.now)) }
+    ensures rearranged { IfOk result (λ m. m.rearranged ≡ is_rearranged changes.now) }
+{
+    let mut begun = Begun {
+        categories: BTreeSet::new(alloc),
+        groups: BTreeSet::new(alloc),
+        first: 2760,
+        rearranged: false,
+    };
     for (field, _) in changes {
-        if is_order(set_in(field)) {
-            return true;
-        }
+        mark_change(alloc, book, &mut begun, field)?;
     }
-    false
+    Ok(begun)
 }
 
 /// Puts the category of a transaction among others.
@@ -331,19 +329,13 @@ fn marks_before<G: Ledger>(
     ensures categories { IfOk result (λ m. (q : Text) → set.contains text_cmp m.categories q ≡ (is_among text_cmp (flat_map (category_at book.now.rows) ids.now) q || is_among text_cmp (flat_map (categories_by book.now.rows) changes.now) q)) }
     ensures groups { IfOk result (λ m. (q : Text) → set.contains text_cmp m.groups q ≡ is_among text_cmp (flat_map (groups_by book.now.rows) changes.now) q) }
     ensures first { IfOk result (λ m. m.first ≡ earliest (earliest 2760 (list_map month_by changes.now)) (list_map (month_at_tx book.now.rows) ids.now)) }
+    ensures rearranged { IfOk result (λ m. m.rearranged ≡ is_rearranged changes.now) }
     ensures cost { OnOk result (steps.new ≤ steps.old + length ids.now) }
 {
-    let mut categories = BTreeSet::new(alloc);
-    let mut groups = BTreeSet::new(alloc);
-    mark_changes(alloc, book, changes, &mut categories, &mut groups)?;
-    mark_txs(book, &mut categories, ids, steps)?;
-    let changed = first_changed(alloc, changes, 2760)?;
-    let first = first_of_txs(book, ids, changed);
-    Ok(Begun {
-        categories,
-        groups,
-        first,
-    })
+    let mut begun = mark_changes(alloc, book, changes)?;
+    mark_txs(book, &mut begun.categories, ids, steps)?;
+    begun.first = first_of_txs(book, ids, begun.first);
+    Ok(begun)
 }
 
 /// What changes mark, by what they marked before them and by the book after them.
@@ -352,13 +344,12 @@ fn marks_after<G: Ledger>(
     book: &Book,
     begun: Begun,
     ids: &[Txt],
-    rearranged: bool,
     steps: &mut Steps<G>,
 ) -> Result<Marked, NoMemory>
     ensures categories { IfOk result (λ m. (q : Text) → is_among text_cmp m.categories q ≡ (is_among text_cmp (flat_map (category_at book.now.rows) ids.now) q || set.contains text_cmp begun.categories q)) }
     ensures groups { IfOk result (λ m. (q : Text) → is_among text_cmp m.groups q ≡ (is_among text_cmp (flat_map (group_at book.now.rows) m.categories) q || set.contains text_cmp begun.groups q)) }
-    ensures from { IfOk result (λ m. m.from ≡ (if rearranged then 0 else earliest begun.first (list_map (month_at_tx book.now.rows) ids.now))) }
-    ensures rearranged { IfOk result (λ m. m.rearranged ≡ rearranged) }
+    ensures from { IfOk result (λ m. m.from ≡ (if begun.rearranged then 0 else earliest begun.first (list_map (month_at_tx book.now.rows) ids.now))) }
+    ensures rearranged { IfOk result (λ m. m.rearranged ≡ begun.rearranged) }
     ensures distinct { IfOk result (λ m. AreDistinct text_cmp m.categories × AreDistinct text_cmp m.groups) }
     ensures cost { OnOk result (steps.new ≤ steps.old + length ids.now) }
 {
@@ -369,6 +360,7 @@ fn marks_after<G: Ledger>(
     mark_groups(book, &mut owners, categories.as_slice())?;
     let groups = list_of(alloc, &owners)?;
     let first = first_of_txs(book, ids, begun.first);
+    let rearranged = begun.rearranged;
     let from = if rearranged { 0 } else { first };
     Ok(Marked {
         categories,
@@ -401,8 +393,7 @@ fn set_and_mark<G: Ledger>(
     let list = ids.as_slice();
     let begun = marks_before(alloc, book, changes, list, steps)?;
     change_sums(sums, book, changes, list, steps)?;
-    let rearranged = is_rearranged(changes);
-    marks_after(alloc, book, begun, list, rearranged, steps)
+    marks_after(alloc, book, begun, list, steps)
 }
 
 /// Gives fields their values, keeps the sums those of the book, and tells what is marked: off the marked categories and groups each

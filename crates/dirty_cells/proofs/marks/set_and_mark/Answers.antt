@@ -22,7 +22,7 @@ returns-clause-marked g c =
       ids = list;
       spares = subst (Spares r (with_fields r changes)) (sym c.as_slice-list.ensures) c.in_ok-ids.ensures.spares;
       within = λ d. subst (λ l. Within l (touched_txs r (with_fields r changes) changes)) (sym c.as_slice-list.ensures) (c.in_ok-ids.ensures.within d);
-      followed = is_followed r s changes list c.in_ok-begun.begun m c.is_rearranged-rearranged.result c.in_ok-change_sums.ensures.book c.is_rearranged-rearranged.ensures begun.categories begun.groups begun.first mc mg mf mr;
+      followed = is_followed r s changes list c.in_ok-begun.begun m c.in_ok-begun.begun.rearranged c.in_ok-change_sums.ensures.book begun.rearranged begun.categories begun.groups begun.first mc mg mf mr;
     })
 
 pub returns-clause-cost : goal.returns-clause-cost
