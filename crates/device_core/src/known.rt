@@ -24,7 +24,7 @@ use book_rows::Book;
 use budget_ports::Record;
 use dirty_cells::grid::Grid;
 use field_merge::{Log, Message};
-use field_values::{Field, NoMemory, Steps, Value};
+use field_values::{Field, FieldKey, NoMemory, Steps, Value};
 use kept_messages::{StartFault, enter, join_message, read_record};
 use minute_trie::Trie;
 use std::alloc::Global;
@@ -113,17 +113,15 @@ pub(crate) fn grid_of(alloc: Global, book: &Book, records: &[Record]) -> Result<
 }
 
 /// Marks a field.
-fn mark(marked: &mut BTreeSet<Field>, field: &Field) -> Result<(), NoMemory>
+fn mark(marked: &mut BTreeSet<FieldKey>, field: &Field) -> Result<(), NoMemory>
     ensures { OnOk result ((f : FieldNames) → contains names_cmp marked.new f ≡ (is_at (names_cmp field.now) f || contains names_cmp marked.old f)) }
 {
-    if !marked.contains(field) {
-        marked.insert(field.copy()?)?;
-    }
+    marked.insert(FieldKey::of(field)?)?;
     Ok(())
 }
 
 /// Marks a field, if it is told to.
-fn mark_if(is_latest: bool, marked: &mut BTreeSet<Field>, field: &Field) -> Result<(), NoMemory>
+fn mark_if(is_latest: bool, marked: &mut BTreeSet<FieldKey>, field: &Field) -> Result<(), NoMemory>
     ensures { OnOk result ((f : FieldNames) → contains names_cmp marked.new f ≡ ((is_latest && is_at (names_cmp field.now) f) || contains names_cmp marked.old f)) }
 {
     if is_latest {
@@ -138,7 +136,7 @@ fn join_one(
     alloc: Global,
     log: &mut Log,
     trie: &mut Trie,
-    marked: &mut BTreeSet<Field>,
+    marked: &mut BTreeSet<FieldKey>,
     message: &Message,
     batch: &mut Vec<Record>,
 ) -> Result<(), NoMemory>
@@ -159,11 +157,11 @@ fn join_one(
 }
 
 /// The marked fields as a list.
-fn fields_of(alloc: Global, marked: BTreeSet<Field>) -> Result<Vec<Field>, NoMemory>
+fn fields_of(alloc: Global, marked: BTreeSet<FieldKey>) -> Result<Vec<FieldKey>, NoMemory>
     ensures all { IfOk result (λ fields. fields.items ≡ marked.keys) }
     ensures ordered { IsOrdered names_cmp marked }
 {
-    let fields: Vec<Field> = marked.into_iter().collect(alloc)?;
+    let fields: Vec<FieldKey> = marked.into_iter().collect(alloc)?;
     Ok(fields)
 }
 
@@ -175,7 +173,7 @@ fn join_logged(
     trie: &mut Trie,
     messages: &[Message],
     batch: &mut Vec<Record>,
-) -> Result<Vec<Field>, NoMemory>
+) -> Result<Vec<FieldKey>, NoMemory>
     requires live { log.old.spent ≡ false }
     requires trie_live { is_spent trie.old ≡ false }
     requires right { IsTrieOf (pairs_of log.old.messages) trie.old }
@@ -196,10 +194,11 @@ fn join_logged(
 }
 
 /// Puts a field with its value behind others, where it has one.
-fn push_change(changes: &mut Vec<(Field, Value)>, log: &Log, field: &Field) -> Result<(), NoMemory>
+fn push_change(changes: &mut Vec<(Field, Value)>, log: &Log, key: &FieldKey) -> Result<(), NoMemory>
     requires { log.now.spent ≡ false }
-    ensures { OnOk result (changes.new.items ≡ changes.old.items ++ change_of log.now.messages field.now) }
+    ensures { OnOk result (changes.new.items ≡ changes.old.items ++ change_of log.now.messages key.now) }
 {
+    let field = key.field();
     if let Some(value) = log.value(field) {
         changes.push((field.copy()?, value.copy()?))?;
     }
@@ -207,11 +206,15 @@ fn push_change(changes: &mut Vec<(Field, Value)>, log: &Log, field: &Field) -> R
 }
 
 /// Fields with the values that they have.
-fn changes_of(alloc: Global, log: &Log, fields: &[Field]) -> Result<Vec<(Field, Value)>, NoMemory>
+fn changes_of(
+    alloc: Global,
+    log: &Log,
+    fields: &[FieldKey],
+) -> Result<Vec<(Field, Value)>, NoMemory>
     requires { log.now.spent ≡ false }
     ensures { IfOk result (λ changes. changes.items ≡ flat_map (change_of log.now.messages) fields.now) }
 {
-    let mut changes = Vec::new(alloc);
+    let mut changes = Vec::with_capacity(alloc, fields.len())?;
     for field in fields {
         push_change(&mut changes, log, field)?;
     }
