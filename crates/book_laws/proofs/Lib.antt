@@ -26,3 +26,4 @@ pub mod Again
 pub mod AsBefore
 pub mod TakenBack
 pub mod Whole
+pub mod ColumnsTold

@@ -17,3 +17,4 @@ pub mod Mapping
 pub mod HandingOn
 pub mod Merging
 pub mod TakingBack
+pub mod Columns

@@ -7,6 +7,7 @@ ghost use Rattle.book_rows.specs.declared.rows.TxRow.{TxRow};
 ghost use Rattle.book_rows.specs.declared.write.Write.{Write};
 ghost use Rattle.split_transfer.specs.After.{Ids};
 ghost use Rattle.book_laws.specs.Books.{BalancesAreTold, KeptRowsAreTold, MonthsAreNamed, TransactionsAreListed, ValuesAreRead};
+ghost use Rattle.book_laws.specs.Columns.{ColumnsAreTold};
 ghost use Rattle.book_laws.specs.HandingOn.{CategoriesAreHandedOn, GainsAreTold};
 ghost use Rattle.book_laws.specs.Mapping.{OneStepIsTaken};
 ghost use Rattle.book_laws.specs.Merging.{PayeesAreMerged};
@@ -30,6 +31,14 @@ ghost use Rattle.book_laws.specs.Sheets.{CellsAddUp, MonthsAreNumbered, SumsAreO
 /// A law: how a value is read in a column of each kind, and which numbers write a day.
 pub fn values_are_read()
     ensures { ValuesAreRead }
+{}
+
+/// A law: each field of a row is what the column of its own name says, read as that column is. A value that is given to a column of an id
+/// sets that field in the row of the id, which is made where it isn't there, and nothing else: each other field, each other row and each
+/// other dataset is as before. A row is there where one of its columns has a value, and nowhere else. A name that is none of those told
+/// here is that of no dataset and no column, and changes nothing.
+pub fn columns_are_told()
+    ensures { ColumnsAreTold }
 {}
 
 /// A law: which numbers are months, and which month a row has: a transaction that of its day, a budget row and a month row the one of

@@ -8,7 +8,7 @@ mod laws;
 
 pub use laws::{
     balances_are_told, categories_are_handed_on, cells_add_up, changes_do, changes_do_no_more,
-    edits_show_on_sheets, gains_are_told, histories_go_back, kept_rows_are_told,
+    columns_are_told, edits_show_on_sheets, gains_are_told, histories_go_back, kept_rows_are_told,
     mappings_are_taken_back, months_are_named, months_are_numbered, one_step_is_taken,
     pair_edits_are_judged, payees_are_merged, plain_edits_are_judged, plain_edits_do,
     plain_edits_do_no_more, rows_are_undone, sheets_are_in_order, splits_make_parts,

@@ -12,7 +12,7 @@ use Rattle.hybrid_clock.specs.declared.stamp.Stamp.{Stamp}
 use Rattle.hybrid_clock.specs.Order.{stamp_cmp}
 use Rattle.field_merge.specs.declared.message.Message.{Message}
 use Rattle.field_merge.specs.Log.{IsByField, IsRising, at_stamp, by_stamp, fields, has_field, has_stamp, join, join_one, latest, placed}
-use Rattle.field_merge.specs.Latest.{CameFrom, KeepsLatest, LatestState, is_among, most_kept, next_most}
+use Rattle.field_merge.specs.Latest.{CameFrom, HasLatest, KeepsLatest, LatestState, is_among, most_kept, next_most}
 use Rattle.field_merge.proofs.Joining.{found, in_turn, rising, stamp_of}
 use Rattle.field_merge.proofs.Stored.{join-fresh, join-there}
 use Rattle.field_merge.proofs.Entering.{latest-placed, wins}
@@ -158,7 +158,7 @@ listed_by_field ms kept some latest_kept in_order =
 pub listed_latest : (ms : List Message) (l : LatestState) → CameFrom ms l → IsByField l.messages → l.messages ≡ fields (join [] ms)
 listed_latest ms l came in_order = listed_by_field ms l.messages came.some came.latest in_order
 
-kept_latest : (ms old new : List Message) → ((m : Message) → Contains old m → Contains (join [] ms) m) → ((m : Message) → latest (join [] ms) m.field ≡ Some m → Contains old m) → KeepsLatest old new → (m : Message) → latest (join [] ms) m.field ≡ Some m → Contains new m
+kept_latest : (ms old new : List Message) → ((m : Message) → Contains old m → Contains (join [] ms) m) → ((m : Message) → latest (join [] ms) m.field ≡ Some m → Contains old m) → HasLatest old new → (m : Message) → latest (join [] ms) m.field ≡ Some m → Contains new m
 kept_latest ms old new some latest_kept keeps m h =
     let y = keeps.covers m (latest_kept m h) in
     let one : y.0 ≡ m = not_older ms m y.0 h (some y.0 (keeps.some y.0 y.1.0)) y.1.1 y.1.2 in
@@ -166,13 +166,23 @@ kept_latest ms old new some latest_kept keeps m h =
 
 pub listed_tidied : (ms new : List Message) (l : LatestState) → CameFrom ms l → KeepsLatest l.messages new → new ≡ fields (join [] ms)
 listed_tidied ms new l came keeps =
-    listed_by_field ms new (λ m c. came.some m (keeps.some m c)) (kept_latest ms l.messages new came.some came.latest keeps) keeps.in_order
+    listed_by_field ms new (λ m c. came.some m (keeps.has.some m c)) (kept_latest ms l.messages new came.some came.latest keeps.has) keeps.in_order
 
 pub came_tidied : (ms : List Message) (l m : LatestState) → CameFrom ms l → KeepsLatest l.messages m.messages → m.stamps ≡ l.stamps → m.most ≡ next_most m.messages → CameFrom ms m
 came_tidied ms l m came keeps same_stamps few = record {
   stamps = λ s. ap (is_among s) same_stamps ∙ came.stamps s;
-  some = λ x c. came.some x (keeps.some x c);
-  latest = kept_latest ms l.messages m.messages came.some came.latest keeps;
+  some = λ x c. came.some x (keeps.has.some x c);
+  latest = kept_latest ms l.messages m.messages came.some came.latest keeps.has;
   least = omega (arith, few);
   most = let listed = ap (λ (xs : List Message). length xs) (listed_tidied ms m.messages l came keeps) in omega (arith, few, listed);
+}
+
+-- where some that are kept go, but the latest ones stay
+pub came_with : (ms : List Message) (l m : LatestState) → CameFrom ms l → HasLatest l.messages m.messages → m.stamps ≡ l.stamps → m.most ≡ l.most → CameFrom ms m
+came_with ms l m came has same_stamps same_most = record {
+  stamps = λ s. ap (is_among s) same_stamps ∙ came.stamps s;
+  some = λ x c. came.some x (has.some x c);
+  latest = kept_latest ms l.messages m.messages came.some came.latest has;
+  least = omega (arith, came.least, same_most);
+  most = omega (arith, came.most, same_most);
 }

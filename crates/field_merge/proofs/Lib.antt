@@ -20,3 +20,4 @@ pub mod Few
 pub mod Coming
 pub mod Tidying
 pub mod LineFaults
+pub mod Taking

@@ -125,6 +125,8 @@ keeps_latest old sorted new moved up is =
     subst (λ (ns : List Message). KeepsLatest old ns) (sym is)
     (record {
       in_order = mapped _ (IsStrictlySortedBy-dedup fields_total (λ m n. sym (names_alike m.field n.field)) sorted (by_field_too sorted up));
-      some = λ m c. Contains-permutation sorted old m (IsPermutation-sym old sorted moved) (Contains-from_dedup same_field sorted m c);
-      covers = λ m c. covers_all sorted (falls sorted up) m (Contains-permutation old sorted m moved c);
+      has = record {
+        some = λ m c. Contains-permutation sorted old m (IsPermutation-sym old sorted moved) (Contains-from_dedup same_field sorted m c);
+        covers = λ m c. covers_all sorted (falls sorted up) m (Contains-permutation old sorted m moved c);
+      };
     })

@@ -1,5 +1,5 @@
 -- What is kept of messages whose older writes are forgotten.
-use Rattle.std.specs.Prelude.{◌≡◌, ◌≤◌, ◌*◌, ℕ, List, [], length, max, Bool, false, Some}
+use Rattle.std.specs.Prelude.{◌≡◌, ◌≤◌, ◌*◌, ℕ, List, [], length, max, Bool, false, Some, if◌then◌else◌}
 use Rattle.std.specs.Cmp.{IsTotalOrder}
 use Rattle.std.proofs.lemmas.Cmp.{back_total, nat_cmp_total, nat_list_cmp_total, on_total, then_total}
 use Rattle.std.specs.List.{Contains, list_any}
@@ -51,11 +51,19 @@ pub record CameFrom (ms : List Message) (l : LatestState) : Type 0 where
 abbrev pub latest_first : Message → Message → Ordering
 latest_first m n = ordering_then (names_cmp m.field n.field) (stamp_cmp n.stamp m.stamp)
 
+-- `new` has messages of `old` alone, and for each of `old` one of its field that is not earlier
+pub record HasLatest (old new : List Message) : Type 0 where
+  pub some : (m : Message) → Contains new m → Contains old m
+  pub covers : (m : Message) → Contains old m → (n : Message) × (Contains new n × (n.field ≡ m.field) × (is_lt (stamp_cmp n.stamp m.stamp) ≡ false))
+
 -- `new` has one message for each field of `old`, and none of the field in `old` is later
 pub record KeepsLatest (old new : List Message) : Type 0 where
   pub in_order : IsByField new
-  pub some : (m : Message) → Contains new m → Contains old m
-  pub covers : (m : Message) → Contains old m → (n : Message) × (Contains new n × (n.field ≡ m.field) × (is_lt (stamp_cmp n.stamp m.stamp) ≡ false))
+  pub has : HasLatest old new
+
+-- the later of two messages
+abbrev pub later : Message → Message → Message
+later m n = if is_lt (stamp_cmp m.stamp n.stamp) then n else m
 
 -- a valid message, and the names of its field
 pub record IsArrival (key : FieldNames) (m : Message) : Type 0 where

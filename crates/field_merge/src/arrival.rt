@@ -50,6 +50,15 @@ impl Arrival {
         &self.message
     }
 
+    /// Puts another message of the field in its place.
+    pub(crate) fn renew(&mut self, message: Message)
+        requires valid { IsMessage message }
+        requires field { self.old.field ≡ message.field }
+        ensures { self.new ≡ message }
+    {
+        self.message = message;
+    }
+
     /// Whether two messages are of one field.
     pub(crate) fn is_of_field_of(&self, other: &Arrival) -> bool
         ensures { result ≡ names_eq self.now.field other.now.field }

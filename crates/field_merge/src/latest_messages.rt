@@ -1,16 +1,17 @@
 //! The latest message of each field, without the older ones.
-ghost use Rattle.std.specs.Prelude.{◌≡◌, ◌∷◌, ◌++◌, [], List, OnOk, OnErr, false, true};
+ghost use Rattle.std.specs.Prelude.{◌≡◌, ◌<◌, ◌∷◌, ◌++◌, [], List, length, slice_index_or, OnOk, OnErr, false, true};
 ghost use Rattle.field_merge.specs.declared.message.Message.{Message};
 ghost use Rattle.field_merge.specs.Messages.{IsMessage};
 ghost use Rattle.field_merge.specs.Log.{IsByField, fields, join};
-ghost use Rattle.field_merge.specs.Latest.{CameFrom, IsFew, KeepsLatest, next_most};
+ghost use Rattle.field_merge.specs.Latest.{CameFrom, HasLatest, IsFew, KeepsLatest, later, next_most};
 
 use crate::arrival::Arrival;
 use crate::message::Message;
 use crate::pieces::FieldLines;
 use crate::stamps::Stamps;
-use field_values::NoMemory;
+use field_values::{Field, NoMemory};
 use std::alloc::Global;
+use std::hash::{FoldHasher, Hasher};
 use std::marker::Model;
 
 /// The latest message of each field, for those who want no older ones, in whatever order messages come and however often.
@@ -21,6 +22,9 @@ use std::marker::Model;
 pub struct LatestMessages {
     alloc: Global,
     stamps: Stamps,
+    /// Where a message of a field may stand among those that came, by a number that is made of the field's names. It is dropped before
+    /// them: the C library goes over all that was freed in small blocks when one of this size is.
+    places: Vec<Place>,
     /// Messages among which are the latest ones. From time to time they are sorted by field, and the older ones go.
     came: Vec<Arrival>,
     /// How many there are when that is done next.
@@ -31,12 +35,91 @@ pub struct LatestMessages {
 /// Older messages are first looked for once there are so many: about as many as the processor's nearer caches hold.
 const FEW: usize = 1 << 11;
 
+/// Of so many fields it is known where a message of them stands, if their numbers differ.
+const PLACES: usize = 1 << 12;
+
 impl Model for LatestMessages {
     ghost use Rattle.field_merge.specs.Latest.{LatestState};
 
     ghost Value = { LatestState };
 
     ghost view = { λ l. record { stamps = l.stamps; messages = l.came.items; most = l.most; spent = l.spent } };
+}
+
+/// Where the last message stands that was put behind the others by a number that is made of a field's names.
+#[derive(Clone, Copy)]
+struct Place {
+    hash: u64,
+    at: usize,
+}
+
+/// A number that is made of the names of a field. What is found by it is looked at before it is believed, so any number would do.
+fn hash_of(field: &Field) -> u64 {
+    let mut hasher = FoldHasher::default();
+    hasher.write(field.row().as_bytes());
+    hasher.write(field.column().as_bytes());
+    hasher.finish()
+}
+
+/// The slot of a number, where there are so many.
+fn slot_of(hash: u64, count: usize) -> usize
+    requires { 0 < count }
+    ensures { result < count }
+{
+    hash as usize & (count - 1)
+}
+
+/// Whether a message of a field stands at a place.
+fn is_of_field_at(came: &[Arrival], place: usize, field: &Field) -> bool
+    ensures there { result ≡ true → place < length came.now }
+    ensures field { result ≡ true → (m : Message) → (slice_index_or came.now place m).field ≡ field.now }
+{
+    match came.get(place) {
+        Some(arrival) => arrival.message().field == *field,
+        None => false,
+    }
+}
+
+/// Keeps the later of two messages of a field.
+fn keep_later(kept: &mut Arrival, message: Message)
+    requires valid { IsMessage message }
+    requires field { kept.old.field ≡ message.field }
+    ensures { kept.new ≡ later kept.old message }
+{
+    if kept.message().stamp < message.stamp {
+        kept.renew(message);
+    }
+}
+
+/// Takes a message in. Where one of its field stands at the place that is known of the field, the later of them stays there.
+fn take_in(came: &mut Vec<Arrival>, places: &mut [Place], message: Message) -> Result<(), NoMemory>
+    requires some { 0 < length places.old }
+    requires valid { IsMessage message }
+    ensures { OnOk result (HasLatest (came.old.items ++ message ∷ []) came.new.items) }
+{
+    let hash = hash_of(&message.field);
+    let slot = slot_of(hash, places.len());
+    let place = places[slot];
+    if place.hash == hash && is_of_field_at(came.as_slice(), place.at, &message.field) {
+        keep_later(&mut came[place.at], message);
+        return Ok(());
+    }
+    places[slot] = Place {
+        hash,
+        at: came.len(),
+    };
+    came.push(Arrival::new(message)?)?;
+    Ok(())
+}
+
+/// Makes room for places where there is none yet.
+fn make_places(places: &mut Vec<Place>) -> Result<(), NoMemory>
+    ensures { OnOk result (0 < length places.new.items) }
+{
+    if places.is_empty() {
+        places.resize(PLACES, Place { hash: 0, at: 0 })?;
+    }
+    Ok(())
 }
 
 /// Sorts messages by field, and keeps the latest of each field.
@@ -57,6 +140,7 @@ impl LatestMessages {
         LatestMessages {
             alloc,
             stamps: Stamps::new(alloc),
+            places: Vec::new(alloc),
             came: Vec::new(alloc),
             most: FEW,
             spent: false,
@@ -87,7 +171,7 @@ impl LatestMessages {
         self.tidy()
     }
 
-    /// Takes one message more, and lets none go.
+    /// Takes one message more, and sorts none.
     fn gather(&mut self, message: Message) -> Result<(), NoMemory>
         requires live { self.old.spent ≡ false }
         requires valid { IsMessage message }
@@ -96,8 +180,9 @@ impl LatestMessages {
         ensures spent { OnErr result (self.new.spent ≡ true) }
     {
         self.spent = true;
+        make_places(&mut self.places)?;
         if self.stamps.insert(message.stamp)? {
-            self.came.push(Arrival::new(message)?)?;
+            take_in(&mut self.came, &mut self.places, message)?;
         }
         self.spent = false;
         Ok(())

@@ -31,7 +31,7 @@ pub fn stamp_text(alloc: Global, stamp: &Stamp) -> Result<Txt, NoMemory>
     }
 }
 
-/// How many bytes what stands behind the timestamp takes at most, but for escapes: three TABs, a mark of the value and its text.
+/// Room for what stands behind the timestamp, where nothing in it needs an escape: the names, three TABs, a mark of the value and its text.
 fn room_for(message: &Message) -> usize {
     let field = &message.field;
     let text = match &message.value {

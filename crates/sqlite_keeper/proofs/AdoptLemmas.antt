@@ -204,7 +204,7 @@ module _ {S : Type 0} (g : Ghosts S) (old mid : Held S) (idle : old.in_transacti
       (alone : IsAlone (TellsAll g k) (contents_now g k.conn) (MayBeLeft g k)) (ours : k.is_shut ≡ false → k.is_ours ≡ is_known) (shut_ours : k.is_shut ≡ true → k.is_ours ≡ false) (shut_known : k.is_shut ≡ true → is_known ≡ true)
       (shut : k.is_shut ≡ true → (c : Contents) → MayBecome g false mid c → HasCleanDisk (state g k.conn) → IsTrue (state g k.conn).is_open → ((state g k.conn).now ≡ (state g mid).now) × IsTrue (state g mid).is_open)
       (opened : k.is_shut ≡ false → HasCleanDisk (state g k.conn) → IsTrue (state g mid).is_open) (leaves : (c : Contents) → MayBecome g false mid c → HasCleanDisk (state g k.conn) → LeavesOr g c mid k.conn)
-      (more : doubt (state g mid).is_clean ≤ doubt (state g k.conn).is_clean) where
+      (more : doubt (state g mid).is_clean ≤ doubt (state g k.conn).is_clean) (emptied : (c : Contents) → MayBecome g false mid c → k.is_shut ≡ false → HasCleanDisk (state g k.conn) → (state g k.conn).now.trees 0 ≡ []) where
     early : HasCleanDisk (state g k.conn) → HasCleanDisk (state g mid)
     early clean = omega (arith, clean, more)
 
@@ -229,7 +229,7 @@ module _ {S : Type 0} (g : Ghosts S) (old mid : Held S) (idle : old.in_transacti
       kept = λ mine. absurd (not_ours mine);
       moved = λ first unshut clean either.
           let it = made (moved (contents_now g old)) (may first clean) unshut clean in
-          (record { unshut = unshut; ours = ours unshut ∙ known first; clean = clean; is_open = it.0 }, it.1, one (inr first) (early clean));
+          (record { unshut = unshut; ours = ours unshut ∙ known first; clean = clean; is_open = it.0 }, it.1, one (inr first) (early clean), emptied (moved (contents_now g old)) (may first clean) unshut clean);
       made = λ none unshut clean. absurd (unblank none (early clean));
       alone = alone;
       ours = λ is. elim (cases_Bool k.is_shut) [

@@ -1,5 +1,5 @@
 -- A store of the first version becomes one of the second.
-use Rattle.std.proofs.Common.{◌≡◌, ℕ, List, [], ◌∷◌, None, Ok, false, IsTrue, refl, sym, ap, subst, ◌∙◌, inr}
+use Rattle.std.proofs.Common.{arith, ◌≡◌, ℕ, List, [], ◌∷◌, None, Ok, false, IsTrue, refl, sym, ap, subst, ◌∙◌, inl, inr}
 use Rattle.std.specs.FinMap.{FinMap, from_entries, insert}
 use Rattle.sqlite_value.specs.declared.value.Value.TheVariants.{Text}
 use Rattle.sqlite_value.specs.Order.{Row}
@@ -13,7 +13,7 @@ use Rattle.sqlite.specs.Store.{Ghosts}
 use Rattle.sqlite.specs.Held.{Held, state}
 use Rattle.sqlite.proofs.Callers.{IsPlain, reads_as, runs_as, statement_of}
 use Rattle.store_tables.specs.Texts.{grps_text, entries_text, all_text, empty_text, moved_tables}
-use Rattle.store_tables.specs.Tables.{grps, entries, with_groups, first_schema, moved_schema}
+use Rattle.store_tables.specs.Tables.{items, grps, entries, with_groups, first_schema, moved_schema}
 use Rattle.store_tables.specs.Named.{named_moved, put_text, texts_in}
 use Rattle.store_tables.specs.Grouped.{mode}
 use Rattle.store_tables.specs.Joined.{Text as Bytes, place_cmp, joined}
@@ -114,6 +114,7 @@ module _ {S : Type 0} (g : Ghosts S) (a b : Held S) (has : HasItems g a) (rows :
       record {
         within = copies.goes.within;
         records = copies.records ∙ ap (λ (m : FinMap place_cmp Bytes). copied m rows) none ∙ copies_all (old.now.trees 0) rows has.once asked.0;
+        items = copies.goes.others (items 0) (inl refl) (λ e. omega (arith, e)) (λ e. omega (arith, e)) (λ e. omega (arith, e)) ∙ ap (λ (d : Database). d.trees 0) same_now;
         named = copies.goes.texts ∙ ap (λ (d : Database). d.trees 2) same_now;
         committed = copies.goes.committed ∙ same_commit;
       }
@@ -142,6 +143,7 @@ module _ {S : Type 0} (g : Ghosts S) (a b c : Held S) (has : HasCopies g a) (m n
         is_open = it.is_open;
         inside = two.1.mode;
         kept = record { second = inr refl; schema = it.schema; sound = it.sound; groups = subst Rises (sym groups) has.within.groups; entries = subst Rises (sym entries_are) has.within.entries; named = it.turned.rises };
+        items = it.turned.others (items 0) (inl refl) (λ e. omega (arith, e)) ∙ emptied.items has.items;
         records = λ i. joined (groups i) (entries_are i);
         texts = it.turned.texts ∙ ap (λ (l : List Row). insert (texts_in l) version_name version_two) emptied.named;
         committed = two.1.committed_is ∙ one.1.committed_is;
@@ -150,7 +152,7 @@ module _ {S : Type 0} (g : Ghosts S) (a b c : Held S) (has : HasCopies g a) (m n
 -- ---- all of it
 
 pub copies_of : {S : Type 0} (g : Ghosts S) (a b c : Held S) → Widens g a b → AreCopied g b c → HasCopies g c
-copies_of g a b c one two = record { within = two.within; named = subst Rises (sym two.named) one.has.named }
+copies_of g a b c one two = record { within = two.within; items = subst Rises (sym two.items) one.has.items; named = subst Rises (sym two.named) one.has.named }
 
 pub moves : {S : Type 0} (g : Ghosts S) (a b c d : Held S) (k : Contents) → Begins g false a k → Widens g a b → AreCopied g b c → Settles g c d → Makes g a d k
 moves g a b c d k begins one two three =

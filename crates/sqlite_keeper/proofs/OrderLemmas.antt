@@ -1,5 +1,5 @@
 -- What a store that is open and not broken keeps in order.
-use Rattle.std.proofs.Common.{◌≡◌, ◌≤◌, ◌⊎◌, ℕ, List, Bool, true, false, inl, inr, refl, sym, subst, ◌∙◌, true≢false, IsTrue, arith}
+use Rattle.std.proofs.Common.{◌≡◌, ◌≤◌, ◌⊎◌, ℕ, List, Option, Bool, true, false, inl, inr, refl, sym, ap, subst, ◌∙◌, true≢false, IsTrue, arith}
 use Rattle.sqlite_disk.specs.Disk.{MoreFaults}
 use Rattle.sqlite_trees.specs.declared.error.StoreError.{StoreError}
 use Rattle.sqlite_trees.specs.declared.error.StoreError.TheVariants.{OutOfMemory, Io, Corrupt, Full, Broken, Unstorable}
@@ -14,10 +14,10 @@ use Rattle.sqlite.specs.Store.{Ghosts}
 use Rattle.sqlite.specs.declared.error.ErrorCode.TheVariants as code
 use Rattle.sqlite.specs.declared.error.Error.{Error}
 use Rattle.sqlite.specs.declared.error.Error.TheVariants.{SqliteFailure, SqlInputError}
-use Rattle.sqlite.specs.State.{store_error}
+use Rattle.sqlite.specs.State.{store_error, is_disk_error, Relays}
 use Rattle.sqlite.specs.Steps.{IsFresh, FailsToOpen}
 use Rattle.sqlite.specs.Held.{Held}
-use Rattle.sqlite_keeper.specs.Taking.{IsOther, IsForeign, IsLost, HasCause, IsLetGo, opening_fault, told_as}
+use Rattle.sqlite_keeper.specs.Taking.{IsOther, IsForeign, IsLost, HasCause, IsLetGo, IsToldOf, TellsLast, opening_fault, told_as}
 use Rattle.sqlite_keeper.specs.declared.keeper.AdoptFault.{AdoptFault}
 use Rattle.sqlite_keeper.specs.declared.keeper.AdoptFault.TheVariants as adopt
 use Rattle.sqlite_trees.specs.declared.store.Shape.TheVariants as shape
@@ -66,6 +66,37 @@ unread old mid new db e sound less (inr h) = by h.0 h.1 h.2
     by Full is cause = inr (omega (arith, cause, less))
     by Broken is cause = absurd cause
     by Unstorable is cause = absurd cause
+
+-- why it was not is told as the store named it
+pub told_unread : {S More : Type 0} (g : Ghosts S) (left : S) (db : Trees) (e : Error) → ((schema : Schema) × IsSound schema db) → FailsToOpen db More e → Relays (g.blamed left) e → IsToldOf g left e
+told_unread g left db e sound (inl h) relays = absurd (h.1 sound.0 sound.1)
+told_unread {S} {More} g left db e sound (inr h) relays = by h.0 h.1 h.2
+  where
+    by : (k : StoreError) → e ≡ store_error k → Excuses More ⊥ k → IsToldOf g left e
+    by OutOfMemory is cause = inl is
+    by Io is cause = inr (inr (ap is_disk_error is, relays))
+    by Corrupt is cause = inr (inr (ap is_disk_error is, relays))
+    by Full is cause = inr (inr (ap is_disk_error is, relays))
+    by Broken is cause = absurd cause
+    by Unstorable is cause = absurd cause
+
+-- and so is the cause of the fault
+pub tells_last : {S : Type 0} (g : Ghosts S) (left : S) (e : Error) → IsToldOf g left e → TellsLast (g.blamed left) (g.view left).is_broken (opening_fault e)
+tells_last g left e (inl memory) = subst (λ f. TellsLast (g.blamed left) (g.view left).is_broken (opening_fault f)) (sym memory) tt
+tells_last g left e (inr (inl shut)) = subst (λ f. TellsLast (g.blamed left) (g.view left).is_broken (opening_fault f)) (sym shut.0) (inl (refl, shut.1))
+tells_last g left e (inr (inr failed)) = by e failed.0 failed.1
+  where
+    by : (f : Error) → IsTrue (is_disk_error f) → Relays (g.blamed left) f → TellsLast (g.blamed left) (g.view left).is_broken (opening_fault f)
+    by (SqliteFailure code.SystemIoFailure) disk relays = inr (λ kind is. ap opening_fault (relays kind is disk))
+    by (SqliteFailure code.DatabaseCorrupt) disk relays = inr (λ kind is. ap opening_fault (relays kind is disk))
+    by (SqliteFailure code.DiskFull) disk relays = inr (λ kind is. ap opening_fault (relays kind is disk))
+    by _ disk relays = absurd (true≢false (sym disk))
+
+-- where nothing was refused
+pub tells_unrefused : (blamed : Option StoreError) (is_broken : Bool) (fault : AdoptFault) → ((e : Error) → fault ≡ adopt.Refused e → ⊥) → TellsLast blamed is_broken (told_as fault)
+tells_unrefused blamed is_broken (adopt.Version found) never = tt
+tells_unrefused blamed is_broken (adopt.Refused e) never = absurd (never e refl)
+tells_unrefused blamed is_broken adopt.NoMemory never = tt
 
 -- of two quiet calls, one behind the other
 pub quiet_on : {S : Type 0} (g : Ghosts S) (old mid new : S) → IsQuiet g.view g.faults g.recovers g.is_shielded old mid → IsQuiet g.view g.faults g.recovers g.is_shielded mid new → IsQuiet g.view g.faults g.recovers g.is_shielded old new

@@ -1,5 +1,5 @@
 -- A store that was read again is taken.
-use Rattle.std.proofs.Common.{arith, ◌≡◌, ◌⊎◌, true, false, None, Some, IsTrue, IsSome, inl, inr, refl, sym, ap, subst, ◌∙◌, true≢false}
+use Rattle.std.proofs.Common.{arith, ◌≡◌, ◌⊎◌, true, false, [], None, Some, IsTrue, IsSome, inl, inr, refl, sym, ap, subst, ◌∙◌, true≢false}
 use Rattle.std.specs.Prelude.{◌≢◌}
 use Rattle.std.specs.FinMap.{get}
 use Rattle.sqlite_catalog.specs.Listing.{IsSound}
@@ -59,11 +59,15 @@ module _ {S : Type 0} (g : Ghosts S) (old again : Held S) (k : Keeping S) (taken
   held : HasCleanDisk (state g k.conn) → contents_now g again ≡ contents_of db
   held clean = ap contents_of (rows (early clean)).1
 
-  pub taken_again : TellsAll g k → (contents_now g k.conn ≡ contents_of db) ⊎ (((contents_now g k.conn ≡ moved (contents_of db)) × IsSound first_schema db) ⊎ ((contents_now g k.conn ≡ new_contents) × IsSound no_schema db))
+  pub taken_again : TellsAll g k → ((contents_now g k.conn ≡ contents_of db) × IsSecondStore db) ⊎ (((contents_now g k.conn ≡ moved (contents_of db)) × IsSound first_schema db) ⊎ ((contents_now g k.conn ≡ new_contents) × IsSound no_schema db))
   taken_again tells = by (taken.ours tells.ours)
     where
-      by : IsToTake again.schema → (contents_now g k.conn ≡ contents_of db) ⊎ (((contents_now g k.conn ≡ moved (contents_of db)) × IsSound first_schema db) ⊎ ((contents_now g k.conn ≡ new_contents) × IsSound no_schema db))
-      by (inl (inl mine)) = inl ((taken.kept mine tells.unshut tells.clean).1 ∙ held tells.clean)
+      second : IsOurs again.schema → IsSecondStore db
+      second (inl is) = inl (subst (λ s. IsSound s db) is (sound (early tells.clean)))
+      second (inr is) = inr (subst (λ s. IsSound s db) is (sound (early tells.clean)))
+
+      by : IsToTake again.schema → ((contents_now g k.conn ≡ contents_of db) × IsSecondStore db) ⊎ (((contents_now g k.conn ≡ moved (contents_of db)) × IsSound first_schema db) ⊎ ((contents_now g k.conn ≡ new_contents) × IsSound no_schema db))
+      by (inl (inl mine)) = inl ((taken.kept mine tells.unshut tells.clean).1 ∙ held tells.clean, second mine)
       by (inl (inr first)) = inr (inl ((taken.moved first tells.unshut tells.clean (inl tells.ours)).1 ∙ ap moved (held tells.clean), subst (λ s. IsSound s db) first (sound (early tells.clean))))
       by (inr none) = inr (inr ((taken.made none tells.unshut tells.clean).1, subst (λ s. IsSound s db) none (sound (early tells.clean))))
 
@@ -73,10 +77,10 @@ module _ {S : Type 0} (g : Ghosts S) (old again : Held S) (k : Keeping S) (taken
       (it.0, it.1 ∙ held clean, ap (λ (c : Contents). get c.texts version_name) it.1 ∙ it.2)
 
   pub taken_moved : IsSound first_schema db → k.is_shut ≡ false → HasCleanDisk (state g k.conn) → get (contents_of db).texts version_name ≢ Some version_two
-      → TellsAll g k × (contents_now g k.conn ≡ moved (contents_of db)) × (get (contents_of db).texts version_name ≡ Some version_one)
+      → TellsAll g k × (contents_now g k.conn ≡ moved (contents_of db)) × (get (contents_of db).texts version_name ≡ Some version_one) × ((state g k.conn).now.trees 0 ≡ [])
   taken_moved first unshut clean other =
       let it = taken.moved (listed (early clean) first_schema first_simple first) unshut clean (inr (λ e. other (ap (λ (c : Contents). get c.texts version_name) (sym (held clean)) ∙ e))) in
-      (it.0, it.1 ∙ ap moved (held clean), ap (λ (c : Contents). get c.texts version_name) (sym (held clean)) ∙ it.2)
+      (it.0, it.1 ∙ ap moved (held clean), ap (λ (c : Contents). get c.texts version_name) (sym (held clean)) ∙ it.2, it.3)
 
   pub taken_made : IsSound no_schema db → k.is_shut ≡ false → HasCleanDisk (state g k.conn) → TellsAll g k × (contents_now g k.conn ≡ new_contents)
   taken_made none unshut clean = taken.made (none_listed again.schema db (listed (early clean)) none) unshut clean

@@ -1,5 +1,5 @@
 -- What a store was when a keeper took it or gave it back, and what it is then.
-use Rattle.std.specs.Prelude.{◌≡◌, ◌≢◌, ◌≤◌, ◌⊎◌, true, false, if◌then◌else◌, Some, IsTrue}
+use Rattle.std.specs.Prelude.{◌≡◌, ◌≢◌, ◌≤◌, ◌⊎◌, true, false, if◌then◌else◌, [], Some, IsTrue}
 use Rattle.std.specs.FinMap.{get}
 use Rattle.budget_ports.specs.Keeper.{IsAlone}
 use Rattle.sqlite_trees.specs.View.{doubt}
@@ -19,9 +19,9 @@ pub record IsTaken {S : Type 0} (g : Ghosts S) (old : Held S) (k : Keeping S) : 
   pub count : k.faults ≡ (if k.is_shut then 1 else 0)
   -- not shut, it tells: over the tables of this version what the store held, which told this version
   pub kept : IsOurs old.schema → k.is_shut ≡ false → HasCleanDisk (state g k.conn) → TellsAll g k × (contents_now g k.conn ≡ contents_now g old) × (get (contents_now g old).texts version_name ≡ Some version_two)
-  -- over those of the version before the same with this version, unless they told this one already
+  -- over those of the version before the same with this version, and the old table is empty, unless they told this one already
   pub moved : old.schema ≡ first_schema → k.is_shut ≡ false → HasCleanDisk (state g k.conn) → (k.is_ours ≡ true) ⊎ (get (contents_now g old).texts version_name ≢ Some version_two)
-      → TellsAll g k × (contents_now g k.conn ≡ moved (contents_now g old)) × (get (contents_now g old).texts version_name ≡ Some version_one)
+      → TellsAll g k × (contents_now g k.conn ≡ moved (contents_now g old)) × (get (contents_now g old).texts version_name ≡ Some version_one) × ((state g k.conn).now.trees 0 ≡ [])
   -- and where nothing was listed what a new store holds
   pub made : old.schema ≡ no_schema → k.is_shut ≡ false → HasCleanDisk (state g k.conn) → TellsAll g k × (contents_now g k.conn ≡ new_contents)
   pub alone : IsAlone (TellsAll g k) (contents_now g k.conn) (MayBeLeft g k)

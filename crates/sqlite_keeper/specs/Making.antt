@@ -28,23 +28,26 @@ pub record Widens {S : Type 0} (g : Ghosts S) (old new : Held S) : Type 0 where
   pub named : (state g new).now.trees 2 ≡ (state g old).now.trees 2
   pub committed : (state g new).committed ≡ (state g old).committed
 
--- the new tables hold the records of the first version, and the texts stay
+-- the new tables hold the records of the first version, which stay in the old one, and so do the texts
 pub record AreCopied {S : Type 0} (g : Ghosts S) (old new : Held S) : Type 0 where
   pub within : Within moved_tables g new
   pub records : records_now moved_tables g new ≡ first_records ((state g old).now.trees 0)
+  pub items : (state g new).now.trees 0 ≡ (state g old).now.trees 0
   pub named : (state g new).now.trees 2 ≡ (state g old).now.trees 2
   pub committed : (state g new).committed ≡ (state g old).committed
 
 -- the new tables stand beside those of the first version
 pub record HasCopies {S : Type 0} (g : Ghosts S) (h : Held S) : Type 0 where
   pub within : Within moved_tables g h
+  pub items : Rises ((state g h).now.trees 0)
   pub named : Rises ((state g h).now.trees 2)
 
--- the text `version` is that of the second one, the other texts and the new tables stay
+-- the old table is empty, the text `version` is that of the second one, the other texts and the new tables stay
 pub record Settles {S : Type 0} (g : Ghosts S) (old new : Held S) : Type 0 where
   pub is_open : IsTrue (state g new).is_open
   pub inside : new.in_transaction ≡ true
   pub kept : IsKept moved_tables (state g new).now
+  pub items : (state g new).now.trees 0 ≡ []
   pub records : records_now moved_tables g new ≡ records_now moved_tables g old
   pub texts : texts_in ((state g new).now.trees 2) ≡ insert (texts_in ((state g old).now.trees 2)) version_name version_two
   pub committed : (state g new).committed ≡ (state g old).committed

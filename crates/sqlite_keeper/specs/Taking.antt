@@ -1,8 +1,10 @@
 -- A store that was opened, and is read again to be taken.
 use Rattle.std.specs.FinMap.{get}
-use Rattle.std.specs.Prelude.{◌≡◌, ◌≢◌, Some, ◌≤◌, ◌⊎◌, false, List, ℕ, None, IsTrue, ⊤}
+use Rattle.std.specs.Prelude.{◌≡◌, ◌≢◌, Option, Some, ◌≤◌, ◌⊎◌, Bool, false, List, ℕ, None, IsTrue, ⊤}
 use Rattle.sqlite.specs.Store.{Ghosts}
 use Rattle.sqlite.specs.Held.{Held, state}
+use Rattle.sqlite.specs.State.{Relays, is_disk_error, store_error}
+use Rattle.sqlite_trees.specs.declared.error.StoreError.{StoreError}
 use Rattle.sqlite_catalog.specs.Listing.{IsSound}
 use Rattle.sqlite_disk.specs.Disk.{MoreFaults}
 use Rattle.sqlite_trees.specs.Tree.{Trees}
@@ -12,7 +14,7 @@ use Rattle.sqlite_keeper.specs.Contents.{contents_of}
 use Rattle.sqlite_keeper.specs.Adopting.{TellsVersion, version_name, version_one}
 use Rattle.sqlite_keeper.specs.declared.keeper.AdoptFault.{AdoptFault}
 use Rattle.sqlite_keeper.specs.declared.keeper.AdoptFault.TheVariants as adopt
-use Rattle.sqlite.specs.declared.error.ErrorCode.TheVariants.{OutOfMemory, CannotOpen, DatabaseBusy, NotADatabase, NameTaken, DatabaseCorrupt, DiskFull}
+use Rattle.sqlite.specs.declared.error.ErrorCode.TheVariants.{OutOfMemory, CannotOpen, DatabaseBusy, NotADatabase, NameTaken, DatabaseCorrupt, DiskFull, Closed}
 use Rattle.sqlite.specs.declared.error.Error.{Error}
 use Rattle.sqlite.specs.declared.error.Error.TheVariants.{SqliteFailure, SqlInputError}
 use Rattle.sqlite_keeper.specs.declared.taking.OpeningCause.TheVariants.{NotOpened, InUse, NoStore, OtherTables, Damaged, NoRoom, Failed}
@@ -93,3 +95,13 @@ abbrev pub told_as : AdoptFault → StoreFault
 told_as (adopt.Version found) = Version found
 told_as (adopt.Refused error) = opening_fault error
 told_as adopt.NoMemory = NoMemory
+
+-- memory was wanting, the store is broken, or the disk has failed, told as the store named it where it keeps that
+abbrev pub IsToldOf : {S : Type 0} → Ghosts S → S → Error → Type 0
+IsToldOf g left e = (e ≡ SqliteFailure OutOfMemory) ⊎ (((e ≡ SqliteFailure Closed) × IsTrue (g.view left).is_broken) ⊎ (IsTrue (is_disk_error e) × Relays (g.blamed left) e))
+
+-- the cause is that of the store's last error where it keeps that, or a failure where it is broken
+abbrev pub TellsLast : Option StoreError → Bool → StoreFault → Type 0
+TellsLast blamed is_broken (Unopened cause) = ((cause ≡ Failed) × IsTrue is_broken) ⊎ ((kind : StoreError) → blamed ≡ Some kind → Unopened cause ≡ opening_fault (store_error kind))
+TellsLast blamed is_broken (Version found) = ⊤
+TellsLast blamed is_broken NoMemory = ⊤

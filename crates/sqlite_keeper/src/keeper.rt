@@ -1,5 +1,5 @@
 //! The keeper over a connection.
-ghost use Rattle.std.specs.Prelude.{◌≡◌, ◌≤◌, true, false, if◌then◌else◌, Result, Err, IsTrue, IsErrOf, IfOk, IfErr, OnOk, OnErr};
+ghost use Rattle.std.specs.Prelude.{◌≡◌, ◌↔◌, ◌≤◌, true, false, if◌then◌else◌, Result, [], Err, IsTrue, IsErrOf, IfOk, IfErr, OnOk, OnErr};
 ghost use Rattle.std.specs.FinMap.{get, keys};
 ghost use Rattle.sqlite.specs.State.{HasCleanDisk};
 ghost use Rattle.sqlite.specs.Held.{state};
@@ -20,7 +20,7 @@ use crate::reading::{try_get, try_names, try_since};
 use crate::writing::{try_append, try_put};
 use budget_ports::{Keeper, PortFault, Record};
 use field_values::{Items, Txt};
-use sqlite::{Alter, Connection, Error};
+use sqlite::{Alter, Connection, Error, ErrorCode};
 use std::alloc::Global;
 use std::marker::Model;
 
@@ -54,7 +54,8 @@ impl<S: Alter> Model for SqliteKeeper<S> {
 
 /// Want of memory is told as such, and any other refusal is counted.
 fn refuse(faults: &mut u64, error: Error) -> PortFault
-    ensures { faults.new ≡ count_after (has_failed {T = Unit {0}} (Err result)) faults.old }
+    ensures count { faults.new ≡ count_after (has_failed {T = Unit {0}} (Err result)) faults.old }
+    ensures told { (result ≡ PortFault.NoMemory) ↔ (error ≡ Error.SqliteFailure ErrorCode.OutOfMemory) }
 {
     if is_memory(&error) {
         return PortFault::NoMemory;
@@ -181,6 +182,7 @@ impl<S: Alter> SqliteKeeper<S> {
         requires known { IsTrue is_known → (c : Contents) × MayBecome S.Store is_new connection c }
         ensures count { IfOk result (λ k. k.faults ≡ (if k.is_shut then 1 else 0)) }
         ensures made { IfOk result (λ k. (c : Contents) → MayBecome S.Store is_new connection c → k.is_shut ≡ false → HasCleanDisk (state S.Store k.conn) → IsTrue (state S.Store k.conn).is_open × (contents_now S.Store k.conn ≡ c)) }
+        ensures emptied { IfOk result (λ k. is_new ≡ false → (c : Contents) → MayBecome S.Store false connection c → k.is_shut ≡ false → HasCleanDisk (state S.Store k.conn) → (state S.Store k.conn).now.trees 0 ≡ []) }
         ensures alone { IfOk result (λ k. IsAlone (TellsAll S.Store k) (contents_now S.Store k.conn) (MayBeLeft S.Store k)) }
         ensures ours { IfOk result (λ k. k.is_shut ≡ false → k.is_ours ≡ is_known) }
         ensures shut_ours { IfOk result (λ k. k.is_shut ≡ true → k.is_ours ≡ false) }

@@ -1,5 +1,5 @@
 //! A store of the second version is made, or one of the first becomes one.
-ghost use Rattle.std.specs.Prelude.{◌≡◌, ◌≤◌, ℕ, true, false, Ok, Err, IsTrue, IfErr, OnOk, OnErr};
+ghost use Rattle.std.specs.Prelude.{◌≡◌, ◌≤◌, ℕ, [], true, false, Ok, Err, IsTrue, IfErr, OnOk, OnErr};
 ghost use Rattle.sqlite.specs.State.{HasCleanDisk, Survives, ExecutesInside};
 ghost use Rattle.sqlite.specs.Held.{state};
 ghost use Rattle.sqlite.specs.Values.{bound};
@@ -116,6 +116,7 @@ fn settle<S: Alter>(tx: &mut Transaction<'_, S>) -> Result<(), Error>
 fn move_in<S: Alter>(tx: &mut Transaction<'_, S>) -> Result<(), Error>
     ensures same_reference { tx.new.conn.ghost_name ≡ tx.old.conn.ghost_name }
     ensures made { HasCleanDisk (state S.Store tx.new.conn.now) → (k : Contents) → Begins S.Store false tx.old.conn.now k → OnOk result (Makes S.Store tx.old.conn.now tx.new.conn.now k) }
+    ensures emptied { HasCleanDisk (state S.Store tx.new.conn.now) → (k : Contents) → Begins S.Store false tx.old.conn.now k → OnOk result ((state S.Store tx.new.conn.now).now.trees 0 ≡ []) }
     ensures told { HasCleanDisk (state S.Store tx.new.conn.now) → IsTrue tx.old.conn.now.in_transaction → OnOk result (IsTrue (state S.Store tx.old.conn.now).is_open) }
     ensures opened { HasCleanDisk (state S.Store tx.new.conn.now) → IsTrue tx.old.conn.now.in_transaction → IsTrue (state S.Store tx.new.conn.now).is_open → OnErr result (IsTrue (state S.Store tx.old.conn.now).is_open) }
     ensures fell { HasCleanDisk (state S.Store tx.new.conn.now) → (k : Contents) → Begins S.Store false tx.old.conn.now k → OnErr result (Fell S.Store tx.old.conn.now tx.new.conn.now) }
@@ -130,6 +131,7 @@ fn move_in<S: Alter>(tx: &mut Transaction<'_, S>) -> Result<(), Error>
 fn turn_in<S: Alter>(tx: &mut Transaction<'_, S>, is_new: bool) -> Result<(), Error>
     ensures same_reference { tx.new.conn.ghost_name ≡ tx.old.conn.ghost_name }
     ensures made { HasCleanDisk (state S.Store tx.new.conn.now) → (k : Contents) → Begins S.Store is_new tx.old.conn.now k → OnOk result (Makes S.Store tx.old.conn.now tx.new.conn.now k) }
+    ensures emptied { HasCleanDisk (state S.Store tx.new.conn.now) → is_new ≡ false → (k : Contents) → Begins S.Store false tx.old.conn.now k → OnOk result ((state S.Store tx.new.conn.now).now.trees 0 ≡ []) }
     ensures told { HasCleanDisk (state S.Store tx.new.conn.now) → IsTrue tx.old.conn.now.in_transaction → OnOk result (IsTrue (state S.Store tx.old.conn.now).is_open) }
     ensures opened { HasCleanDisk (state S.Store tx.new.conn.now) → IsTrue tx.old.conn.now.in_transaction → IsTrue (state S.Store tx.new.conn.now).is_open → OnErr result (IsTrue (state S.Store tx.old.conn.now).is_open) }
     ensures fell { HasCleanDisk (state S.Store tx.new.conn.now) → (k : Contents) → Begins S.Store is_new tx.old.conn.now k → OnErr result (Fell S.Store tx.old.conn.now tx.new.conn.now) }
@@ -146,6 +148,7 @@ fn turn_in<S: Alter>(tx: &mut Transaction<'_, S>, is_new: bool) -> Result<(), Er
 pub(crate) fn make<S: Alter>(conn: &mut Connection<S>, is_new: bool) -> Result<(), Error>
     requires { conn.old.in_transaction ≡ false }
     ensures made { HasCleanDisk (state S.Store conn.new) → (k : Contents) → MayBecome S.Store is_new conn.old k → OnOk result (Stands S.Store conn.new × (contents_now S.Store conn.new ≡ k)) }
+    ensures emptied { HasCleanDisk (state S.Store conn.new) → is_new ≡ false → (k : Contents) → MayBecome S.Store false conn.old k → OnOk result ((state S.Store conn.new).now.trees 0 ≡ []) }
     ensures told { HasCleanDisk (state S.Store conn.new) → OnOk result (IsTrue (state S.Store conn.old).is_open) }
     ensures opened { HasCleanDisk (state S.Store conn.new) → IsTrue (state S.Store conn.new).is_open → OnErr result (IsTrue (state S.Store conn.old).is_open) }
     ensures failed { HasCleanDisk (state S.Store conn.new) → (k : Contents) → MayBecome S.Store is_new conn.old k → IsTrue (state S.Store conn.new).is_open → OnErr result (Rests S.Store conn.new × ((state S.Store conn.new).now ≡ (state S.Store conn.old).now)) }

@@ -5,7 +5,7 @@ ghost use Rattle.sqlite.specs.Held.{state};
 ghost use Rattle.sqlite_catalog.specs.Listing.{IsSound};
 ghost use Rattle.sqlite_trees.specs.View.{doubt, IsClean, IsQuiet};
 ghost use Rattle.sqlite_keeper.specs.Adopting.{IsInOrder};
-ghost use Rattle.sqlite_keeper.specs.Taking.{IsLost, HasComeBack};
+ghost use Rattle.sqlite_keeper.specs.Taking.{IsLost, IsToldOf, HasComeBack};
 ghost use Rattle.sqlite_keeper.specs.Tables.{IsSimple, no_schema};
 
 use sqlite::{Alter, Connection, Error, ErrorCode};
@@ -43,6 +43,7 @@ pub fn in_order<S: Alter + Drop>(
     ensures quiet { IfErr result (λ u. IsQuiet S.Store.view S.Store.faults S.Store.recovers S.Store.is_shielded connection.store u.store) }
     ensures back { IfErr result (λ u. HasComeBack S.Store connection u.store) }
     ensures cause { IfErr result (λ u. IsClean (S.Store.view u.store) → (u.error ≡ Error.SqliteFailure ErrorCode.OutOfMemory) ⊎ IsLost S.Store connection u.store) }
+    ensures told { IfErr result (λ u. IsClean (S.Store.view u.store) → IsToldOf S.Store u.store u.error) }
 {
     let store = connection.into_store();
     if store.is_broken() {

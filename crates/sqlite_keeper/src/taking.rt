@@ -1,5 +1,5 @@
 //! What the program does with a store that it has opened.
-ghost use Rattle.std.specs.Prelude.{◌≡◌, ◌≢◌, ◌≤◌, ◌⊎◌, true, false, if◌then◌else◌, Some, IsTrue, IfOk, IfErr};
+ghost use Rattle.std.specs.Prelude.{◌≡◌, ◌≢◌, ◌≤◌, ◌⊎◌, true, false, if◌then◌else◌, [], Some, IsTrue, IfOk, IfErr};
 ghost use Rattle.std.specs.FinMap.{get};
 ghost use Rattle.budget_ports.specs.Keeper.{IsAlone};
 ghost use Rattle.sqlite.specs.State.{HasCleanDisk};
@@ -10,7 +10,7 @@ ghost use Rattle.sqlite_keeper.specs.Contents.{contents_of, contents_now};
 ghost use Rattle.sqlite_keeper.specs.Keeping.{TellsAll, MayBeLeft};
 ghost use Rattle.sqlite_keeper.specs.Adopting.{moved, new_contents, version_name, version_one, version_two};
 ghost use Rattle.sqlite_trees.specs.View.{doubt, IsClean};
-ghost use Rattle.sqlite_keeper.specs.Taking.{IsSecondStore, IsStoreOrBlank, IsKeptOrBlank, HasFailedSince, IsLetGo, opening_fault, told_as};
+ghost use Rattle.sqlite_keeper.specs.Taking.{IsSecondStore, IsStoreOrBlank, IsKeptOrBlank, HasFailedSince, IsLetGo, TellsLast, opening_fault, told_as};
 
 use crate::keeper::{AdoptFault, SqliteKeeper, Unadopted};
 use crate::order::{Unread, in_order};
@@ -112,14 +112,15 @@ fn left_by<S: Alter + Drop>(unadopted: Unadopted<S>) -> Untaken<S>
 /// keeper is shut only if the disk has failed since the store was read again. And the
 /// faults are told each for its reason: `Unopened` where the connection was shut or the disk failed
 /// meanwhile, or tables of neither version stand there, `Version` where something is listed, and if it is the tables of either version, where they
-/// tell another version or none. Want of memory needs no reason.
+/// tell another version or none. Want of memory needs no reason. Over the tables of either version, or where nothing was listed, a cause
+/// that is told is that of the store's last error where it keeps that, or a failure where the store is broken.
 pub fn take<S: Alter + Drop>(
     alloc: Global,
     connection: Connection<S>,
 ) -> Result<SqliteKeeper<S>, Untaken<S>>
-    ensures again { IfOk result (λ k. TellsAll S.Store k → (contents_now S.Store k.conn ≡ contents_of (state S.Store connection).committed.trees) ⊎ (((contents_now S.Store k.conn ≡ moved (contents_of (state S.Store connection).committed.trees)) × IsSound first_schema (state S.Store connection).committed.trees) ⊎ ((contents_now S.Store k.conn ≡ new_contents) × IsSound no_schema (state S.Store connection).committed.trees))) }
+    ensures again { IfOk result (λ k. TellsAll S.Store k → ((contents_now S.Store k.conn ≡ contents_of (state S.Store connection).committed.trees) × IsSecondStore (state S.Store connection).committed.trees) ⊎ (((contents_now S.Store k.conn ≡ moved (contents_of (state S.Store connection).committed.trees)) × IsSound first_schema (state S.Store connection).committed.trees) ⊎ ((contents_now S.Store k.conn ≡ new_contents) × IsSound no_schema (state S.Store connection).committed.trees))) }
     ensures kept { IfOk result (λ k. IsSecondStore (state S.Store connection).committed.trees → k.is_shut ≡ false → HasCleanDisk (state S.Store k.conn) → TellsAll S.Store k × (contents_now S.Store k.conn ≡ contents_of (state S.Store connection).committed.trees) × (get (contents_now S.Store k.conn).texts version_name ≡ Some version_two)) }
-    ensures moved { IfOk result (λ k. IsSound first_schema (state S.Store connection).committed.trees → k.is_shut ≡ false → HasCleanDisk (state S.Store k.conn) → get (contents_of (state S.Store connection).committed.trees).texts version_name ≢ Some version_two → TellsAll S.Store k × (contents_now S.Store k.conn ≡ moved (contents_of (state S.Store connection).committed.trees)) × (get (contents_of (state S.Store connection).committed.trees).texts version_name ≡ Some version_one)) }
+    ensures moved { IfOk result (λ k. IsSound first_schema (state S.Store connection).committed.trees → k.is_shut ≡ false → HasCleanDisk (state S.Store k.conn) → get (contents_of (state S.Store connection).committed.trees).texts version_name ≢ Some version_two → TellsAll S.Store k × (contents_now S.Store k.conn ≡ moved (contents_of (state S.Store connection).committed.trees)) × (get (contents_of (state S.Store connection).committed.trees).texts version_name ≡ Some version_one) × ((state S.Store k.conn).now.trees 0 ≡ [])) }
     ensures made { IfOk result (λ k. IsSound no_schema (state S.Store connection).committed.trees → k.is_shut ≡ false → HasCleanDisk (state S.Store k.conn) → TellsAll S.Store k × (contents_now S.Store k.conn ≡ new_contents)) }
     ensures alone { IfOk result (λ k. IsAlone (TellsAll S.Store k) (contents_now S.Store k.conn) (MayBeLeft S.Store k)) }
     ensures count { IfOk result (λ k. k.faults ≡ (if k.is_shut then 1 else 0)) }
@@ -127,6 +128,7 @@ pub fn take<S: Alter + Drop>(
     ensures shut { IfOk result (λ k. k.is_shut ≡ true → IsStoreOrBlank (state S.Store connection).committed.trees → HasCleanDisk (state S.Store k.conn) → IsTrue (state S.Store k.conn).is_open → contents_now S.Store k.conn ≡ contents_of (state S.Store connection).committed.trees) }
     ensures opened { IfOk result (λ k. HasCleanDisk (state S.Store k.conn) → IsTrue (state S.Store connection).is_open) }
     ensures let_go { IfErr result (λ u. IsLetGo S.Store connection u.store u.fault) }
+    ensures told { IfErr result (λ u. IsStoreOrBlank (state S.Store connection).committed.trees → IsClean (S.Store.view u.store) → TellsLast (S.Store.blamed u.store) (S.Store.view u.store).is_broken u.fault) }
     ensures back { IfErr result (λ u. IsStoreOrBlank (state S.Store connection).committed.trees → IsClean (S.Store.view u.store) → IsTrue (S.Store.view u.store).is_open → contents_of (S.Store.view u.store).trees ≡ contents_of (state S.Store connection).committed.trees) }
 {
     match in_order(alloc, connection) {

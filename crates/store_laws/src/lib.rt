@@ -6,6 +6,8 @@
 
 mod laws;
 mod moving;
+mod taking;
 
 pub use laws::{append_to_store, ask_store, get_from_store, names_of_store, put_into_store};
 pub use moving::move_store;
+pub use taking::{take_store, tell_failure};

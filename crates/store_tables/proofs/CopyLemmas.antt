@@ -16,14 +16,14 @@ use Rattle.store_tables.proofs.Lists.{Shows, shows, shows_same}
 use Rattle.store_tables.proofs.RowRules.{items_moved}
 
 pub begins : (t : Tables) {S : Type 0} (g : Ghosts S) (a : Held S) (rows : List Row) → Within t g a → CopiesOn t g a a rows rows
-begins t g a rows was = record { goes = record { within = was; committed = refl; texts = refl; records_are = refl }; records = refl }
+begins t g a rows was = record { goes = record { within = was; committed = refl; texts = refl; others = λ u has x y z. refl; records_are = refl }; records = refl }
 
 pub copies_on : (t : Tables) {S : Type 0} (g : Ghosts S) (a b c : Held S) (rows : List Row) (i : ℕ) (row : Row) → i < length rows → row ≡ slice_index_or rows i row
     → CopiesOn t g a b rows (drop i rows) → Goes t g b c (with_shown (records_now t g b) row) → CopiesOn t g a c rows (drop (i + 1) rows)
 copies_on t g a b c rows i row low is one two =
     let left : drop i rows ≡ row ∷ drop (i + 1) rows = drop_more rows i row low ∙ ap (λ (x : Row). x ∷ drop (i + 1) rows) (sym is) in
     record {
-      goes = record { within = two.within; committed = two.committed ∙ one.goes.committed; texts = two.texts ∙ one.goes.texts; records_are = refl };
+      goes = record { within = two.within; committed = two.committed ∙ one.goes.committed; texts = two.texts ∙ one.goes.texts; others = λ u has x y z. two.others u has x y z ∙ one.goes.others u has x y z; records_are = refl };
       records = ap (λ (m : FinMap place_cmp Text). copied m (drop (i + 1) rows)) two.records_are ∙ ap (copied (records_now t g b)) (sym left) ∙ one.records;
     }
 

@@ -142,6 +142,7 @@ module _ (t : Tables) (l : Layout t) (limit : Option ℕ) (db : Trees) (id : ℤ
   record Added (next : Trees) : Type 0 where
     kept : next t.grps_tree ≡ groups
     named : next t.named_tree ≡ db t.named_tree
+    others : (u : Table) → Has t.schema.tables u → u.tree ≢ t.entries_tree → next u.tree ≡ db u.tree
     rises : Rises (next t.entries_tree)
     parents : AreParented groups (next t.entries_tree)
     joined_is : joined groups (next t.entries_tree) ≡ with_record group (joined groups old) key body
@@ -196,7 +197,7 @@ module _ (t : Tables) (l : Layout t) (limit : Option ℕ) (db : Trees) (id : ℤ
       let changed = one_changed place_total place_same place body_of old (done.0 t.entries_tree) x once_old once_new
       (subst (λ r. Has r x) (sym rows) (put_all_adds (x ∷ []) old x it.fresh (inl refl))) has (λ y there other. stays y there) in
       let absent : contains_key (joined groups old) (group, key) ≡ false = is_none _ (get_missing place_total place_same place body_of old (group, key) none) in
-      let added : Added done.0 = record { kept = kept; named = all_has (λ (y : Table). y.tree ≢ t.entries_tree → done.0 y.tree ≡ db y.tree) t.schema.tables (named t.named_tree) it.tables l.has_named l.named_apart.2; rises = up; parents = parents; joined_is = changed ∙ ap (λ p. Rattle.std.specs.FinMap.insert (joined groups old) p body) x_place ∙ rw absent } in
+      let added : Added done.0 = record { kept = kept; named = all_has (λ (y : Table). y.tree ≢ t.entries_tree → done.0 y.tree ≡ db y.tree) t.schema.tables (named t.named_tree) it.tables l.has_named l.named_apart.2; others = λ u has other. all_has (λ (y : Table). y.tree ≢ t.entries_tree → done.0 y.tree ≡ db y.tree) t.schema.tables u it.tables has other; rises = up; parents = parents; joined_is = changed ∙ ap (λ p. Rattle.std.specs.FinMap.insert (joined groups old) p body) x_place ∙ rw absent } in
       subst Added (sym trees) added
 
   cleared : (one : Written) (found : List Row) → ((y : Row) → Has old y → place y ≡ (group, key) → ⊥) → Clears task Abort new db found (Ok one) → Added one.trees
@@ -217,7 +218,7 @@ module _ (t : Tables) (l : Layout t) (limit : Option ℕ) (db : Trees) (id : ℤ
       subst (λ p. get (joined groups old) p ≡ Some (body_of r.0)) at
       (get_found place_total place_same place body_of old r.0 r.1 (λ y k e. ap body_of (once_old y r.0 k r.1 e))) in
       let trees : one.trees ≡ db = ap (λ (w : Written). w.trees) (same_value m) in
-      let s : Added db = record { kept = refl; named = refl; rises = stand.entries; parents = stand.parents; joined_is = rw (ap is_some there_is) } in
+      let s : Added db = record { kept = refl; named = refl; others = λ u has other. refl; rises = stand.entries; parents = stand.parents; joined_is = rw (ap is_some there_is) } in
       subst Added (sym trees) s
 
   judged : (one : Written) (verdict : Option Refusal) → Judged task Abort entry_clauses new db verdict (Ok one) → Added one.trees
@@ -251,6 +252,7 @@ module _ (t : Tables) (l : Layout t) (limit : Option ℕ) (db : Trees) (id : ℤ
         schema = ap (λ (p : Tally × Database). p.1.schema) is;
         groups = late.kept;
         named = late.named;
+        others = λ u has one two three. late.others u has three;
         rises = late.rises;
         parents = subst (λ gs. AreParented gs (after.trees t.entries_tree)) (sym late.kept) late.parents;
         joined_is = ap (λ gs. joined gs (after.trees t.entries_tree)) late.kept ∙ late.joined_is;

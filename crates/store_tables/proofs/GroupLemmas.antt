@@ -94,12 +94,14 @@ module _ (t : Tables) (l : Layout t) (limit : Option ℕ) (db : Trees) (name : L
     groups : b t.grps_tree ≡ a t.grps_tree
     entries : b t.entries_tree ≡ a t.entries_tree
     named : b t.named_tree ≡ a t.named_tree
+    others : (u : Table) → Has t.schema.tables u → u.tree ≢ t.grps_tree + 2 → b u.tree ≡ a u.tree
 
   kept : (mid next : Trees) (e : Edit) → e.table.tree ≡ t.grps_tree + 2 → Applies t.schema Enforced mid e next → Keeps mid next
   kept mid next e at it = record {
     groups = all_has (λ (x : Table). x.tree ≢ e.table.tree → next x.tree ≡ mid x.tree) t.schema.tables (grps t.grps_tree) it.tables l.has_grps (λ same. omega (arith, same, at));
     entries = all_has (λ (x : Table). x.tree ≢ e.table.tree → next x.tree ≡ mid x.tree) t.schema.tables (entries t.entries_tree) it.tables l.has_entries (λ same. omega (arith, same, at, l.apart));
     named = all_has (λ (x : Table). x.tree ≢ e.table.tree → next x.tree ≡ mid x.tree) t.schema.tables (named t.named_tree) it.tables l.has_named (λ same. l.named_apart.1 (same ∙ at));
+    others = λ u has other. all_has (λ (x : Table). x.tree ≢ e.table.tree → next x.tree ≡ mid x.tree) t.schema.tables u it.tables has (λ same. other (same ∙ at));
   }
 
   alone : (mid : Trees) (e : Edit) → works t.schema Enforced 0 e.table.tree (taken_by mid e) (unwrap_or (slice_get e.news 0) [] ∷ []) ≡ []
@@ -114,13 +116,14 @@ module _ (t : Tables) (l : Layout t) (limit : Option ℕ) (db : Trees) (name : L
 
   by : (mid next : Trees) (counter : Option Row) (top : ℤ) (b : Bool) → MatchBool b (CountsIn task mid counter top (sequence t.schema) (Ok next)) (Gives mid (Ok next)) → Keeps mid next
   by mid next counter top true h = step mid next counter top (subst (λ o. CountsIn task mid counter top o (Ok next)) l.counts_in h)
-  by mid next counter top false h = let same : next ≡ mid = same_value h in record { groups = ap (λ (d : Trees). d t.grps_tree) same; entries = ap (λ (d : Trees). d t.entries_tree) same; named = ap (λ (d : Trees). d t.named_tree) same }
+  by mid next counter top false h = let same : next ≡ mid = same_value h in record { groups = ap (λ (d : Trees). d t.grps_tree) same; entries = ap (λ (d : Trees). d t.entries_tree) same; named = ap (λ (d : Trees). d t.named_tree) same; others = λ u has other. ap (λ (d : Trees). d u.tree) same }
 
   record Wrote (top : ℤ) (w : Written) : Type 0 where
     shown : w.rows ≡ new top ∷ []
     rows : w.trees t.grps_tree ≡ put_row (new top) (db t.grps_tree)
     entries : w.trees t.entries_tree ≡ db t.entries_tree
     named : w.trees t.named_tree ≡ db t.named_tree
+    others : (u : Table) → Has t.schema.tables u → u.tree ≢ t.grps_tree → u.tree ≢ t.grps_tree + 2 → w.trees u.tree ≡ db u.tree
     fresh : are_fresh (db t.grps_tree) (new top ∷ []) ≡ true
 
   wrote : (counter : Option Row) (w : Written)
@@ -142,6 +145,7 @@ module _ (t : Tables) (l : Layout t) (limit : Option ℕ) (db : Trees) (name : L
             ∙ all_has (λ (x : Table). x.tree ≢ t.grps_tree → mid.0 x.tree ≡ db x.tree) t.schema.tables (entries t.entries_tree) it.tables l.has_entries (λ same. omega (arith, same, l.apart));
         named = ap (λ (x : Written). x.trees t.named_tree) is ∙ after.named
             ∙ all_has (λ (x : Table). x.tree ≢ t.grps_tree → mid.0 x.tree ≡ db x.tree) t.schema.tables (named t.named_tree) it.tables l.has_named l.named_apart.0;
+        others = λ u has one two. ap (λ (x : Written). x.trees u.tree) is ∙ after.others u has two ∙ all_has (λ (x : Table). x.tree ≢ t.grps_tree → mid.0 x.tree ≡ db x.tree) t.schema.tables u it.tables has one;
         fresh = subst (λ ns. are_fresh (db t.grps_tree) ns ≡ true) (news_is top) it.fresh;
       }
 
@@ -182,6 +186,7 @@ module _ (t : Tables) (l : Layout t) (limit : Option ℕ) (db : Trees) (name : L
         });
         entries = entries;
         named = ap (λ (d : Trees). d t.named_tree) trees ∙ made.named;
+        others = λ u has one two three. ap (λ (d : Trees). d u.tree) trees ∙ made.others u has one two;
         same = λ parents. ap₂ joined rows entries ∙ joined_same (db t.grps_tree) (db t.entries_tree) (new top) rises.up made.fresh parents;
       }
 

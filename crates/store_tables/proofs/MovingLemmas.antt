@@ -1,6 +1,20 @@
 -- The statements of the migration but the copies.
-use Rattle.std.proofs.Common.{arith, ◌≡◌, ℕ, List, [], Option, None, Ok, true, false, refl, sym, ap, subst, ◌∙◌}
-use Rattle.sqlite_trees.specs.Tree.{Trees}
+use Rattle.std.proofs.Common.{arith, ◌≡◌, ℕ, ℤ, List, [], ◌∷◌, Option, None, Ok, true, false, not, inl, inr, refl, sym, ap, subst, ◌∙◌, true≢false, IsTrue}
+use Rattle.std.specs.Ordering.{is_eq}
+use Rattle.std.proofs.lemmas.Bool.{not-true}
+use Rattle.std.proofs.lemmas.Cmp.{tied_itself}
+use Rattle.sqlite_value.specs.declared.value.Value.{Value}
+use Rattle.sqlite_value.specs.declared.value.Value.TheVariants.{Null, Int, Real, Text, Blob}
+use Rattle.sqlite_value.specs.Order.{Row, column, value_cmp}
+use Rattle.sqlite_value.proofs.OrderLemmas.{value_cmp_total}
+use Rattle.sqlite_trees.specs.Tree.{Trees, rowid, has_rowid, without_rowid}
+use Rattle.sqlite_trees.specs.View.{is_int}
+use Rattle.sqlite_sql.specs.Program.{overlay}
+use Rattle.sqlite_rules.specs.Lists.{Has}
+use Rattle.sqlite_rules.proofs.ListLemmas.{all_has, has_filtered}
+use Rattle.sqlite_rules.proofs.ProbeLemmas.{mapped_has}
+use Rattle.sqlite_rules.proofs.TableLemmas.{without_all_has}
+use Rattle.sqlite.specs.Term.{col}
 use Rattle.sqlite_schema.specs.declared.schema.Table.{Table}
 use Rattle.sqlite_schema.specs.declared.schema.Schema.{Schema}
 use Rattle.sqlite_schema.specs.declared.schema.Keys.TheVariants.{Enforced}
@@ -8,7 +22,7 @@ use Rattle.sqlite_catalog.specs.Change.{created, next_tree, KeepsRows}
 use Rattle.sqlite_catalog.specs.Calls.{CreatesTable}
 use Rattle.sqlite_rules.specs.declared.error.Rowids.TheVariants.{Given}
 use Rattle.sqlite_rules.specs.Calls.{ids_of}
-use Rattle.sqlite_rules.specs.Edit.{edit_of, Applies}
+use Rattle.sqlite_rules.specs.Edit.{edit_of, id_in, without_all, Applies}
 use Rattle.sqlite.specs.Compile.{table_defined_by}
 use Rattle.sqlite.specs.Command.TheVariants.{CreateTable}
 use Rattle.sqlite.specs.Effect.{Database}
@@ -18,6 +32,8 @@ use Rattle.sqlite.proofs.Callers.{one_step}
 use Rattle.store_tables.specs.Tables.{items, grps, counters, entries, first_schema, with_groups, moved_schema}
 use Rattle.store_tables.specs.Texts.{grps_text, entries_text}
 use Rattle.store_tables.specs.Grouped.{mode}
+use Rattle.store_tables.specs.Layout.{Rises}
+use Rattle.store_tables.proofs.Lists.{Shows, shows, shows_same}
 use Rattle.store_tables.specs.Moving.{HasMade, MakesTables, EmptiesItems}
 use Rattle.store_tables.proofs.TextLemmas.{all_texts}
 use Rattle.store_tables.proofs.GroupLemmas.{went, same_value}
@@ -75,6 +91,35 @@ makes_tables limit other db second third a b has one two =
     } in
     subst (HasMade db) (sym now) r
 
+-- ---- the items go
+
+-- no row that is left has a rowid that was taken out
+lacks : (ids : List ℤ) (rows : List Row) (x : Row) → Has (without_all rows ids) x → (id : ℤ) → Has ids id → has_rowid id x ≡ false
+lacks [] rows x h id never = absurd never
+lacks (i ∷ ids) rows x h id (inl is) =
+    let kept = (has_filtered (λ r. not (has_rowid i r)) rows x (without_all_has ids (without_rowid i rows) x h)).1 in
+    ap (λ k. has_rowid k x) is ∙ not-true _ kept
+lacks (i ∷ ids) rows x h id (inr later) = lacks ids (without_rowid i rows) x h id later
+
+none_in : (rows : List Row) → ((x : Row) → Has rows x → ⊥) → rows ≡ []
+none_in [] none = refl
+none_in (r ∷ rows) none = absurd (none r (inl refl))
+
+int_is : (v : Value) → is_int v ≡ true → is_eq (value_cmp v (Int (id_in v))) ≡ true
+int_is Null h = absurd (true≢false (sym h))
+int_is (Int n) h = ap is_eq (tied_itself value_cmp_total (Int n))
+int_is (Real x) h = absurd (true≢false (sym h))
+int_is (Text t) h = absurd (true≢false (sym h))
+int_is (Blob b) h = absurd (true≢false (sym h))
+
+-- where the rowid of each row is shown, and is an integer, no row is left
+none_left : (items rows : List Row) → Rises items → ((r : Row) → Has items r → Has rows (column r 0 ∷ [])) → without_all items (ids_of rows) ≡ []
+none_left items rows rises shown = none_in _ (λ x left.
+    let there = without_all_has (ids_of rows) items x left in
+    let whole : is_int (rowid x) ≡ true = all_has (λ r. IsTrue (is_int (rowid r))) items x rises.ints there in
+    let id : Has (ids_of rows) (id_in (rowid x)) = mapped_has (λ (r : Row). id_in (rowid r)) rows (column x 0 ∷ []) (shown x there) in
+    true≢false (sym (int_is (rowid x) whole) ∙ lacks (ids_of rows) items x left (id_in (rowid x)) id))
+
 pub empties_items : EmptiesItems
 empties_items limit db tally after done =
     let all = went done in
@@ -84,8 +129,10 @@ empties_items limit db tally after done =
     let it : Applies moved_schema Enforced db edit gone.0 = one_step moved_schema Enforced db gone.0 edit refl gone.1 in
     let is = same_value (went (went all.2).2).2 in
     let trees : after.trees ≡ gone.0 = ap (λ (p : Tally × Database). p.1.trees) is ∙ ap (λ (w : Written). w.trees) (same_value gone.2) in
+    let shown : Shows db 0 [] (col 1 0 ∷ []) [] query.0 = shows_same (overlay db []) db 0 [] (col 1 0 ∷ []) [] query.0 refl (shows 0 [] (col 1 0 ∷ []) [] (overlay db []) [] query.0 (query.1.answer Null)) in
     record {
       schema = ap (λ (p : Tally × Database). p.1.schema) is;
+      items = λ rises. ap (λ (d : Trees). d 0) trees ∙ it.rows ∙ none_left (db 0) query.0 rises (λ r there. shown.complete r there refl);
       named = ap (λ (d : Trees). d 2) trees ∙ it.tables.1.0 (λ e. omega arith);
       groups = ap (λ (d : Trees). d 4) trees ∙ it.tables.1.1.0 (λ e. omega arith);
       entries = ap (λ (d : Trees). d 7) trees ∙ it.tables.1.1.1.1.0 (λ e. omega arith);

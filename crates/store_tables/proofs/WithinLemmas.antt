@@ -127,6 +127,7 @@ module _ (t : Tables) (l : Layout t) (m : Texts t) {S : Type 0} (g : Ghosts S) (
           };
           committed = same.0.committed_is;
           texts = ap (λ (d : Trees). d t.named_tree) trees;
+          others = λ u has one two three. ap (λ (d : Trees). d u.tree) trees;
           records_are = ap (λ (d : Trees). joined (d t.grps_tree) (d t.entries_tree)) trees;
         },
         λ x at.
@@ -159,6 +160,7 @@ module _ (t : Tables) (l : Layout t) (m : Texts t) {S : Type 0} (g : Ghosts S) (
           };
           committed = w.shown.committed_is ∙ rw was.inside;
           texts = r.named;
+          others = r.others;
           records_are = r.same stands.parents;
         },
         λ x at. elim (subst (λ rs. Has rs x) are at) [
@@ -188,6 +190,7 @@ module _ (t : Tables) (l : Layout t) (m : Texts t) {S : Type 0} (g : Ghosts S) (
           };
           committed = h.1.committed_is;
           texts = r.named;
+          others = r.others;
           records_are = r.joined_is;
         },
         r.groups,
@@ -201,11 +204,11 @@ first_shown rows row id groups name some is read shown =
     record { row = q.0; there = q.1; id_is = sym q.3 ∙ read; named = q.2 }
 
 pub goes_on : (t : Tables) {S : Type 0} (g : Ghosts S) (a b c : Held S) → Goes t g a b (records_now t g a) → Goes t g b c (records_now t g b) → Goes t g a c (records_now t g a)
-goes_on t g a b c one two = record { within = two.within; committed = two.committed ∙ one.committed; texts = two.texts ∙ one.texts; records_are = two.records_are ∙ one.records_are }
+goes_on t g a b c one two = record { within = two.within; committed = two.committed ∙ one.committed; texts = two.texts ∙ one.texts; others = λ u has x y z. two.others u has x y z ∙ one.others u has x y z; records_are = two.records_are ∙ one.records_are }
 
 pub adds_on : (t : Tables) {S : Type 0} (g : Ghosts S) (a b c : Held S) (name at text : Text) → Goes t g a b (records_now t g a) → Goes t g b c (with_record name (records_now t g b) at text) → Goes t g a c (with_record name (records_now t g a) at text)
 adds_on t g a b c name at text one two =
-    record { within = two.within; committed = two.committed ∙ one.committed; texts = two.texts ∙ one.texts; records_are = two.records_are ∙ ap (λ (r : FinMap place_cmp Text). with_record name r at text) one.records_are }
+    record { within = two.within; committed = two.committed ∙ one.committed; texts = two.texts ∙ one.texts; others = λ u has x y z. two.others u has x y z ∙ one.others u has x y z; records_are = two.records_are ∙ ap (λ (r : FinMap place_cmp Text). with_record name r at text) one.records_are }
 
 pub if_ok : {T E : Type 0} {P Q : T → Type 0} (r : Result T E) → ((x : T) → P x → Q x) → IfOk r P → IfOk r Q
 if_ok (Ok x) f p = f x p

@@ -15,7 +15,7 @@ use Rattle.sqlite.specs.Command.TheVariants.{InsertOr}
 use Rattle.sqlite.specs.Effect.{Database}
 use Rattle.sqlite.specs.Does.{Tally, Does}
 use Rattle.store_tables.specs.Texts.{Tables, entry_text}
-use Rattle.store_tables.specs.Layout.{Layout, Rises}
+use Rattle.store_tables.specs.Layout.{Layout, Rises, SparesOthers}
 use Rattle.store_tables.specs.Joined.{joined, with_record, AreParented}
 use Rattle.store_tables.specs.Grouped.{mode}
 
@@ -39,6 +39,7 @@ pub record IsEntered (t : Tables) (db : Trees) (group key body : List ℕ) (afte
   pub schema : after.schema ≡ t.schema
   pub groups : after.trees t.grps_tree ≡ db t.grps_tree
   pub named : after.trees t.named_tree ≡ db t.named_tree
+  pub others : SparesOthers t db after.trees
   pub rises : Rises (after.trees t.entries_tree)
   pub parents : AreParented (after.trees t.grps_tree) (after.trees t.entries_tree)
   pub joined_is : joined (after.trees t.grps_tree) (after.trees t.entries_tree) ≡ with_record group (joined (db t.grps_tree) (db t.entries_tree)) key body

@@ -12,7 +12,7 @@ use Rattle.sqlite.specs.Command.TheVariants.{Insert}
 use Rattle.sqlite.specs.Effect.{Database}
 use Rattle.sqlite.specs.Does.{Tally, Does}
 use Rattle.store_tables.specs.Texts.{Tables, group_text, group_shown}
-use Rattle.store_tables.specs.Layout.{Layout, Rises}
+use Rattle.store_tables.specs.Layout.{Layout, Rises, SparesOthers}
 use Rattle.store_tables.specs.Joined.{joined, AreParented}
 
 abbrev pub mode : Mode
@@ -31,6 +31,7 @@ pub record IsGrouped (t : Tables) (db : Trees) (name : List ℕ) (tally : Tally)
   pub rises : Rises (after.trees t.grps_tree)
   pub entries : after.trees t.entries_tree ≡ db t.entries_tree
   pub named : after.trees t.named_tree ≡ db t.named_tree
+  pub others : SparesOthers t db after.trees
   pub same : AreParented (db t.grps_tree) (db t.entries_tree) → joined (after.trees t.grps_tree) (after.trees t.entries_tree) ≡ joined (db t.grps_tree) (db t.entries_tree)
 
 abbrev pub MakesGroups : Type 0

@@ -10,6 +10,7 @@ use Rattle.sqlite_catalog.specs.Listing.{automatic}
 use Rattle.sqlite_schema.specs.Rules.{Keeps, guards, parent_key}
 use Rattle.sqlite_schema.specs.declared.schema.Constraint.TheVariants.{Datatype, NotNull, Unique}
 use Rattle.sqlite.specs.Schema.{Schema}
+use Rattle.sqlite.specs.Table.{Table}
 use Rattle.sqlite_value.specs.declared.keys.Order.{Order}
 use Rattle.sqlite_value.specs.Keys.{first_key}
 use Rattle.sqlite_rules.specs.Keys.{conflicts}
@@ -59,3 +60,7 @@ pub record Rules (schema : Schema) (db : Trees) : Type 0 where
   pub typed : Keeps Datatype schema db
   pub present : Keeps NotNull schema db
   pub unique : Keeps Unique schema db
+
+-- the tables but those of the groups, of their ids and of the entries have the rows that they had
+abbrev pub SparesOthers : Tables → Trees → Trees → Type 0
+SparesOthers t db after = (u : Table) → Has t.schema.tables u → u.tree ≢ t.grps_tree → u.tree ≢ t.grps_tree + 2 → u.tree ≢ t.entries_tree → after u.tree ≡ db u.tree

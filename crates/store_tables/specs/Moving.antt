@@ -8,6 +8,7 @@ use Rattle.sqlite.specs.Effect.{Database}
 use Rattle.sqlite.specs.Does.{Tally, Does}
 use Rattle.store_tables.specs.Tables.{first_schema, moved_schema}
 use Rattle.store_tables.specs.Texts.{grps_text, entries_text, empty_text, query_of}
+use Rattle.store_tables.specs.Layout.{Rises}
 use Rattle.store_tables.specs.Grouped.{mode}
 
 -- both tables are new and empty, sqlite_sequence stands between them, and the rest stays
@@ -28,6 +29,7 @@ emptying = record { lets = []; body = query_of 0 [] (col 1 0 ∷ []) [] }
 -- the items go, and nothing else
 pub record HasEmptied (db : Trees) (after : Database) : Type 0 where
   pub schema : after.schema ≡ moved_schema
+  pub items : Rises (db 0) → after.trees 0 ≡ []
   pub named : after.trees 2 ≡ db 2
   pub groups : after.trees 4 ≡ db 4
   pub entries : after.trees 7 ≡ db 7

@@ -9,7 +9,7 @@ use Rattle.sqlite.specs.Store.{Ghosts}
 use Rattle.sqlite.specs.Effect.{IsDatabase}
 use Rattle.sqlite.specs.Held.{Held, state}
 use Rattle.store_tables.specs.Texts.{Tables}
-use Rattle.store_tables.specs.Layout.{Rises}
+use Rattle.store_tables.specs.Layout.{Rises, SparesOthers}
 use Rattle.store_tables.specs.Joined.{Text, place_cmp, joined}
 
 pub record Within (t : Tables) {S : Type 0} (g : Ghosts S) (h : Held S) : Type 0 where
@@ -30,11 +30,12 @@ pub record IsIdOf (rows : List Row) (id : ℤ) (name : Text) : Type 0 where
   pub id_is : rowid row ≡ Int id
   pub named : bytes (column row 2) ≡ name
 
--- the transaction is still open over the tables, nothing more is committed, the texts stay, and the records are these
+-- the transaction is still open over the tables, nothing more is committed, the texts and the other tables stay, and the records are these
 pub record Goes (t : Tables) {S : Type 0} (g : Ghosts S) (old new : Held S) (records : FinMap place_cmp Text) : Type 0 where
   pub within : Within t g new
   pub committed : (state g new).committed ≡ (state g old).committed
   pub texts : (state g new).now.trees t.named_tree ≡ (state g old).now.trees t.named_tree
+  pub others : SparesOthers t (state g old).now.trees (state g new).now.trees
   pub records_are : records_now t g new ≡ records
 
 -- a row of FIND shows the id of a group with the name

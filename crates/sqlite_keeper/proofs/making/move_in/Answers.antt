@@ -32,6 +32,14 @@ returns-clause-made g c clean k begins =
     on_ok c.settle.result (moves g.S.Store c.args.tx.now.conn.now c.widen.new.tx.conn.now c.copy_items.new.tx.conn.now c.settle.new.tx.conn.now k begins one two)
     (c.settle.ensures.settled clean (copies_of g.S.Store c.args.tx.now.conn.now c.widen.new.tx.conn.now c.copy_items.new.tx.conn.now one two))
 
+pub returns-clause-emptied : goal.returns-clause-emptied
+returns-clause-emptied g c clean k begins =
+    let late : HasCleanDisk (state g.S.Store c.copy_items.new.tx.conn.now) = omega (arith, c.settle.ensures.survives.clean) in
+    let early : HasCleanDisk (state g.S.Store c.widen.new.tx.conn.now) = omega (arith, late, c.copy_items.ensures.survives.clean) in
+    let one = c.in_ok-widen.ensures.widened early k begins in
+    let two = c.in_ok-copy_items.ensures.copied late one.has in
+    on_ok c.settle.result (λ settled. settled.items) (c.settle.ensures.settled clean (copies_of g.S.Store c.args.tx.now.conn.now c.widen.new.tx.conn.now c.copy_items.new.tx.conn.now one two))
+
 pub returns-clause-fell : goal.returns-clause-fell
 returns-clause-fell g c clean k begins =
     let late : HasCleanDisk (state g.S.Store c.copy_items.new.tx.conn.now) = omega (arith, c.settle.ensures.survives.clean) in

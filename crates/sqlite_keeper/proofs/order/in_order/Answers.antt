@@ -1,9 +1,9 @@
-use Rattle.std.proofs.Common.{◌≡◌, ◌∙◌, false, inl, inr, sym, subst, arith}
+use Rattle.std.proofs.Common.{◌≡◌, ◌∙◌, false, inl, inr, refl, sym, subst, arith}
 use Rattle.sqlite.specs.Held.{state}
 use Rattle.sqlite_catalog.specs.Listing.{IsSound}
 use Rattle.sqlite_trees.specs.View.{IsClean}
 use Rattle.sqlite_keeper.proofs.Relisted.{relisted, unlisted}
-use Rattle.sqlite_keeper.proofs.OrderLemmas.{fresh, rows_rise, open_of, lost, unread, quiet_on}
+use Rattle.sqlite_keeper.proofs.OrderLemmas.{fresh, rows_rise, open_of, lost, unread, told_unread, quiet_on}
 use Rattle.sqlite_keeper.proofs.order.in_order.Goals as goal
 
 pub over-requires : goal.over-requires
@@ -73,6 +73,9 @@ returns-then-is_broken-clause-cause g c clean =
     inr (lost (state g.S.Store c.args.connection).is_open (g.S.Store.view store).is_open (g.S.Store.view store).is_broken
     (c.into_store-store.ensures.quiet.closes clean) (λ is_open. (c.into_store-store.ensures.undone.undone is_open).1) (sym (c.if-is_broken.ensures clean)))
 
+pub returns-then-is_broken-clause-told : goal.returns-then-is_broken-clause-told
+returns-then-is_broken-clause-told g c clean = inr (inl (refl, sym (c.if-is_broken.ensures clean)))
+
 pub returns-in-Err-clause-quiet : goal.returns-in-Err-clause-quiet
 returns-in-Err-clause-quiet g c = quiet_on g.S.Store c.args.connection.store c.into_store-store.result c.in-Err.store c.into_store-store.ensures.quiet c.in-Err.ensures.unharmed
 
@@ -98,3 +101,15 @@ returns-in-Err-clause-cause g c clean =
       | inl memory ↦ inl memory
       | inr more ↦ inr (inr more)
     ]
+
+pub returns-in-Err-clause-told : goal.returns-in-Err-clause-told
+returns-in-Err-clause-told g c clean =
+    let old = c.args.connection.store in
+    let store = c.into_store-store.result in
+    let left = c.in-Err.store in
+    let early : IsClean (g.S.Store.view store) = omega (arith, c.in-Err.ensures.unharmed.clean, clean) in
+    let sound : (g.S.Store.view store).is_broken ≡ false = sym (c.if-is_broken.ensures early) in
+    let is_open = open_of (g.S.Store.view store) (g.met.S.Store.broken_if_shut store) sound in
+    let same = (fresh (g.S.Store.view old) (g.S.Store.view store) (g.met.S.Store.broken_if_shut store) c.into_store-store.ensures.undone (c.into_store-store.ensures.numbered early) sound early).clean in
+    let listed = c.into_store-store.ensures.sound early (g.S.Store.view store).committed (g.met.S.Store.stays store is_open) in
+    told_unread g.S.Store left (g.S.Store.view store).trees c.in-Err.error (listed.0, subst (IsSound listed.0) (sym same) listed.1) (c.in-Err.ensures.err clean) c.in-Err.ensures.told

@@ -4,9 +4,9 @@ use Rattle.sqlite.specs.Held.{state}
 use Rattle.sqlite_keeper.specs.Contents.{contents_of, contents_now}
 use Rattle.sqlite_keeper.specs.Adopting.{TellsVersion}
 use Rattle.sqlite_keeper.specs.Adopted.{IsGivenBack}
-use Rattle.sqlite_keeper.specs.Taking.{IsLetGo}
+use Rattle.sqlite_keeper.specs.Taking.{IsLetGo, TellsLast}
 use Rattle.sqlite_keeper.specs.declared.keeper.AdoptFault.TheVariants.{Version}
-use Rattle.sqlite_keeper.proofs.OrderLemmas.{let_go_as}
+use Rattle.sqlite_keeper.proofs.OrderLemmas.{let_go_as, tells_last, tells_unrefused}
 use Rattle.sqlite_keeper.proofs.TakeLemmas.{taken_again, taken_kept, taken_moved, taken_made, taken_reason, taken_shut, store_listed, none_listed, to_take}
 use Rattle.sqlite_keeper.proofs.taking.take.Goals as goal
 
@@ -77,3 +77,19 @@ returns-in-Err-adopt-clause-back g c store clean is_open =
     let rows = c.in-Ok.ensures.rows early in
     let take = to_take c.in-Ok.ordered.schema (state g.S.Store c.args.connection).committed.trees (c.in-Ok.ensures.listed early) store in
     ap contents_of (c.left_by.ensures.rows back.idle clean is_open) ∙ back.same take late (c.left_by.ensures.opened clean is_open) ∙ ap contents_of rows.1
+
+pub returns-in-Err-adopt-clause-told : goal.returns-in-Err-adopt-clause-told
+returns-in-Err-adopt-clause-told g c listed clean =
+    let u = c.in-Err-adopt.unadopted in
+    let store = c.left_by.result.store in
+    let back : IsGivenBack g.S.Store c.in-Ok.ordered u.fault u.connection = c.in-Err-adopt.ensures.back in
+    let less = back.clean in
+    let late : HasCleanDisk (state g.S.Store u.connection) = omega (arith, c.left_by.ensures.clean, clean) in
+    let early : HasCleanDisk (state g.S.Store c.in-Ok.ordered) = omega (arith, less, late) in
+    subst (TellsLast (g.S.Store.blamed store) (g.S.Store.view store).is_broken) (sym c.left_by.ensures.fault)
+    (tells_unrefused (g.S.Store.blamed store) (g.S.Store.view store).is_broken u.fault (λ e is. back.refused e is late (to_take c.in-Ok.ordered.schema (state g.S.Store c.args.connection).committed.trees (c.in-Ok.ensures.listed early) listed)))
+
+pub returns-in-Err-clause-told : goal.returns-in-Err-clause-told
+returns-in-Err-clause-told g c listed clean =
+    let store = c.in-Err.unread.store in
+    subst (TellsLast (g.S.Store.blamed store) (g.S.Store.view store).is_broken) (sym c.opening_fault-fault.ensures) (tells_last g.S.Store store c.in-Err.unread.error (c.in-Err.ensures.told clean))

@@ -10,6 +10,6 @@ returns-then-is_same-clause-at g c clean t l m group is was met =
     let groups = (state g.S.Store c.args.tx.now.conn.now).now.trees t.grps_tree in
     let known = subst (IsMet groups) c.in-Some.is met in
     let same : to_z w64 (of_z w64 c.in-Some.id) ≡ c.in-Some.id = to_z-of_z w64 c.in-Some.id (search rules) in (
-      record { within = was; committed = refl; texts = refl; records_are = refl },
+      record { within = was; committed = refl; texts = refl; others = λ u has x y z. refl; records_are = refl },
       subst (λ n. IsIdOf groups n group) (sym same) (known group (c.is_same.ensures.same c.if-is_same.true ∙ is)),
     )

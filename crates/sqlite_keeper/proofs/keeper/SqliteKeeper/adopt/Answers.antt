@@ -43,8 +43,8 @@ returns-else-has_tables-clause-taken g c =
     let is : c.in-Ok.found ≡ version_one = search (rules, c.if-ne.ensures) in
     let b = c.begin.ensures in
     if_ok c.begin.result (λ k p. moved_taken g.S.Store c.args.connection c.try_version.new.conn c.requires.idle (λ is_open. c.is_autocommit-settled.ensures.settled (search rules) is_open) c.schema.ensures.live c.requires.ordered c.try_version.ensures.clean c.try_version.ensures.rests c.try_version.ensures.left (λ clean none. (c.try_version.ensures.blank clean none).0) k c.try_version.ensures.told (λ version clean. version_found _ _ (c.in-Ok.ensures.version clean (words g.S.Store c.args.connection c.requires.idle (λ is_open. c.is_autocommit-settled.ensures.settled (search rules) is_open) c.schema.ensures.live c.requires.ordered version)) version_one is (λ e. let never = e in cc)) (λ mine. absurd (let t = c.if-has_tables.ensures.whole (subst IsOurs (sym c.schema.ensures.value) mine) in cc))
-    (λ none clean. (c.in-Ok.ensures.blank clean none).1) _ (λ first. c.is_first-is_before.ensures.whole (c.schema-2.ensures.value ∙ first)) (λ is. sym c.schema-2.ensures.value ∙ c.is_first-is_before.ensures.same is) p.0 p.1.0 p.1.1.0 p.1.1.1.0 p.1.1.1.1.0 p.1.1.1.1.1.0 p.1.1.1.1.1.1.0 p.1.1.1.1.1.1.1.0 p.1.1.1.1.1.1.1.1.0 p.1.1.1.1.1.1.1.1.1)
-    (if_and _ _ _ b.count (if_and _ _ _ b.made (if_and _ _ _ b.alone (if_and _ _ _ b.ours (if_and _ _ _ b.shut_ours (if_and _ _ _ b.known (if_and _ _ _ b.shut (if_and _ _ _ b.opened (if_and _ _ _ b.left b.ok_clean)))))))))
+    (λ none clean. (c.in-Ok.ensures.blank clean none).1) _ (λ first. c.is_first-is_before.ensures.whole (c.schema-2.ensures.value ∙ first)) (λ is. sym c.schema-2.ensures.value ∙ c.is_first-is_before.ensures.same is) p.0 p.1.0 p.1.1.0 p.1.1.1.0 p.1.1.1.1.0 p.1.1.1.1.1.0 p.1.1.1.1.1.1.0 p.1.1.1.1.1.1.1.0 p.1.1.1.1.1.1.1.1.0 p.1.1.1.1.1.1.1.1.1.0 (p.1.1.1.1.1.1.1.1.1.1 refl))
+    (if_and _ _ _ b.count (if_and _ _ _ b.made (if_and _ _ _ b.alone (if_and _ _ _ b.ours (if_and _ _ _ b.shut_ours (if_and _ _ _ b.known (if_and _ _ _ b.shut (if_and _ _ _ b.opened (if_and _ _ _ b.left (if_and _ _ _ b.ok_clean b.emptied))))))))))
 
 pub returns-else-has_tables-clause-back : goal.returns-else-has_tables-clause-back
 returns-else-has_tables-clause-back g c =

@@ -8,6 +8,9 @@ over-requires g c known clean is_open = let k = c.requires.known known in (c.in-
 pub returns-in-Ok-clause-made : goal.returns-in-Ok-clause-made
 returns-in-Ok-clause-made g c = rw c.over.ensures (λ k may unshut clean. let it = c.in-Ok.ensures.made clean k may in (it.0.rests.is_open, it.1))
 
+pub returns-in-Ok-clause-emptied : goal.returns-in-Ok-clause-emptied
+returns-in-Ok-clause-emptied g c = rw c.over.ensures (λ new k may unshut clean. c.in-Ok.ensures.emptied clean new k may)
+
 pub returns-in-Ok-clause-alone : goal.returns-in-Ok-clause-alone
 returns-in-Ok-clause-alone g c = rw c.over.ensures (λ k left.
     let w = c.requires.known left.ours in

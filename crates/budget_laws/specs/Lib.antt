@@ -1,0 +1,4 @@
+pub mod Wanting
+pub mod Noting
+pub mod Giving
+pub mod Judging

@@ -1,0 +1,3 @@
+pub mod OnSheets
+pub mod RowMonths
+pub mod Least
