@@ -27,14 +27,12 @@ use Rattle.goal_templates.specs.Notes.{templates}
 use Rattle.goal_templates.specs.Sharing.{Wants, put, in_order, is_of, share_of, shared, shares, has_share}
 use Rattle.goal_templates.specs.Allocation.{has_template, shared_money}
 use Rattle.goal_templates.specs.Goals.{shares_in, differs, grants, grant_writes, may_grant, goal_writes}
-use Rattle.budget_laws.specs.Judging.{unless, fault_of, first_fault, given, written, asked, GoalsAreJudged}
+use Rattle.book_laws.specs.Asking.{unless, fault_of, first_fault}
+use Rattle.book_laws.proofs.Asked.{asks, at_end}
+use Rattle.budget_laws.specs.Judging.{given, written, asked, GoalsAreJudged}
 
 -- ---- checks one after the other
 module _ {A : Type 0} where
-  asks : (b : Bool) (f : EditFault) (go : Result A EditFault) (others : List (Option EditFault)) → fault_of go ≡ first_fault others → fault_of (must b f >>= λ _. go) ≡ first_fault (unless b f ∷ others)
-  asks true f go others h = h
-  asks false f go others h = refl
-
   in_turn : (a b : Check) (c : Result A EditFault) → fault_of ((a >>= λ _. b) >>= λ _. c) ≡ fault_of (a >>= λ _. (b >>= λ _. c))
   in_turn (Ok u) b c = refl
   in_turn (Err f) b c = refl
@@ -45,10 +43,6 @@ module _ {A : Type 0} where
   each_asks so fault (x ∷ xs) go others h =
       in_turn (must (so x) (fault x)) (each (λ x. must (so x) (fault x)) xs) go
       ∙ asks (so x) (fault x) (each (λ x. must (so x) (fault x)) xs >>= λ _. go) (list_map (λ x. unless (so x) (fault x)) xs ++ others) (each_asks so fault xs go others h)
-
-at_end : (xs : List (Option EditFault)) → xs ++ [] ≡ xs
-at_end [] = refl
-at_end (x ∷ xs) = ap (λ ys. x ∷ ys) (at_end xs)
 
 -- ---- a category has a share where it has a template
 or_true : (a b : Bool) → cond a true b ≡ (a || b)

@@ -17,21 +17,7 @@ use Rattle.goal_templates.specs.Notes.{templates}
 use Rattle.goal_templates.specs.Sharing.{got}
 use Rattle.goal_templates.specs.Allocation.{has_template}
 use Rattle.goal_templates.specs.Goals.{shares_in, goal_writes}
-
--- a fault, unless this is so
-abbrev pub unless : Bool → EditFault → Option EditFault
-unless so fault = if so then None else Some fault
-
--- the fault with which something is refused
-abbrev pub fault_of : {A : Type 0} → Result A EditFault → Option EditFault
-fault_of (Ok value) = None
-fault_of (Err fault) = Some fault
-
--- the first fault of some
-abbrev pub first_fault : List (Option EditFault) → Option EditFault
-first_fault [] = None
-first_fault (None ∷ others) = first_fault others
-first_fault (Some fault ∷ others) = Some fault
+use Rattle.book_laws.specs.Asking.{unless, fault_of, first_fault}
 
 -- what the templates of a category give it in a month YYYYMM
 abbrev pub given : Rows → ℕ → Text → ℤ

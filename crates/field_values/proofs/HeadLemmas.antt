@@ -1,5 +1,5 @@
 -- Where the heads of two texts differ, they are ordered as the texts are.
-use Rattle.std.proofs.Common.{◌≡◌, ◌≢◌, ◌∙◌, add-one, ℕ, zero, suc, ◌+◌, ◌*◌, ◌-◌, ◌<◌, ◌≤◌, List, [], ◌∷◌, length, get_or, drop, arith, refl, ap, sym, subst}
+use Rattle.std.proofs.Common.{◌≡◌, ◌≢◌, ◌∙◌, ℕ, zero, suc, ◌+◌, ◌*◌, ◌-◌, ◌<◌, ◌≤◌, List, [], ◌∷◌, length, get_or, drop, arith, refl, ap, sym, subst}
 use Rattle.std.specs.Ordering.{nat_cmp, ordering_then, MatchOrdering}
 use Rattle.std.specs.Int.{from_be_bytes, w128}
 use Rattle.std.specs.Cmp.{nat_cmp_is, ranks}
@@ -99,29 +99,6 @@ step n k zero [] = ap (λ (w : ℕ). head_from n w []) (omega arith)
 step n k zero (x ∷ xs) = refl
 step n k (suc i) [] = ap (λ (w : ℕ). head_from n w []) (omega arith)
 step n k (suc i) (x ∷ xs) = step n k i xs
-
-bounds_rise : (n i : ℕ) → i ≤ n → bound i ≤ bound n
-bounds_rise zero zero h = omega arith
-bounds_rise zero (suc i) h = absurd (omega arith)
-bounds_rise (suc n) zero h = let more : 1 ≤ bound n = bounds_rise n zero (omega arith) in omega arith
-bounds_rise (suc n) (suc i) h = let more : bound i ≤ bound n = bounds_rise n i (omega arith) in omega arith
-
--- a number that fewer than 16 bytes spell leaves room for one byte more
-pub room : (i k : ℕ) → i < 16 → k < bound i → k < 1329227995784915872903807060280344576
-room i k h less = let more : bound i ≤ 1329227995784915872903807060280344576 = bounds_rise 15 i (omega arith) in omega arith
-
-pub small_next : (i k b : ℕ) → k < bound i → b < 256 → k * 256 + b < bound (i + 1)
-small_next i k b less small = rw add-one (small_suc i k b less small)
-  where
-    small_suc : (i k b : ℕ) → k < bound i → b < 256 → k * 256 + b < bound (suc i)
-    small_suc i k b less small = omega arith
-
-pub next : (i k b h : ℕ) (xs : List ℕ) → i < 16 → head_from (16 - i) k (drop i xs) ≡ h → b ≡ get_or xs i 0 → head_from (16 - (i + 1)) (k * 256 + b) (drop (i + 1) xs) ≡ h
-next i k b h xs within e is =
-    let one : i + 1 ≡ suc i = omega arith in
-    let left : 16 - i ≡ suc (16 - (i + 1)) = omega arith in
-    let f : head_from (suc (16 - (i + 1))) k (drop i xs) ≡ h = rw left at e in
-    rw is (subst (λ (j : ℕ). head_from (16 - (i + 1)) (k * 256 + get_or xs i 0) (drop j xs) ≡ h) (sym one) (sym (step (16 - (i + 1)) k i xs) ∙ f))
 
 level : (xs : List ℕ) → slice_cmp nat_cmp xs xs ≡ Equal
 level [] = refl

@@ -1,5 +1,5 @@
 //! A field as the key of a map.
-ghost use Rattle.std.specs.Prelude.{◌≡◌, ◌≤◌, length, drop, slice_index, IfOk};
+ghost use Rattle.std.specs.Prelude.{◌≡◌, ◌≤◌, length, drop, IfOk};
 ghost use Rattle.std.specs.Ordering.{as_partial_cmp, nat_cmp};
 ghost use Rattle.std.specs.Cmp.Lexicographic.{slice_cmp};
 ghost use Rattle.field_values.specs.Heads.{head_of, AreBytes, IsShortLength};
@@ -55,13 +55,6 @@ impl Model for FieldKey {
         k.column_head k.column_len k.field };
 }
 
-/// The byte at a place, or 0 past the end.
-fn byte_at(bytes: &[u8], at: usize) -> u8
-    ensures { result ≡ slice_index bytes.now at }
-{
-    if at < bytes.len() { bytes[at] } else { 0 }
-}
-
 /// The first 16 bytes as a number.
 fn front(bytes: &[u8]) -> u128
     requires { 16 ≤ length bytes.now }
@@ -82,11 +75,9 @@ fn head(bytes: &[u8]) -> u128
     if HEAD_BYTES <= bytes.len() {
         return front(bytes);
     }
-    let mut head = 0;
-    for at in 0..HEAD_BYTES {
-        head = head * 256 + byte_at(bytes, at) as u128;
-    }
-    head
+    let mut padded = [0u8; HEAD_BYTES];
+    padded[..bytes.len()].copy_from_slice(bytes);
+    front(&padded)
 }
 
 /// The head of what stands from a place on.
