@@ -1,3 +1,9 @@
 pub mod Rows
 pub mod Generated
 pub mod Begun
+pub mod Equal
+pub mod Told
+pub mod Texts
+pub mod Named
+pub mod Reading
+pub mod Counted

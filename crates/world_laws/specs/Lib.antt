@@ -1,2 +1,5 @@
 pub mod Begun
+pub mod Equal
+pub mod Said
+pub mod Told
 pub mod Generated
