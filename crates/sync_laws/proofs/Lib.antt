@@ -15,3 +15,5 @@ mod Equal
 mod Staying
 mod NeverRefused
 mod Completing
+mod Told
+mod Played

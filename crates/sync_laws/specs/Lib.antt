@@ -10,3 +10,5 @@ pub mod Turning
 pub mod Whole
 pub mod Staying
 pub mod Complete
+pub mod Told
+pub mod Played

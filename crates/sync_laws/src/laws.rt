@@ -1,5 +1,5 @@
-//! Facts about what a keeper holds, about the bytes of a sync, about the server, about conversations, and about the lines of a device,
-//! which a proof can call for.
+//! Facts about what a keeper holds, about the bytes of a sync, about the server, about conversations, about the lines of a device, and
+//! about what is written of a generated book and of a world's lines, which a proof can call for.
 ghost use Rattle.sync_laws.specs.Asking.{RequestsAsk, LastSyncsAreApart};
 ghost use Rattle.sync_laws.specs.Contents.{ContentsAreKept};
 ghost use Rattle.sync_laws.specs.Counting.{EnvelopesCount};
@@ -7,8 +7,10 @@ ghost use Rattle.sync_laws.specs.Devices.{DevicesBeginAnew, EditsAreOfTheirKind,
 ghost use Rattle.sync_laws.specs.Equal.{ServersAnswerEqually};
 ghost use Rattle.sync_laws.specs.Lines.{LinesAreTakenBack, EqualSetsAnswerEqually};
 ghost use Rattle.sync_laws.specs.Plans.{PlansMeet};
+ghost use Rattle.sync_laws.specs.Played.{RepliesFollowLines, OneRefusalIsTold};
 ghost use Rattle.sync_laws.specs.Server.{BodiesDecide, FilesAreApart, PathsAreCut, StatusesAreWritten, TriesAreOfTimestamps};
 ghost use Rattle.sync_laws.specs.Staying.{TalksKeepMessages, AnsweredLinesStay};
+ghost use Rattle.sync_laws.specs.Told.{SummariesAreTold};
 ghost use Rattle.sync_laws.specs.Turning.{TalksBegin, TalksEnd};
 ghost use Rattle.sync_laws.specs.Whole.{RepliesAreWhole};
 ghost use Rattle.budget_top.specs.Replied.{AcceptedGetReplies};
@@ -180,3 +182,25 @@ pub fn accepted_get_replies()
 {
     connections_are_decided();
 }
+
+/// A law: the text of a generated book, which a run has written that ends with status 0, is three lines, with nothing behind them:
+/// `messages ` and how many messages the book has; `root ` and the hash at the root of their trie, as a signed number of 32 bits; and
+/// `to-budget ` and what is left to budget in December 2024. No two different summaries have one text, where their numbers are of
+/// their types.
+pub fn summaries_are_told()
+    ensures { SummariesAreTold }
+{}
+
+/// A law: a run of lines begins with no world. A line that is too long, or no UTF-8, is refused for its first word, and leaves the world that
+/// the lines before it left; another one is answered in that world. For lines are written the replies to them: as many as there are lines,
+/// in their order, each the reply to its line behind those before it. So they are by a run that ends with status 0 or 1, for all lines
+/// of what it read.
+pub fn replies_follow_lines()
+    ensures { RepliesFollowLines }
+{}
+
+/// A law: one of some lines counts as refused exactly where there is one whose reply, behind the lines before it, is a refusal. Among all
+/// lines of what a run read there is no such line where it ends with status 0, and there is one where it ends with status 1.
+pub fn one_refusal_is_told()
+    ensures { OneRefusalIsTold }
+{}
