@@ -1,11 +1,10 @@
 -- A sync with an honest server, where nothing fails.
-use Rattle.std.proofs.Common.{◌≡◌, ◌∙◌, ◌<◌, ◌≤◌, ◌/◌, ◌⊎◌, inl, inr, ◌-◌, ◌+◌, ◌^◌, ℕ, nat_lt, Bool, true, false, List, [], ◌∷◌, ◌++◌, map, Option, Some, Result, Ok, Err, refl, sym, ap, subst, append-nil, arith}
+use Rattle.std.proofs.Common.{◌≡◌, ◌∙◌, ◌<◌, ◌≤◌, ◌/◌, ◌⊎◌, inl, inr, ℕ, nat_lt, true, List, [], ◌∷◌, ◌++◌, map, Option, Some, Result, Ok, Err, sym, ap, subst, append-nil, arith}
 use Rattle.std.proofs.lemmas.Bool.{cases_Bool, ltb-true, ltb-false}
 use Rattle.hybrid_clock.specs.Stamp.{window}
 use Rattle.hybrid_clock.specs.declared.clock.ClockFault.{ClockFault}
 use Rattle.budget_ports.specs.Exchanges.{Exchange, Adds}
-use Rattle.budget_ports.specs.Faults.{risen, count_after, IsUnfailed}
-use Rattle.field_merge.specs.declared.message.Message.{Message}
+use Rattle.budget_ports.specs.Faults.{count_after, IsUnfailed}
 use Rattle.field_merge.specs.Messages.{AreMessages}
 use Rattle.device_core.specs.Device.{State}
 use Rattle.device_sync.specs.declared.fault.SyncFault.{SyncFault}

@@ -1,26 +1,25 @@
 -- An honest server that may serve each request refuses none.
-use Rattle.std.proofs.Common.{◌≡◌, ◌≢◌, ◌⊎◌, inl, inr, ◌∙◌, ◌≤◌, ◌<◌, ℕ, zero, suc, Bool, true, false, cond, List, [], ◌∷◌, length, map, take, Option, None, Some, Result, Ok, Err, refl, sym, ap, subst, arith}
+use Rattle.std.proofs.Common.{◌≡◌, ◌≢◌, inl, inr, ◌∙◌, ◌≤◌, ℕ, zero, suc, Bool, true, false, cond, List, [], ◌∷◌, length, map, Option, None, Some, Result, Ok, Err, refl, sym, ap, subst, arith}
 use Rattle.std.specs.List.{AllByRecursion}
 use Rattle.std.proofs.lemmas.List.{take_all, length-take}
 use Rattle.hybrid_clock.specs.Moments.{moment_text}
-use Rattle.budget_ports.specs.Exchanges.{Exchange}
 use Rattle.field_merge.specs.declared.message.Message.{Message}
 use Rattle.field_merge.specs.Messages.{AreMessages}
 use Rattle.device_sync.proofs.Rounds.{is_later}
 use Rattle.minute_trie.specs.declared.read.TrieFault.{TrieFault}
 use Rattle.minute_trie.specs.Held.{Held}
 use Rattle.minute_trie.specs.Diff.{difference}
-use Rattle.minute_trie.specs.Faults.{fault_of_text, map_of_text}
+use Rattle.minute_trie.specs.Faults.{fault_of_text}
 use Rattle.sync_wire.specs.declared.request.SyncRequest.{SyncRequest}
 use Rattle.sync_wire.specs.declared.response.SyncResponse.{SyncResponse}
 use Rattle.device_core.specs.declared.edit.LineRefusal.{LineRefusal}
 use Rattle.device_core.specs.Device.{State, Accepted, received}
 use Rattle.device_core.proofs.Received.{received_joined}
 use Rattle.device_sync.specs.declared.target.Target.{Target}
-use Rattle.device_sync.specs.Honest.{front_of, Served, answers, declines, Honest, AreWithin}
+use Rattle.device_sync.specs.Honest.{front_of, Served, answers, declines, Honest}
 use Rattle.device_sync.specs.Replies.{most_bytes, IsReply, Got, answer, refusal, bad, messages_of, with_trie, meant, IsJudged, too_long, no_reply, refuses, faulty, says}
 use Rattle.device_sync.specs.Requests.{request_of, IsAsked}
-use Rattle.device_sync.specs.Talk.{Outcome, going_on, agreed, out_of_sync, not_taken, refused, bad_reply, trie_in, Next, ends, asks, compared, taken, next, Turn, exchange_of, Ends, Follows, Talk}
+use Rattle.device_sync.specs.Talk.{Outcome, refused, trie_in, Next, ends, asks, compared, taken, next, Turn, exchange_of, Follows, Talk}
 use Rattle.device_sync.proofs.Judging.{one_reply}
 use Rattle.device_sync.proofs.Sets.{those_valid, join_valid}
 use Rattle.sync_laws.specs.Complete.{AreSmall, NeverDecline}

@@ -1,5 +1,5 @@
 -- The replies to a world's lines, and a line that is refused.
-use Rattle.std.proofs.Common.{◌≡◌, ◌⊎◌, ◌↔◌, inl, inr, ◌<◌, ◌≤◌, ℕ, suc, List, [], ◌∷◌, ◌++◌, length, Bool, true, false, cond, ◌||◌, nat_lt, Option, None, Some, slice_get, refl, sym, ap, ◌∙◌, true≢false, arith}
+use Rattle.std.proofs.Common.{◌≡◌, ◌⊎◌, inl, inr, ◌<◌, ◌≤◌, ℕ, suc, List, [], ◌∷◌, ◌++◌, length, Bool, true, false, cond, ◌||◌, nat_lt, Option, None, Some, slice_get, refl, sym, ap, ◌∙◌, true≢false, arith}
 use Rattle.std.specs.Prelude.{IsUtf8}
 use Rattle.std.specs.List.{list_any}
 use Rattle.std.specs.Str.{is_utf8}
@@ -14,7 +14,7 @@ use Rattle.world_lines.specs.Session.{answered}
 use Rattle.budget_top.specs.Lines.{all_lines}
 use Rattle.budget_top.specs.Session.{is_refused}
 use Rattle.budget_top.specs.Playing.{played_short, played, world_after, world_replies, reply_after, some_line_refused}
-use Rattle.budget_top.specs.WorldRun.{PlaysAll, WorldRun}
+use Rattle.budget_top.specs.WorldRun.{WorldRun}
 use Rattle.sync_laws.specs.Played.{with_line, IsPlayedBehind, AreReplies, WritesReplies, RepliesFollowLines, IsRefusal, HaveRefused, OneRefusalIsTold}
 
 -- ---- a line behind others
