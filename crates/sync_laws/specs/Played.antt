@@ -30,7 +30,7 @@ pub record AreReplies (lines : List (List ℕ)) (replies : List Reply) : Type 0 
   pub one_each : length replies ≡ length lines
   pub in_order : (before after : List (List ℕ)) (line : List ℕ) → lines ≡ before ++ line ∷ after → slice_get replies (length before) ≡ Some (reply_after before line)
 
--- the texts of such replies to all lines of what was read were written, one behind the other
+-- the texts of such replies to all lines of what was read were written, one behind the other, as far as the sink tells
 pub record WritesReplies (read : List ℕ) (taken new_taken : Option (List ℕ)) : Type 0 where
   pub replies : List Reply
   pub are : AreReplies (all_lines read) replies
@@ -61,6 +61,6 @@ pub record HaveRefused (lines : List (List ℕ)) : Type 0 where
 
 pub record OneRefusalIsTold : Type 0 where
   pub exactly : (lines : List (List ℕ)) → (some_line_refused lines ≡ true) ↔ HaveRefused lines
-  -- a run that ends with status 0 has read no line that is refused, and one that ends with 1 has read such a line
+  -- a run that ends with status 0 has read no line that is refused, and one that ends with status 1 has read such a line
   pub none : (left new_left taken new_taken : Option (List ℕ)) (run : WorldRun 0 left new_left taken new_taken) → HaveRefused (all_lines run.read) → ⊥
   pub some : (left new_left taken new_taken : Option (List ℕ)) (run : WorldRun 1 left new_left taken new_taken) → HaveRefused (all_lines run.read)

@@ -36,7 +36,7 @@ pub record AreTyped (s : Summary) : Type 0 where
 pub record SummariesAreTold : Type 0 where
   -- what is written of a book of so many transactions tells of its messages
   pub books : (count : ℕ) → TellsOf (book_text count) (generated count)
-  -- and so does what a run has written that ends with status 0
+  -- and so does what a run has written that ends with status 0, where the sink tells
   pub runs : (count : ℕ) (taken new_taken : Option (List ℕ)) → GenerateRun count 0 taken new_taken → (text : List ℕ) × Appends taken new_taken text × TellsOf text (generated count)
   -- no two different summaries have one text
   pub apart : (s t : Summary) → AreTyped s → AreTyped t → summary_text s ≡ summary_text t → s ≡ t

@@ -183,10 +183,10 @@ pub fn accepted_get_replies()
     connections_are_decided();
 }
 
-/// A law: the text of a generated book, which a run has written that ends with status 0, is three lines, with nothing behind them:
-/// `messages ` and how many messages the book has; `root ` and the hash at the root of their trie, as a signed number of 32 bits; and
-/// `to-budget ` and what is left to budget in December 2024. No two different summaries have one text, where their numbers are of
-/// their types.
+/// A law: the text of a generated book is three lines, with nothing behind them: `messages ` and how many messages the book has; `root `
+/// and the hash at the root of their trie, as a signed number of 32 bits; and `to-budget ` and what is left to budget in December 2024.
+/// A run that ends with status 0 has written such a text, where the sink tells. No two different summaries have one text, where
+/// their numbers are of their types.
 pub fn summaries_are_told()
     ensures { SummariesAreTold }
 {}
@@ -194,13 +194,14 @@ pub fn summaries_are_told()
 /// A law: a run of lines begins with no world. A line that is too long, or no UTF-8, is refused for its first word, and leaves the world that
 /// the lines before it left; another one is answered in that world. For lines are written the replies to them: as many as there are lines,
 /// in their order, each the reply to its line behind those before it. So they are by a run that ends with status 0 or 1, for all lines
-/// of what it read.
+/// of what it read, where source and sink tell.
 pub fn replies_follow_lines()
     ensures { RepliesFollowLines }
 {}
 
 /// A law: one of some lines counts as refused exactly where there is one whose reply, behind the lines before it, is a refusal. Among all
-/// lines of what a run read there is no such line where it ends with status 0, and there is one where it ends with status 1.
+/// lines of what a run read, as the source tells it, there is no such line where it ends with status 0, and there is one where it ends
+/// with status 1.
 pub fn one_refusal_is_told()
     ensures { OneRefusalIsTold }
 {}
