@@ -48,6 +48,27 @@ fn visit(
     Ok(())
 }
 
+/// Serves so many connections over a keeper of which these calls fail.
+fn serve_over(
+    alloc: Global,
+    fails: &[u64],
+    door: &mut MemoryDoor,
+    count: usize,
+) -> Result<(), Fail> {
+    let mut keeper = keeper_of(alloc, fails)?;
+    visit(alloc, &mut keeper, door, count)
+}
+
+/// What was written to the connections, one behind the other and each with a line feed behind it.
+fn written(alloc: Global, door: &MemoryDoor, count: usize) -> Result<Vec<u8>, Fail> {
+    let mut text = Vec::new(alloc);
+    for at in 0..count {
+        text.extend_from_slice(door.written(at).unwrap_or(&[]))?;
+        text.push(b'\n')?;
+    }
+    Ok(text)
+}
+
 /// What the connections are told, one behind the other and each with a line feed behind it. Calls of the keeper fail whose numbers are here,
 /// and a read of a connection gives no more bytes than the pieces say.
 pub(crate) fn told(
@@ -57,15 +78,9 @@ pub(crate) fn told(
     connections: Vec<Items<u8>>,
 ) -> Result<Vec<u8>, Fail> {
     let count = connections.len();
-    let mut keeper = keeper_of(alloc, fails)?;
     let mut door = MemoryDoor::new(alloc, connections, pieces.to_vec(alloc)?, 1000)?;
-    visit(alloc, &mut keeper, &mut door, count)?;
-    let mut text = Vec::new(alloc);
-    for at in 0..count {
-        text.extend_from_slice(door.written(at).unwrap_or(&[]))?;
-        text.push(b'\n')?;
-    }
-    Ok(text)
+    serve_over(alloc, fails, &mut door, count)?;
+    written(alloc, &door, count)
 }
 
 /// Heads that are refused, and bytes that end early.

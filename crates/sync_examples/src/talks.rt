@@ -380,20 +380,34 @@ pub(crate) fn syncs(
     Ok(ends)
 }
 
+/// What the syncs of a device come to, over this keeper and this link.
+fn talked_over(
+    alloc: Global,
+    talk: &Talk,
+    keeper: &mut MemoryKeeper,
+    link: &mut ScriptLink,
+    target: &Target,
+) -> Result<Vec<End>, Fail> {
+    let mut device = device_of(alloc, talk.node, talk.record)?;
+    syncs(alloc, &mut device, keeper, link, target, talk.readings)
+}
+
+/// What the syncs of a device come to, with this target.
+fn talked_with(
+    alloc: Global,
+    talk: &Talk,
+    keeper: &mut MemoryKeeper,
+    target: &Target,
+) -> Result<Vec<End>, Fail> {
+    let mut link = link_of(alloc, talk)?;
+    talked_over(alloc, talk, keeper, &mut link, target)
+}
+
 /// What the syncs of a device come to.
 fn talked(alloc: Global, talk: &Talk) -> Result<Vec<End>, Fail> {
     let target = target_of(alloc)?;
     let mut keeper = MemoryKeeper::with_faults(alloc, talk.keeper_fails.to_vec(alloc)?);
-    let mut link = link_of(alloc, talk)?;
-    let mut device = device_of(alloc, talk.node, talk.record)?;
-    syncs(
-        alloc,
-        &mut device,
-        &mut keeper,
-        &mut link,
-        &target,
-        talk.readings,
-    )
+    talked_with(alloc, talk, &mut keeper, &target)
 }
 
 #[test]
