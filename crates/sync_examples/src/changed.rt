@@ -3,8 +3,8 @@
 use crate::serving::told;
 use crate::sides::bytes_of;
 use crate::talks::{End, T0, device_of, link_to, syncs, target_of};
-use budget_ports::MemoryKeeper;
-use device_sync::{SyncFault, Synced};
+use budget_ports::{MemoryKeeper, ScriptLink};
+use device_sync::{SyncFault, Synced, Target};
 use field_values::Items;
 use std::alloc::Global;
 use std::test::Fail;
@@ -342,13 +342,23 @@ fn lengths_are_believed(rt: HostRuntime) -> Result<(), Fail> {
     Ok(())
 }
 
+/// What one sync of a new device comes to, with this target.
+fn made_with(alloc: Global, link: &mut ScriptLink, target: &Target) -> Result<Vec<End>, Fail> {
+    let mut keeper = MemoryKeeper::new(alloc);
+    let mut device = device_of(alloc, b"aa", None)?;
+    syncs(alloc, &mut device, &mut keeper, link, target, &[T0])
+}
+
+/// What one sync of a new device over a link comes to.
+fn made_over(alloc: Global, link: &mut ScriptLink) -> Result<Vec<End>, Fail> {
+    let target = target_of(alloc)?;
+    made_with(alloc, link, &target)
+}
+
 /// What a sync of a device without messages comes to, where each reply is this one.
 fn made(alloc: Global, reply: Vec<u8>) -> Result<End, Fail> {
-    let target = target_of(alloc)?;
-    let mut keeper = MemoryKeeper::new(alloc);
     let mut link = link_to(alloc, reply)?;
-    let mut device = device_of(alloc, b"aa", None)?;
-    let ends = syncs(alloc, &mut device, &mut keeper, &mut link, &target, &[T0])?;
+    let ends = made_over(alloc, &mut link)?;
     match ends.as_slice().first() {
         Some(end) => Ok(*end),
         None => Err(Fail::new("no sync")),
