@@ -1,12 +1,13 @@
 -- Texts of ASCII: folded, each byte is its lower case; and a part stands at the front of a text or further on.
-use Rattle.std.proofs.Common.{arith, ◌≡◌, ◌+◌, ◌-◌, ◌≤◌, ◌<◌, ℕ, suc, List, [], ◌∷◌, ◌++◌, ◌==◌, ◌||◌, ◌&&◌, true, false, length, take, drop, map, refl, subst, ap, sym, ◌∙◌, chars, encode_utf8_all}
+use Rattle.std.proofs.Common.{arith, Some, None, slice_index_or, ◌≡◌, ◌+◌, ◌-◌, ◌≤◌, ◌<◌, ℕ, suc, List, [], ◌∷◌, ◌++◌, ◌==◌, ◌||◌, ◌&&◌, true, false, length, take, drop, map, refl, subst, ap, sym, ◌∙◌, chars, encode_utf8_all}
 use Rattle.std.specs.Char.{to_ascii_lowercase}
 use Rattle.std.specs.Str.{IsAscii}
 use Rattle.std.proofs.lemmas.Bool.{and_parts, and_from, eqb-true, eq-eqb}
 use Rattle.std.proofs.lemmas.Grind.{common_steps}
 use Rattle.std.proofs.Math.Bool.{and-false}
 use Rattle.std.proofs.lemmas.Bool.{false_from_ne_true}
-use Rattle.std.proofs.lemmas.List.{take-map, drop-map, drop-drop, length-map}
+use Rattle.std.specs.List.{slice_get}
+use Rattle.std.proofs.lemmas.List.{drop_more, take-map, drop-map, drop-drop, length-map}
 use Rattle.rule_engine.proofs.Parts.{at_front}
 use Rattle.std.proofs.lemmas.Str.{chars-IsAscii, encode_ascii}
 use Rattle.std.proofs.lemmas.Str.Ascii.{IsAscii-map, lowercase_ascii}
@@ -84,3 +85,17 @@ no_room part text at within h = shorter (lower part) (lower (drop at text)) (sma
 pub some_part : (part text : List ℕ) (at : ℕ) → (lower (take (at + length part - at) (drop at text)) ≡ lower part → ⊥) → 1 ≤ length part
 some_part [] text at h = absurd (h (taken [] text at))
 some_part (p ∷ part) text at h = grind arith
+
+-- where the first letter is another, the part doesn't stand there
+pub other_letter : (part text : List ℕ) (at p : ℕ) → slice_get part 0 ≡ Some p → at + length part ≤ length text → (to_ascii_lowercase (slice_index_or text at 0) ≡ to_ascii_lowercase p → ⊥) → lower (take (at + length part - at) (drop at text)) ≡ lower part → ⊥
+other_letter [] text at p first room other h = absurd (cc)
+other_letter (q ∷ part) text at p first room other h =
+    let many : suc (length part) ≡ at + suc (length part) - at = grind arith in
+    let begun : slice_index_or text at 0 ∷ drop (at + 1) text ≡ drop at text = sym (drop_more text at 0 (grind arith)) in
+    let same : lower (take (suc (length part)) (slice_index_or text at 0 ∷ drop (at + 1) text)) ≡ lower (q ∷ part) =
+    ap (λ xs. lower (take (suc (length part)) xs)) begun ∙ ap (λ n. lower (take n (drop at text))) many ∙ h in
+    other (cc)
+
+pub nothing_there : (part text : List ℕ) → slice_get part 0 ≡ None → has_part (lower part) (lower text) ≡ true
+nothing_there [] text h = at_front [] (lower text) refl
+nothing_there (p ∷ part) text h = absurd (cc)

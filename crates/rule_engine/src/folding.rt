@@ -31,13 +31,18 @@ pub(crate) fn has_folded_part(alloc: Global, text: &str, part: &str) -> Result<b
     Ok(has_part(text.as_str(), part.as_str()))
 }
 
-/// The same of texts of ASCII.
+/// The same of texts of ASCII. At most places the first letter is another, and no more is looked at there.
 fn has_ascii_part(text: &[u8], part: &[u8]) -> bool
     ensures { result ≡ has_part (map to_ascii_lowercase part.now) (map to_ascii_lowercase text.now) }
 {
+    let Some(first) = part.first() else {
+        return true;
+    };
+    let first = first.to_ascii_lowercase();
     let mut at = 0;
     'starts: while at + part.len() <= text.len() {
-        if text[at..at + part.len()].eq_ignore_ascii_case(part) {
+        let is_begun = text[at].to_ascii_lowercase() == first;
+        if is_begun && text[at..at + part.len()].eq_ignore_ascii_case(part) {
             return true;
         }
         at += 1;

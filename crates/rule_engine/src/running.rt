@@ -77,27 +77,18 @@ fn act_all(alloc: Global, book: &Book, actions: &[Action], row: TxRow) -> Result
     Ok(now)
 }
 
-/// What a rule makes of a transaction.
-#[tactic(auto, unfolding(crate::specs::Running::applied))]
-fn apply(alloc: Global, book: &Book, rule: &Rule, row: TxRow) -> Result<TxRow, NoMemory>
-    ensures { IfOk result (λ x. x ≡ applied book.now.rows row rule.now) }
-{
-    if fires(alloc, book, rule, &row)? {
-        act_all(alloc, book, rule.actions.as_slice(), row)
-    } else {
-        Ok(row)
-    }
-}
-
 /// What rules make of a transaction, which need not be in the book: each has what the rules before it made. They run as they stand;
 /// [`rules_of`] and [`rank`] give the order in which they should.
-#[tactic(auto, unfolding(crate::specs::Running::run))]
+#[tactic(auto, unfolding(crate::specs::Running::run, crate::specs::Running::applied))]
 pub fn run_rules(alloc: Global, book: &Book, rules: &[Rule], row: TxRow) -> Result<TxRow, NoMemory>
     ensures { IfOk result (λ x. x ≡ run book.now.rows rules.now row) }
 {
     let mut now = row;
     for rule in rules {
-        now = apply(alloc, book, rule, now)?;
+        // The transaction, which is large, is moved only where the rule fires.
+        if fires(alloc, book, rule, &now)? {
+            now = act_all(alloc, book, rule.actions.as_slice(), now)?;
+        }
     }
     Ok(now)
 }
