@@ -51,7 +51,7 @@ pub turn_with_id : (r : Facts) (taken : Text → Bool) (cs : List Candidate) (k 
 turn_with_id r taken cs k e = enough r (is_open ById r taken) (λ c. are_same c.financial_id (Some k))
     (λ c h. same_back k c.financial_id (ap (λ o. are_same o c.financial_id) (sym e) ∙ (and_true (are_same r.financial_id c.financial_id) (not (taken c.id)) h).0)) None cs
 
-near_amount : (r : Facts) (c : Candidate) → is_near r c ≡ true → int_eq r.amount c.amount ≡ true
+pub near_amount : (r : Facts) (c : Candidate) → is_near r c ≡ true → int_eq r.amount c.amount ≡ true
 near_amount r c h =
     (and_true (int_eq r.amount c.amount) (nat_le (distance r c) 7) (and_true (int_eq r.amount c.amount && nat_le (distance r c) 7) (not (is_some r.financial_id && is_some c.financial_id)) h).0).0
 

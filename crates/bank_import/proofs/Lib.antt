@@ -33,4 +33,5 @@ pub mod Twice
 pub mod NewPayees
 pub mod Read
 pub mod Untold
+pub mod Asked
 pub mod AmountTexts

@@ -3,6 +3,7 @@ pub mod Matching
 pub mod Spans
 pub mod Groups
 pub mod IndexView
+pub mod Wanted
 pub mod Laws
 pub mod Second
 pub mod Drafts

@@ -21,6 +21,7 @@ mod payees;
 mod reading;
 mod spans;
 mod turns;
+mod wanted;
 mod writing;
 
 pub use edit::ImportEdit;

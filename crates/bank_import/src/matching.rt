@@ -5,6 +5,7 @@ ghost use Rattle.bank_import.specs.Matching.{facts_of, candidates, matched_among
 use crate::candidates::candidates;
 use crate::facts::{Facts, facts_of};
 use crate::index::Index;
+use crate::wanted::Wanted;
 use book_rows::{Book, TxRow};
 use field_values::{NoMemory, Txt};
 use std::alloc::Global;
@@ -20,7 +21,8 @@ pub(crate) fn matched_by(
     ensures found { IfOk result (λ v. v.items ≡ matched_among (candidates book.now.rows account.now) records.now) }
     ensures len { IfOk result (λ v. length v.items ≡ length records.now) }
 {
-    let index = Index::new(alloc, candidates(alloc, book, account)?)?;
+    let wanted = Wanted::of(alloc, records)?;
+    let index = Index::new(alloc, candidates(alloc, book, account, &wanted)?)?;
     index.matched(alloc, records)
 }
 
