@@ -1,6 +1,20 @@
 //! Timestamps and clocks.
+ghost use Rattle.std.specs.Prelude.{◌≤◌};
+
 use hybrid_clock::{ClockFault, HybridClock, Node, NodeFault, Stamp, StampFault, moment_text};
 use std::test::Fail;
+
+/// The time and the minute of the timestamp that a text is; `(0, 0)` where it is written as another text.
+fn told_of(text: &[u8]) -> Result<(u64, u32), StampFault> {
+    let stamp = Stamp::parse(text)?;
+    let mut written = [0u8; 46];
+    stamp.write_text(&mut written);
+    if &written[..] == text {
+        Ok((stamp.millis, stamp.minute()))
+    } else {
+        Ok((0, 0))
+    }
+}
 
 #[test]
 fn reads_texts(rt: HostRuntime) -> Result<(), Fail> {
@@ -49,17 +63,14 @@ fn reads_texts(rt: HostRuntime) -> Result<(), Fail> {
         ),
     ];
     for (text, expected) in cases {
-        match Stamp::parse(text) {
-            Ok(stamp) => {
-                assert_eq!(rt; expected, Ok((stamp.millis, stamp.minute())));
-                let mut written = [0u8; 46];
-                stamp.write_text(&mut written);
-                assert_eq!(rt; &written[..], text);
-            }
-            Err(fault) => assert_eq!(rt; expected, Err(fault)),
-        }
+        assert_eq!(rt; told_of(text), expected);
     }
-    // the hour of a day is 0 to 23, and a moment's node is no device's
+    Ok(())
+}
+
+/// The hour of a day is 0 to 23, and a moment's node is no device's.
+#[test]
+fn writes_moments(rt: HostRuntime) {
     for (millis, text) in [
         (0, b"1970-01-01T00:00:00.000Z-0000-0000000000000000"),
         (
@@ -73,6 +84,10 @@ fn reads_texts(rt: HostRuntime) -> Result<(), Fail> {
     ] {
         assert_eq!(rt; &moment_text(millis), text);
     }
+}
+
+#[test]
+fn makes_nodes(rt: HostRuntime) -> Result<(), Fail> {
     let nodes: [(&[u8], Result<[u8; 16], NodeFault>); 7] = [
         (b"aa", Ok(*b"00000000000000aa")),
         (b"zzzzzzzzzzzzzzzz", Ok(*b"zzzzzzzzzzzzzzzz")),
@@ -84,6 +99,51 @@ fn reads_texts(rt: HostRuntime) -> Result<(), Fail> {
     ];
     for (text, expected) in nodes {
         assert_eq!(rt; Node::make(text).map(|n| n.bytes()), expected);
+    }
+    Ok(())
+}
+
+/// The time of a clock and its counter.
+fn last_of(clock: &HybridClock) -> (u64, u16) {
+    (clock.last().millis, clock.last().counter)
+}
+
+/// The counter that a clock draws which stands at a timestamp, and the time and the counter at which it stands then.
+fn drawn(
+    node: Node,
+    last: &[u8],
+    reading: u64,
+    n: u32,
+) -> Result<(Result<u16, ClockFault>, (u64, u16)), Fail>
+    requires some { 1 ≤ n }
+    requires most { n ≤ 65_536 }
+{
+    let mut clock = HybridClock::new(node, Some(Stamp::parse(last)?));
+    let counter = clock.draw(reading, n).map(|s| s.counter);
+    Ok((counter, last_of(&clock)))
+}
+
+/// What comes of a message at a clock with this reading, and the time and the counter at which it stands then.
+fn received(
+    clock: &mut HybridClock,
+    reading: u64,
+    message: &[u8],
+) -> Result<(Result<(), ClockFault>, (u64, u16)), Fail> {
+    let message = Stamp::parse(message)?;
+    let answer = clock.receive(reading, &message);
+    Ok((answer, last_of(clock)))
+}
+
+#[test]
+fn receives(rt: HostRuntime) -> Result<(), Fail> {
+    let mut clock = HybridClock::new(Node::make(b"aa")?, None);
+    let message = b"1970-01-01T00:05:01.000Z-0007-00000000000000bb";
+    let drift = ClockFault::Drift {
+        logical: 301_000,
+        reading: 999,
+    };
+    for (reading, answer, after) in [(999, Err(drift), (0, 0)), (1000, Ok(()), (301_000, 8))] {
+        assert_eq!(rt; received(&mut clock, reading, message)?, (answer, after));
     }
     Ok(())
 }
@@ -170,21 +230,7 @@ fn moves_clocks(rt: HostRuntime) -> Result<(), Fail> {
     ];
     for (last, reading, n, expected, after) in cases {
         assert!(rt; 1 <= n && n <= 65_536);
-        let mut clock = HybridClock::new(node, Some(Stamp::parse(last)?));
-        assert_eq!(rt; clock.draw(reading, n).map(|s| s.counter), expected);
-        assert_eq!(rt; (clock.last().millis, clock.last().counter), after);
+        assert_eq!(rt; drawn(node, last, reading, n)?, (expected, after));
     }
-    let mut clock = HybridClock::new(node, None);
-    let message = Stamp::parse(b"1970-01-01T00:05:01.000Z-0007-00000000000000bb")?;
-    assert_eq!(rt;
-        clock.receive(999, &message).err(),
-        Some(ClockFault::Drift {
-            logical: 301_000,
-            reading: 999,
-        })
-    );
-    assert_eq!(rt; clock.last().millis, 0);
-    assert_eq!(rt; clock.receive(1000, &message).is_ok(), true);
-    assert_eq!(rt; (clock.last().millis, clock.last().counter), (301_000, 8));
     Ok(())
 }

@@ -70,11 +70,20 @@ const DEEP_RIGHT: &str =
     "{\"0\":[],\"1\":{\"0\":{\"0\":{\"0\":{\"0\":{\"0\":{\"0\":{\"0\":{\"0\":{\"0\":{\"0\":{\
     \"0\":{\"0\":{\"0\":{\"0\":{\"0\":{\"0\":{}}}}}}}}}}}}}}}}}}";
 
+/// The hash of so many of the first bytes, where there are so many.
+fn hash_of_first(bytes: &[u8], len: usize) -> Option<u32> {
+    Some(hash32(bytes.get(..len)?))
+}
+
 #[test]
 fn hashes_bytes(rt: HostRuntime) {
     for (len, hash) in HASHES.iter().enumerate() {
-        assert_eq!(rt; hash32(&BYTES[..len]), *hash, "{len} bytes");
+        assert_eq!(rt; hash_of_first(&BYTES, len), Some(*hash), "{len} bytes");
     }
+}
+
+#[test]
+fn hashes_texts(rt: HostRuntime) {
     for (text, hash) in [
         ("", 0),
         ("test", 0xba6b_d213),
@@ -115,6 +124,23 @@ fn trie_of(alloc: Global, pairs: &[(u8, i32)]) -> Result<Trie, Fail>
     Ok(trie)
 }
 
+/// The root of the trie of such pairs, and its text.
+fn root_and_text(alloc: Global, pairs: &[(u8, i32)]) -> Result<(i32, Txt), Fail> {
+    let trie = trie_of(alloc, pairs)?;
+    Ok((trie.root(), trie.to_json()?))
+}
+
+/// Where the tries of such pairs differ.
+fn difference(
+    alloc: Global,
+    pairs: &[(u8, i32)],
+    others: &[(u8, i32)],
+) -> Result<Option<u64>, Fail> {
+    let one = trie_of(alloc, pairs)?;
+    let two = trie_of(alloc, others)?;
+    Ok(one.diff(&two))
+}
+
 #[test]
 fn holds_tries(rt: HostRuntime) -> Result<(), Fail> {
     let alloc = rt.alloc();
@@ -124,13 +150,11 @@ fn holds_tries(rt: HostRuntime) -> Result<(), Fail> {
         (&[(2, 1), (1, 2), (0, 4)][..], 7, THREE),
         (&[(2, 1), (1, 2), (0, 4), (2, 8)][..], 15, FOUR),
     ] {
-        let trie = trie_of(alloc, pairs)?;
-        assert_eq!(rt; trie.root(), root);
-        assert_eq!(rt; trie.to_json()?.as_str(), text);
+        let (found, written) = root_and_text(alloc, pairs)?;
+        assert_eq!(rt; (found, written.as_str()), (root, text));
     }
-    let one = trie_of(alloc, &[(0, 5)])?;
-    let two = trie_of(alloc, &[(0, 5), (1, 3)])?;
-    assert_eq!(rt; one.diff(&two), Some(2_582_803_080_000));
+    let apart = difference(alloc, &[(0, 5)], &[(0, 5), (1, 3)])?;
+    assert_eq!(rt; apart, Some(2_582_803_080_000));
     Ok(())
 }
 
@@ -144,14 +168,32 @@ fn stamp(trie: &mut Trie, text: &str) -> Result<(), Fail>
     Ok(())
 }
 
+/// The text of a trie once this timestamp is added.
+fn text_with(trie: &mut Trie, text: &str) -> Result<Txt, Fail>
+    requires { is_spent trie.old ≡ false }
+    ensures { OnOk result (is_spent trie.new ≡ false) }
+{
+    stamp(trie, text)?;
+    Ok(trie.to_json()?)
+}
+
+/// The text of a trie of one timestamp, its root with a second one, and whether it is spent then.
+fn stamped(alloc: Global, first: &str, second: &str) -> Result<(Txt, i32, bool), Fail> {
+    let mut trie = Trie::new(alloc);
+    let text = text_with(&mut trie, first)?;
+    stamp(&mut trie, second)?;
+    Ok((text, trie.root(), trie.is_spent()))
+}
+
 #[test]
 fn holds_timestamps(rt: HostRuntime) -> Result<(), Fail> {
-    let mut trie = Trie::new(rt.alloc());
-    stamp(&mut trie, "2024-01-05T10:00:00.000Z-0000-00000000000000aa")?;
-    assert_eq!(rt; trie.to_json()?.as_str(), STAMPED);
-    stamp(&mut trie, "1970-01-01T00:00:00.000Z-0000-0000000000000001")?;
-    assert_eq!(rt; trie.root(), -1_597_523_851);
-    assert!(rt; !trie.is_spent());
+    let (text, root, spent) = stamped(
+        rt.alloc(),
+        "2024-01-05T10:00:00.000Z-0000-00000000000000aa",
+        "1970-01-01T00:00:00.000Z-0000-0000000000000001",
+    )?;
+    assert_eq!(rt; text.as_str(), STAMPED);
+    assert_eq!(rt; (root, spent), (-1_597_523_851, false));
     Ok(())
 }
 
@@ -161,6 +203,12 @@ fn read(alloc: Global, text: &str) -> Result<Trie, Fail>
 {
     let text = Txt::from_text(alloc, text)?;
     Ok(Trie::from_json(alloc, &text)?)
+}
+
+/// The text that is written of the trie that a text is read as.
+fn rewritten(alloc: Global, text: &str) -> Result<Txt, Fail> {
+    let trie = read(alloc, text)?;
+    Ok(trie.to_json()?)
 }
 
 #[test]
@@ -181,8 +229,8 @@ fn reads_texts(rt: HostRuntime) -> Result<(), Fail> {
         ),
         (TWO, TWO),
     ] {
-        let trie = read(rt.alloc(), text)?;
-        assert_eq!(rt; trie.to_json()?.as_str(), again, "of {text}");
+        let written = rewritten(rt.alloc(), text)?;
+        assert_eq!(rt; written.as_str(), again, "of {text}");
     }
     Ok(())
 }

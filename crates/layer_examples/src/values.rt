@@ -1,5 +1,6 @@
 //! Texts, values, names and lists.
 ghost use Rattle.std.specs.Prelude.{◌≡◌, ◌≤◌, ◌+◌};
+ghost use Rattle.field_values.specs.Value.{IsValue};
 
 use field_values::{Field, FieldKey, Items, NameFault, NamePart, Steps, Txt, TxtFault, Value};
 use std::alloc::Global;
@@ -18,18 +19,37 @@ fn form_of(value: &Value) -> u8 {
     }
 }
 
-/// The form that the text is read as, or `!` where the value or its copy does not have the very text.
-fn read_form(alloc: Global, bytes: &[u8]) -> Result<u8, Fail> {
-    let given = Txt::make(alloc, bytes)?;
-    let value = Value::from_text(alloc, &given)?;
+/// Whether a value has this text.
+fn has_text(alloc: Global, value: &Value, text: &Txt) -> Result<bool, Fail>
+    requires { IsValue value.now }
+{
     let written = value.text(alloc)?;
+    Ok(written == *text)
+}
+
+/// Whether a copy of a value is another one.
+fn is_copied_as(value: &Value, other: &Value) -> Result<bool, Fail> {
     let copied = value.copy()?;
+    Ok(copied == *other)
+}
+
+/// The form that the text is read as, or `!` where the value of it or its copy does not have the very text.
+fn form_again(alloc: Global, given: &Txt, value: &Value) -> Result<u8, Fail>
+    requires { IsValue value.now }
+{
     let again = Value::read(alloc, given.as_str())?;
-    if written == given && copied == again {
+    if has_text(alloc, value, given)? && is_copied_as(value, &again)? {
         Ok(form_of(&again))
     } else {
         Ok(b'!')
     }
+}
+
+/// The form that the text of these bytes is read as.
+fn read_form(alloc: Global, bytes: &[u8]) -> Result<u8, Fail> {
+    let given = Txt::make(alloc, bytes)?;
+    let value = Value::from_text(alloc, &given)?;
+    form_again(alloc, &given, &value)
 }
 
 #[test]
@@ -62,6 +82,22 @@ fn place_of(alloc: Global, bytes: &[u8]) -> usize {
     }
 }
 
+/// A list of one text, which is a copy of another.
+fn list_of(alloc: Global, text: &str) -> Result<Items<Txt>, Fail> {
+    let text = Txt::from_text(alloc, text)?;
+    let mut list = Vec::new(alloc);
+    list.push(Txt::new(text.copy()?.into_string()))?;
+    Ok(Items::new(list))
+}
+
+/// Whether a list of one text is copied, how many the copy has, and how many the list.
+fn list_copied(alloc: Global, text: &str) -> Result<(bool, usize, usize), Fail> {
+    let items = list_of(alloc, text)?;
+    let copied = items.copy(alloc)?;
+    let same = copied == items && !copied.is_empty();
+    Ok((same, copied.into_vec().len(), items.len()))
+}
+
 #[test]
 fn texts_and_lists(rt: HostRuntime) -> Result<(), Fail> {
     for (bytes, at) in [
@@ -72,16 +108,41 @@ fn texts_and_lists(rt: HostRuntime) -> Result<(), Fail> {
     ] {
         assert_eq!(rt; place_of(rt.alloc(), bytes), at);
     }
-    let mut list = Vec::new(rt.alloc());
-    list.push(Txt::new(Txt::from_text(rt.alloc(), "x")?.copy()?.into_string()))?;
-    let items = Items::new(list);
-    let copied = items.copy(rt.alloc())?;
-    assert!(rt; copied == items && !copied.is_empty());
-    assert_eq!(rt; copied.into_vec().len(), items.len());
+    let (same, count, kept) = list_copied(rt.alloc(), "x")?;
+    assert_eq!(rt; (same, count), (true, kept));
     Ok(())
 }
 
+/// Whether a copy of a field has these names, and is the field.
+fn copy_has(field: &Field, names: (&str, &str, &str)) -> Result<bool, Fail> {
+    let copied = field.copy()?;
+    let has_names = copied.dataset() == names.0
+        && copied.row() == names.1
+        && copied.column() == names.2;
+    Ok(has_names && copied == *field)
+}
+
+/// Whether the key of a field is of this field.
+fn key_has(field: &Field) -> Result<bool, Fail> {
+    let key = FieldKey::of(field)?;
+    Ok(*key.field() == *field)
+}
+
 /// The fault of the names, where they have one. Where they have none, the field has them, and so has its copy.
+fn fault_in(alloc: Global, names: (&str, &str, &str)) -> Result<Option<NameFault>, Fail> {
+    match Field::make(alloc, names.0, names.1, names.2) {
+        Ok(field) => {
+            if copy_has(&field, names)? && key_has(&field)? {
+                Ok(None)
+            } else {
+                Ok(Some(NameFault::NoMemory))
+            }
+        }
+        Err(fault) => Ok(Some(fault)),
+    }
+}
+
+/// The fault of the names that these bytes are.
 fn fault_of(
     alloc: Global,
     dataset: &[u8],
@@ -91,21 +152,7 @@ fn fault_of(
     let dataset = Txt::make(alloc, dataset)?;
     let row = Txt::make(alloc, row)?;
     let column = Txt::make(alloc, column)?;
-    match Field::make(alloc, dataset.as_str(), row.as_str(), column.as_str()) {
-        Ok(field) => {
-            let copied = field.copy()?;
-            let key = FieldKey::of(&field)?;
-            let has_names = copied.dataset() == dataset.as_str()
-                && copied.row() == row.as_str()
-                && copied.column() == column.as_str();
-            if has_names && copied == field && *key.field() == field {
-                Ok(None)
-            } else {
-                Ok(Some(NameFault::NoMemory))
-            }
-        }
-        Err(fault) => Ok(Some(fault)),
-    }
+    fault_in(alloc, (dataset.as_str(), row.as_str(), column.as_str()))
 }
 
 #[test]

@@ -1,9 +1,8 @@
 //! Stores of the first version that become ones of the second, over files that stop at some call.
-use crate::stops::{Fused, after_stop, open};
+use crate::stops::{Fused, after_stop, left_by, new_files, open};
 use crate::stores::{FIRST, MOVED, ROWS};
 use sqlite::{Alter, Connection, Error, Files};
-use sqlite_disk::{Fuse, Memory};
-use sqlite_keeper::take;
+use sqlite_keeper::{SqliteKeeper, take};
 use std::alloc::Global;
 use std::test::Fail;
 
@@ -25,28 +24,40 @@ fn made<S: Alter>(alloc: Global, connection: &mut Connection<S>) -> Result<(), E
     Ok(())
 }
 
+/// How far a keeper came, and the store that it leaves.
+fn far_of<S: Alter + Drop>(keeper: SqliteKeeper<S>) -> (Far, S) {
+    let far = match keeper.is_shut() {
+        true => Far::First,
+        false => Far::Second,
+    };
+    (far, left_by(keeper))
+}
+
+/// How far a store comes that was made, and what is left of it.
+fn taken_over<S: Alter + Drop>(alloc: Global, connection: Connection<S>) -> (Far, S) {
+    match take(alloc, connection) {
+        Ok(keeper) => far_of(keeper),
+        Err(untaken) => (Far::First, untaken.store),
+    }
+}
+
+/// How far a store comes over an open connection, and what is left of it.
+fn moved_over<S: Alter + Drop>(alloc: Global, connection: Connection<S>) -> (Far, S) {
+    let mut connection = connection;
+    match made(alloc, &mut connection) {
+        Ok(()) => taken_over(alloc, connection),
+        Err(_) => (Far::Nowhere, connection.into_store()),
+    }
+}
+
 /// How far a store comes over new files of which the log and the database fail from these calls on, and the files.
 fn moved(alloc: Global, log_call: u64, db_call: u64) -> (Far, Files<Fused>) {
-    let files = Files {
-        log: Fuse::new(Memory::new(alloc), log_call),
-        db: Fuse::new(Memory::new(alloc), db_call),
-    };
-    let mut connection = match open(alloc, files) {
-        Ok(connection) => connection,
-        Err(files) => return (Far::Nowhere, files),
-    };
-    if made(alloc, &mut connection).is_err() {
-        return (Far::Nowhere, connection.into_store().close());
-    }
-    match take(alloc, connection) {
-        Ok(keeper) => {
-            let far = match keeper.is_shut() {
-                true => Far::First,
-                false => Far::Second,
-            };
-            (far, keeper.into_connection().into_store().close())
+    match open(alloc, new_files(alloc, log_call, db_call)) {
+        Ok(connection) => {
+            let (far, store) = moved_over(alloc, connection);
+            (far, store.close())
         }
-        Err(untaken) => (Far::First, untaken.store.close()),
+        Err(files) => (Far::Nowhere, files),
     }
 }
 

@@ -78,7 +78,7 @@ fn names_of(alloc: Global, names: &[Txt]) -> Result<String, NoMemory> {
     let mut text = String::new(alloc);
     for name in names {
         text.push_str(name.as_str())?;
-        text.push(',')?;
+        text.push_str(",")?;
     }
     Ok(text)
 }
@@ -91,7 +91,7 @@ fn names<K: Keeper>(alloc: Global, keeper: &mut K) -> Result<String, PortFault> 
 
 /// What stands before the first space, and what stands behind it.
 fn cut(text: &str) -> (&str, &str) {
-    text.split_once(' ').unwrap_or((text, ""))
+    text.split_once(" ").unwrap_or((text, ""))
 }
 
 /// The answer to `append GROUP`, `since GROUP KEY`, `put NAME TEXT`, `get NAME` or `names`.

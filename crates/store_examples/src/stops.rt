@@ -1,8 +1,8 @@
 //! Stores over files that stop at some call.
 use crate::script::answer;
-use crate::stores::{FIRST, fault_text, taken};
+use crate::stores::{FIRST, fault_text, ran, taken};
 use budget_ports::Keeper;
-use sqlite::{Connection, FileStore, Files, Options};
+use sqlite::{Alter, Connection, Error, FileStore, Files, Options};
 use sqlite_disk::{Crash, Disk, Fuse, Memory};
 use sqlite_keeper::{SqliteKeeper, StoreFault, Untaken, take};
 use std::alloc::Global;
@@ -37,34 +37,56 @@ fn answered<K: Keeper>(alloc: Global, keeper: &mut K) -> usize {
     count
 }
 
-/// How many calls a keeper answered, and the files that it leaves.
-fn run(alloc: Global, keeper: SqliteKeeper<FileStore<Fused>>) -> (usize, Files<Fused>) {
+/// New files of which the log and the database fail from these calls on.
+pub fn new_files(alloc: Global, log_call: u64, db_call: u64) -> Files<Fused> {
+    Files {
+        log: Fuse::new(Memory::new(alloc), log_call),
+        db: Fuse::new(Memory::new(alloc), db_call),
+    }
+}
+
+/// The store that a keeper leaves.
+pub fn left_by<S: Alter + Drop>(keeper: SqliteKeeper<S>) -> S {
+    keeper.into_connection().into_store()
+}
+
+/// How many calls a keeper answered, and the store that it leaves.
+fn run<S: Alter + Drop>(alloc: Global, keeper: SqliteKeeper<S>) -> (usize, S) {
     let mut keeper = keeper;
     let count = answered(alloc, &mut keeper);
-    (count, keeper.into_connection().into_store().close())
+    (count, left_by(keeper))
+}
+
+/// Calls over an open connection: how many answered, and the store.
+fn run_over<S: Alter + Drop>(alloc: Global, connection: Connection<S>) -> (usize, S) {
+    match take(alloc, connection) {
+        Ok(keeper) => run(alloc, keeper),
+        Err(untaken) => (0, untaken.store),
+    }
 }
 
 /// Calls over new files, of which the log fails from this call on: how many answered, and the files.
 fn started(alloc: Global, calls: u64) -> (usize, Files<Fused>) {
-    let files = Files {
-        log: Fuse::new(Memory::new(alloc), calls),
-        db: Fuse::new(Memory::new(alloc), u64::MAX),
-    };
-    match open(alloc, files) {
-        Ok(connection) => match take(alloc, connection) {
-            Ok(keeper) => run(alloc, keeper),
-            Err(untaken) => (0, untaken.store.close()),
-        },
+    match open(alloc, new_files(alloc, calls, u64::MAX)) {
+        Ok(connection) => {
+            let (count, store) = run_over(alloc, connection);
+            (count, store.close())
+        }
         Err(files) => (0, files),
     }
 }
 
-/// What files tell otherwise than a script says, after a stop.
-pub fn after_stop(alloc: Global, files: Files<Fused>, script: &str) -> Result<String, Fail> {
+/// Files after a stop.
+fn crashed(files: Files<Fused>) -> Files<Fused> {
     let mut files = files;
     files.log.crash();
     files.db.crash();
-    match open(alloc, files) {
+    files
+}
+
+/// What files tell otherwise than a script says, after a stop.
+pub fn after_stop(alloc: Global, files: Files<Fused>, script: &str) -> Result<String, Fail> {
+    match open(alloc, crashed(files)) {
         Ok(connection) => taken(alloc, connection, script),
         Err(_) => Ok(String::from_str(alloc, "unopened")?),
     }
@@ -97,43 +119,70 @@ fn told_twice(alloc: Global, fault: StoreFault, files: Files<Fused>) -> Result<S
     Ok(format!(in alloc; "{first}, {again}")?)
 }
 
+/// A store with these statements that isn't taken.
+fn untaken<S: Alter + Drop>(
+    alloc: Global,
+    connection: Connection<S>,
+    sql: &str,
+) -> Result<Option<Untaken<S>>, Error> {
+    match take(alloc, ran(connection, sql)?) {
+        Ok(_) => Ok(None),
+        Err(untaken) => Ok(Some(untaken)),
+    }
+}
+
 /// What becomes of files with these statements: why they aren't taken, and again of what then comes back.
 fn taken_twice(alloc: Global, sql: &str) -> Result<String, Fail> {
-    let files = Files {
-        log: Fuse::new(Memory::new(alloc), u64::MAX),
-        db: Fuse::new(Memory::new(alloc), u64::MAX),
-    };
-    let Ok(mut connection) = open(alloc, files) else {
+    let Ok(connection) = open(alloc, new_files(alloc, u64::MAX, u64::MAX)) else {
         return Ok(String::from_str(alloc, "unopened")?);
     };
-    connection.execute_batch(sql)?;
-    match take(alloc, connection) {
-        Ok(_) => Ok(String::from_str(alloc, "taken")?),
-        Err(Untaken { fault, store }) => told_twice(alloc, fault, store.close()),
+    match untaken(alloc, connection, sql)? {
+        Some(Untaken { fault, store }) => told_twice(alloc, fault, store.close()),
+        None => Ok(String::from_str(alloc, "taken")?),
     }
+}
+
+/// The same of files of the first version whose version is no number.
+fn unnumbered_twice(alloc: Global) -> Result<String, Fail> {
+    let sql = format!(in alloc; "{FIRST}; INSERT INTO named VALUES ('version', 'one')")?;
+    taken_twice(alloc, sql.as_str())
 }
 
 /// A store that is refused comes back: its files are closed and opened again, and it is refused as before.
 #[test]
 fn refused_stores_come_back(rt: HostRuntime) -> Result<(), Fail> {
-    let sql = format!(in rt.alloc(); "{FIRST}; INSERT INTO named VALUES ('version', 'one')")?;
-    let told = taken_twice(rt.alloc(), sql.as_str())?;
+    let told = unnumbered_twice(rt.alloc())?;
     assert_eq!(rt; told.as_str(), "version one, version one");
     Ok(())
+}
+
+/// What is left otherwise than what the calls that answered have done, and otherwise than that with the next one: nothing where one of
+/// them is left, else both.
+fn wrong_both_ways(alloc: Global, calls: u64) -> Result<String, Fail> {
+    let without = left(alloc, calls, false)?;
+    if without.as_str() == "" {
+        return Ok(without);
+    }
+    let with = left(alloc, calls, true)?;
+    if with.as_str() == "" {
+        return Ok(with);
+    }
+    Ok(format!(in alloc; "{without}, {with}")?)
+}
+
+/// How many calls answer where none fails.
+fn count_of_all(alloc: Global) -> usize {
+    let (count, _) = started(alloc, 1000);
+    count
 }
 
 /// A stop leaves what the calls that answered have done, and of the next one all or nothing.
 #[test]
 fn stops_leave_whole_calls(rt: HostRuntime) -> Result<(), Fail> {
     for calls in [0, 20, 30, 38, 1000] {
-        let without = left(rt.alloc(), calls, false)?;
-        let with = left(rt.alloc(), calls, true)?;
-        assert!(rt;
-            without.as_str() == "" || with.as_str() == "",
-            "{calls}: {without}, {with}"
-        );
+        let wrong = wrong_both_ways(rt.alloc(), calls)?;
+        assert_eq!(rt; wrong.as_str(), "", "{calls}");
     }
-    let (count, _) = started(rt.alloc(), 1000);
-    assert_eq!(rt; count, 3);
+    assert_eq!(rt; count_of_all(rt.alloc()), 3);
     Ok(())
 }

@@ -104,11 +104,16 @@ pub fn taken<S: Alter + Drop>(
     }
 }
 
-/// A store in memory, after these statements.
-fn store_of(alloc: Global, sql: &str) -> Result<Connection<MemStore>, Error> {
-    let mut connection = Connection::open_in_memory(alloc)?;
+/// A connection after these statements.
+pub fn ran<S: Alter + Drop>(connection: Connection<S>, sql: &str) -> Result<Connection<S>, Error> {
+    let mut connection = connection;
     connection.execute_batch(sql)?;
     Ok(connection)
+}
+
+/// A store in memory, after these statements.
+fn store_of(alloc: Global, sql: &str) -> Result<Connection<MemStore>, Error> {
+    ran(Connection::open_in_memory(alloc)?, sql)
 }
 
 /// What becomes of the store that these statements make.
