@@ -11,7 +11,7 @@ use std::alloc::Global;
 use std::marker::Brand;
 use std::sync::ledger::{Blank, Ledger};
 use std::test::Fail;
-use tracking_budget::{track_cell, track_line, track_named, track_sheet};
+use tracking_budget::{TrackSheet, track_cell, track_line, track_named, track_sheet};
 
 /// What the tracking budget gives in that household: in January 300.00 for food, where 350.00 go out, and 900.00 are to come in, where
 /// 1,000.00 do; in February 200.00 for food. What the columns of a row say of month and category counts for nothing.
@@ -66,8 +66,13 @@ fn month_of(text: &str) -> u32
     }
 }
 
-/// The lines of the sheet of a month.
-fn lines_over<G: Ledger>(blank: Blank, alloc: Global, book: &Book, month: u32) -> Result<Txt, Fail>
+/// The sheet of a month, with a counter of steps that nobody reads.
+fn sheet_over<G: Ledger>(
+    blank: Blank,
+    alloc: Global,
+    book: &Book,
+    month: u32,
+) -> Result<TrackSheet, Fail>
     requires name { blank.name ≡ G.name }
     requires parts { blank.parts ≡ G.parts }
     requires some { 1 ≤ G.parts }
@@ -77,7 +82,11 @@ fn lines_over<G: Ledger>(blank: Blank, alloc: Global, book: &Book, month: u32) -
     let mut steps = Steps::<G>::new(blank);
     book.sizes();
     let sums = category_sums(alloc, book, &mut steps)?;
-    let sheet = track_sheet(alloc, book, &sums, month, &mut steps)?;
+    Ok(track_sheet(alloc, book, &sums, month, &mut steps)?)
+}
+
+/// The lines of a sheet.
+fn lines_of(alloc: Global, sheet: &TrackSheet) -> Result<Txt, Fail> {
     let mut text = String::new(alloc);
     for cell in sheet.cells.as_slice() {
         text.push_str(track_line(alloc, cell)?.as_str())?;
@@ -86,10 +95,19 @@ fn lines_over<G: Ledger>(blank: Blank, alloc: Global, book: &Book, month: u32) -
     Ok(Txt::new(text))
 }
 
+/// The lines of the sheet of a month.
+fn lines_over(alloc: Global, book: &Book, month: u32) -> Result<Txt, Fail>
+    requires live { book.now.spent ≡ false }
+    requires month { IsTrue (is_month month) }
+{
+    let sheet = sheet_over::<Brand>(Blank::new(1), alloc, book, month)?;
+    lines_of(alloc, &sheet)
+}
+
 /// The text of a month's sheet, in the book of these fields.
 fn text_of(alloc: Global, fields: &str, month: &str) -> Result<Txt, Fail> {
     let book = book_of(alloc, fields)?;
-    lines_over::<Brand>(Blank::new(1), alloc, &book, month_of(month))
+    lines_over(alloc, &book, month_of(month))
 }
 
 /// Of rows "fields > month > lines", where other fields come before, the first with what its sheet lacks.

@@ -2,7 +2,9 @@
 use crate::contents::{lines_of, records_of};
 use crate::running::{NEVER, ended};
 use crate::short::ShortKeeper;
-use budget_ports::{Keeper, MemoryDoor, MemoryKeeper, MemorySink, MemorySource, ScriptLink};
+use budget_ports::{
+    Keeper, MemoryDoor, MemoryKeeper, MemorySink, MemorySource, Record, ScriptLink,
+};
 use std::alloc::Global;
 use std::collections::VecDeque;
 use std::test::Fail;
@@ -144,8 +146,52 @@ const WANTS: [(u64, u8, usize, usize); 11] = [
     (10, 0, 304, 32),
 ];
 
-/// How a run ended, how many bytes of the replies it wrote, and how many of the records are kept; none where it wrote or kept anything else.
-type Told = Option<(u8, usize, usize)>;
+/// How a run ended, how many bytes of the replies it wrote, how many of the records are kept, and whether it wrote and kept nothing else.
+type Told = (u8, usize, usize, bool);
+
+/// The household's lines.
+fn input_of(alloc: Global) -> Result<Vec<u8>, Fail> {
+    let lines = LINES.replace(alloc, '>', "\t")?;
+    Ok(lines.as_bytes().to_vec(alloc)?)
+}
+
+/// The household's lines, of which this call fails.
+fn source_of(alloc: Global, call: u64) -> Result<MemorySource, Fail> {
+    let input = input_of(alloc)?;
+    let fails = [call].to_vec(alloc)?;
+    Ok(MemorySource::with_faults(input, fails))
+}
+
+/// The status of a run over a keeper, a sink, a source and a door.
+fn status_by<K: Keeper>(
+    alloc: Global,
+    keeper: &mut K,
+    sink: &mut MemorySink,
+    source: &mut MemorySource,
+    door: &mut MemoryDoor,
+) -> Result<u8, Fail> {
+    let mut link = ScriptLink::new(alloc, VecDeque::new(alloc));
+    ended(
+        alloc,
+        "device --node aa",
+        source,
+        sink,
+        keeper,
+        &mut link,
+        door,
+    )
+}
+
+/// The status of a run over a keeper, a sink and a source.
+fn status_from<K: Keeper>(
+    alloc: Global,
+    keeper: &mut K,
+    sink: &mut MemorySink,
+    source: &mut MemorySource,
+) -> Result<u8, Fail> {
+    let mut door = MemoryDoor::new(alloc, Vec::new(alloc), Vec::new(alloc), 0)?;
+    status_by(alloc, keeper, sink, source, &mut door)
+}
 
 /// The status of a run over a keeper and a sink, of which this call of the source fails.
 fn status_over<K: Keeper>(
@@ -154,20 +200,31 @@ fn status_over<K: Keeper>(
     sink: &mut MemorySink,
     call: u64,
 ) -> Result<u8, Fail> {
-    let lines = LINES.replace(alloc, '>', "\t")?;
-    let input = lines.as_bytes().to_vec(alloc)?;
-    let mut source = MemorySource::with_faults(input, [call].to_vec(alloc)?);
-    let mut link = ScriptLink::new(alloc, VecDeque::new(alloc));
-    let mut door = MemoryDoor::new(alloc, Vec::new(alloc), Vec::new(alloc), 0)?;
-    ended(
-        alloc,
-        "device --node aa",
-        &mut source,
-        sink,
-        keeper,
-        &mut link,
-        &mut door,
-    )
+    let mut source = source_of(alloc, call)?;
+    status_from(alloc, keeper, sink, &mut source)
+}
+
+/// How many bytes were written, and whether they are the first of the replies.
+fn output_of(output: &[u8]) -> (usize, bool) {
+    (output.len(), REPLIES.as_bytes().starts_with(output))
+}
+
+fn sink_of(alloc: Global, call: u64) -> Result<MemorySink, Fail> {
+    let fails = [call].to_vec(alloc)?;
+    Ok(MemorySink::with_faults(alloc, 2000, fails)?)
+}
+
+/// How a run ended over a keeper, of which these calls of the source and of the sink fail, how many bytes it wrote, and whether they are the
+/// first of the replies.
+fn written<K: Keeper>(
+    alloc: Global,
+    keeper: &mut K,
+    source_call: u64,
+    sink_call: u64,
+) -> Result<(u8, (usize, bool)), Fail> {
+    let mut sink = sink_of(alloc, sink_call)?;
+    let status = status_over(alloc, keeper, &mut sink, source_call)?;
+    Ok((status, output_of(sink.written())))
 }
 
 /// What a run comes to over a keeper, of which these calls of the source and of the sink fail.
@@ -177,30 +234,41 @@ fn told<K: Keeper>(
     source_call: u64,
     sink_call: u64,
 ) -> Result<Told, Fail> {
-    let mut sink = MemorySink::with_faults(alloc, 2000, [sink_call].to_vec(alloc)?)?;
-    let status = status_over(alloc, keeper, &mut sink, source_call)?;
-    let output = sink.written();
-    let (count, kept) = kept_by(alloc, keeper)?;
-    if !REPLIES.as_bytes().starts_with(output) || !kept {
-        return Ok(None);
-    }
-    Ok(Some((status, output.len(), count)))
+    let (status, (bytes, is_front)) = written(alloc, keeper, source_call, sink_call)?;
+    let (count, is_kept) = kept_by(alloc, keeper)?;
+    Ok((status, bytes, count, is_front && is_kept))
+}
+
+/// Whether lines are the first of those that the household makes.
+fn is_front(alloc: Global, lines: &str) -> Result<bool, Fail> {
+    let kept = KEPT.replace(alloc, '>', "\t")?;
+    Ok(kept.as_bytes().starts_with(lines.as_bytes()))
+}
+
+/// Whether records are the first of those that the household makes.
+fn are_first(alloc: Global, records: &[Record]) -> Result<bool, Fail> {
+    let lines = lines_of(alloc, records)?;
+    is_front(alloc, lines.as_str())
 }
 
 /// How many records a keeper holds, and whether they are the first of those that the household makes.
 fn kept_by<K: Keeper>(alloc: Global, keeper: &mut K) -> Result<(usize, bool), Fail> {
     let records = records_of(alloc, keeper, "device")?;
-    let lines = lines_of(alloc, records.as_slice())?;
-    let kept = KEPT.replace(alloc, '>', "\t")?;
-    Ok((records.len(), kept.as_bytes().starts_with(lines.as_bytes())))
+    let are_first = are_first(alloc, records.as_slice())?;
+    Ok((records.len(), are_first))
+}
+
+/// What a run comes to of which these calls of the source and of the sink fail.
+fn told_of(alloc: Global, source_call: u64, sink_call: u64) -> Result<Told, Fail> {
+    let mut keeper = MemoryKeeper::new(alloc);
+    told(alloc, &mut keeper, source_call, sink_call)
 }
 
 #[test]
 fn tells_that_the_source_failed(rt: HostRuntime) -> Result<(), Fail> {
     for (call, status, bytes, count) in SOURCE {
-        let mut keeper = MemoryKeeper::new(rt.alloc());
-        let told = told(rt.alloc(), &mut keeper, call, NEVER)?;
-        assert_eq!(rt; told, Some((status, bytes, count)), "at {call}");
+        let told = told_of(rt.alloc(), call, NEVER)?;
+        assert_eq!(rt; told, (status, bytes, count, true), "at {call}");
     }
     Ok(())
 }
@@ -208,29 +276,39 @@ fn tells_that_the_source_failed(rt: HostRuntime) -> Result<(), Fail> {
 #[test]
 fn tells_that_the_sink_failed(rt: HostRuntime) -> Result<(), Fail> {
     for (call, status, bytes, count) in SINK {
-        let mut keeper = MemoryKeeper::new(rt.alloc());
-        let told = told(rt.alloc(), &mut keeper, NEVER, call)?;
-        assert_eq!(rt; told, Some((status, bytes, count)), "at {call}");
+        let told = told_of(rt.alloc(), NEVER, call)?;
+        assert_eq!(rt; told, (status, bytes, count, true), "at {call}");
     }
     Ok(())
+}
+
+/// What a run comes to of which this call of the keeper fails.
+fn told_of_keeper(alloc: Global, call: u64) -> Result<Told, Fail> {
+    let fails = [call].to_vec(alloc)?;
+    let mut keeper = MemoryKeeper::with_faults(alloc, fails);
+    told(alloc, &mut keeper, NEVER, NEVER)
 }
 
 #[test]
 fn tells_that_the_keeper_failed(rt: HostRuntime) -> Result<(), Fail> {
     for (call, status, bytes, count) in KEEPER {
-        let mut keeper = MemoryKeeper::with_faults(rt.alloc(), [call].to_vec(rt.alloc())?);
-        let told = told(rt.alloc(), &mut keeper, NEVER, NEVER)?;
-        assert_eq!(rt; told, Some((status, bytes, count)), "at {call}");
+        let told = told_of_keeper(rt.alloc(), call)?;
+        assert_eq!(rt; told, (status, bytes, count, true), "at {call}");
     }
     Ok(())
+}
+
+/// What a run comes to of which this call of the keeper finds no memory.
+fn told_of_wants(alloc: Global, call: u64) -> Result<Told, Fail> {
+    let mut keeper = ShortKeeper::new(alloc, call);
+    told(alloc, &mut keeper, NEVER, NEVER)
 }
 
 #[test]
 fn tells_that_memory_ran_out(rt: HostRuntime) -> Result<(), Fail> {
     for (call, status, bytes, count) in WANTS {
-        let mut keeper = ShortKeeper::new(rt.alloc(), call);
-        let told = told(rt.alloc(), &mut keeper, NEVER, NEVER)?;
-        assert_eq!(rt; told, Some((status, bytes, count)), "at {call}");
+        let told = told_of_wants(rt.alloc(), call)?;
+        assert_eq!(rt; told, (status, bytes, count, true), "at {call}");
     }
     Ok(())
 }

@@ -1,12 +1,11 @@
 //! The run of a server with three requests, while a call of the door or of the keeper fails.
-use crate::contents::{bytes_of, contents_of};
+use crate::contents::{bytes_of, holds};
 use crate::running::{NEVER, ended};
 use crate::short::ShortKeeper;
 use budget_ports::{Keeper, MemoryDoor, MemoryKeeper, MemorySink, MemorySource, ScriptLink};
 use field_values::Items;
 use std::alloc::Global;
 use std::collections::VecDeque;
-use std::str;
 use std::test::Fail;
 
 /// Three requests, of which each character is a byte: a device hands a message in, another one does so too, and a third one asks for all.
@@ -89,15 +88,48 @@ fn text_at(texts: &[&'static str], number: usize) -> &'static str {
     }
 }
 
-/// The three connections of which each request comes in pieces of 200 bytes, and this call fails.
-fn door_of(alloc: Global, call: u64) -> Result<MemoryDoor, Fail> {
+/// What is meant to be told of the connections, the replies that they are meant to get, and what is meant to be kept.
+type Meant = (&'static str, [usize; 3], usize);
+
+/// How a run ended, and whether it told of the connections what is meant, whether they got the replies that are meant, and whether that is
+/// kept which is meant.
+type Told = (u8, bool, bool, bool);
+
+/// The three requests.
+fn connections_of(alloc: Global) -> Result<Vec<Items<u8>>, Fail> {
     let mut connections = Vec::new(alloc);
     for request in REQUESTS {
         connections.push(Items::new(bytes_of(alloc, request)?))?;
     }
+    Ok(connections)
+}
+
+/// The three connections of which each request comes in pieces of 200 bytes, and this call fails.
+fn door_of(alloc: Global, call: u64) -> Result<MemoryDoor, Fail> {
+    let connections = connections_of(alloc)?;
     let pieces = [200].to_vec(alloc)?;
     let fails = [call].to_vec(alloc)?;
     Ok(MemoryDoor::with_faults(alloc, connections, pieces, 2000, fails)?)
+}
+
+/// The status of a run over a keeper, a sink, a source and a door.
+fn status_by<K: Keeper>(
+    alloc: Global,
+    keeper: &mut K,
+    sink: &mut MemorySink,
+    source: &mut MemorySource,
+    door: &mut MemoryDoor,
+) -> Result<u8, Fail> {
+    let mut link = ScriptLink::new(alloc, VecDeque::new(alloc));
+    ended(
+        alloc,
+        "serve --count 3",
+        source,
+        sink,
+        keeper,
+        &mut link,
+        door,
+    )
 }
 
 /// The status of a run over a keeper, a sink and a door.
@@ -108,99 +140,102 @@ fn status_over<K: Keeper>(
     door: &mut MemoryDoor,
 ) -> Result<u8, Fail> {
     let mut source = MemorySource::new(alloc, Vec::new(alloc));
-    let mut link = ScriptLink::new(alloc, VecDeque::new(alloc));
-    ended(
-        alloc,
-        "serve --count 3",
-        &mut source,
-        sink,
-        keeper,
-        &mut link,
-        door,
-    )
+    status_by(alloc, keeper, sink, &mut source, door)
+}
+
+/// Whether a connection got the reply with this number.
+fn has_got(alloc: Global, door: &MemoryDoor, at: usize, number: usize) -> Result<bool, Fail> {
+    let reply = bytes_of(alloc, text_at(REPLIES.as_slice(), number))?;
+    Ok(door.written(at) == Some(reply.as_slice()))
 }
 
 /// Whether the replies with these numbers were written, and nothing else.
 fn has_written(alloc: Global, door: &MemoryDoor, replies: [usize; 3]) -> Result<bool, Fail> {
     for (at, number) in (0..3).zip(replies) {
-        let reply = bytes_of(alloc, text_at(REPLIES.as_slice(), number))?;
-        if door.written(at) != Some(reply.as_slice()) {
+        if !has_got(alloc, door, at, number)? {
             return Ok(false);
         }
     }
     Ok(true)
 }
 
-/// How a run ended over a keeper, what it told of the connections, whether the replies with these numbers were written, and what is kept.
-fn told<K: Keeper>(
+/// How a run ended over a keeper and a door, and whether it told these lines of the connections.
+fn lines_over<K: Keeper>(
+    alloc: Global,
+    keeper: &mut K,
+    door: &mut MemoryDoor,
+    lines: &str,
+) -> Result<(u8, bool), Fail> {
+    let mut sink = MemorySink::new(alloc, 200)?;
+    let status = status_over(alloc, keeper, &mut sink, door)?;
+    Ok((status, sink.written() == lines.as_bytes()))
+}
+
+/// How a run ended over a keeper, whether it told these lines of the connections, and whether the replies with these numbers were written.
+fn served<K: Keeper>(
     alloc: Global,
     keeper: &mut K,
     call: u64,
+    lines: &str,
     replies: [usize; 3],
-) -> Result<(u8, String, bool, String), Fail> {
+) -> Result<(u8, bool, bool), Fail> {
     let mut door = door_of(alloc, call)?;
-    let mut sink = MemorySink::new(alloc, 200)?;
-    let status = status_over(alloc, keeper, &mut sink, &mut door)?;
-    let lines = String::from_str(alloc, str::from_utf8(sink.written()).unwrap_or("no text"))?;
+    let (status, told) = lines_over(alloc, keeper, &mut door, lines)?;
     let written = has_written(alloc, &door, replies)?;
-    let contents = contents_of(alloc, keeper, "home", "file/home")?;
-    Ok((status, lines, written, contents))
+    Ok((status, told, written))
+}
+
+/// What a run comes to over a keeper, of which this call of the door fails.
+fn told<K: Keeper>(alloc: Global, keeper: &mut K, call: u64, meant: Meant) -> Result<Told, Fail> {
+    let (status, told, written) = served(alloc, keeper, call, meant.0, meant.1)?;
+    let contents = text_at(CONTENTS.as_slice(), meant.2);
+    let kept = holds(alloc, keeper, "home", "file/home", contents)?;
+    Ok((status, told, written, kept))
+}
+
+/// What a run comes to of which this call of the door fails.
+fn told_of(alloc: Global, call: u64, meant: Meant) -> Result<Told, Fail> {
+    let mut keeper = MemoryKeeper::new(alloc);
+    told(alloc, &mut keeper, call, meant)
 }
 
 #[test]
 fn tells_that_the_door_failed(rt: HostRuntime) -> Result<(), Fail> {
     for (call, status, lines, replies, contents) in DOOR {
-        let mut keeper = MemoryKeeper::new(rt.alloc());
-        let (ended, told, written, kept) = told(rt.alloc(), &mut keeper, call, replies)?;
-        assert_eq!(rt;
-            (ended, told.as_str(), written),
-            (status, lines, true),
-            "at {call}"
-        );
-        assert_eq!(rt;
-            kept.as_str(),
-            text_at(CONTENTS.as_slice(), contents),
-            "at {call}"
-        );
+        let told = told_of(rt.alloc(), call, (lines, replies, contents))?;
+        assert_eq!(rt; told, (status, true, true, true), "at {call}");
     }
     Ok(())
+}
+
+/// What a run comes to of which this call of the keeper fails.
+fn told_of_keeper(alloc: Global, call: u64, meant: Meant) -> Result<Told, Fail> {
+    let fails = [call].to_vec(alloc)?;
+    let mut keeper = MemoryKeeper::with_faults(alloc, fails);
+    told(alloc, &mut keeper, NEVER, meant)
 }
 
 #[test]
 fn tells_that_the_keeper_failed(rt: HostRuntime) -> Result<(), Fail> {
     for (call, status, lines, replies, contents) in KEEPER {
-        let mut keeper = MemoryKeeper::with_faults(rt.alloc(), [call].to_vec(rt.alloc())?);
-        let (ended, told, written, kept) = told(rt.alloc(), &mut keeper, NEVER, replies)?;
-        assert_eq!(rt;
-            (ended, told.as_str(), written),
-            (status, lines, true),
-            "at {call}"
-        );
-        assert_eq!(rt;
-            kept.as_str(),
-            text_at(CONTENTS.as_slice(), contents),
-            "at {call}"
-        );
+        let told = told_of_keeper(rt.alloc(), call, (lines, replies, contents))?;
+        assert_eq!(rt; told, (status, true, true, true), "at {call}");
     }
     Ok(())
+}
+
+/// What a run comes to of which this call of the keeper finds no memory.
+fn told_of_wants(alloc: Global, call: u64, meant: Meant) -> Result<Told, Fail> {
+    let mut keeper = ShortKeeper::new(alloc, call);
+    told(alloc, &mut keeper, NEVER, meant)
 }
 
 /// A server is used again after it was short of memory.
 #[test]
 fn tells_that_memory_ran_out(rt: HostRuntime) -> Result<(), Fail> {
     for (call, status, lines, replies, contents) in WANTS {
-        let mut keeper = ShortKeeper::new(rt.alloc(), call);
-        let (ended, told, written, kept) = told(rt.alloc(), &mut keeper, NEVER, replies)?;
-        assert_eq!(rt;
-            (ended, told.as_str(), written),
-            (status, lines, true),
-            "at {call}"
-        );
-        assert_eq!(rt;
-            kept.as_str(),
-            text_at(CONTENTS.as_slice(), contents),
-            "at {call}"
-        );
+        let told = told_of_wants(rt.alloc(), call, (lines, replies, contents))?;
+        assert_eq!(rt; told, (status, true, true, true), "at {call}");
     }
     Ok(())
 }

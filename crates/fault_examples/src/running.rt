@@ -46,6 +46,30 @@ fn status_of<K: Keeper, L: Link, G: Ledger>(
     )
 }
 
+/// The status of a run of these words over these objects.
+fn ended_by<K: Keeper, L: Link>(
+    alloc: Global,
+    words: &Items<Txt>,
+    source: &mut MemorySource,
+    sink: &mut MemorySink,
+    keeper: &mut K,
+    link: &mut L,
+    door: &mut MemoryDoor,
+) -> Result<u8, Fail> {
+    let mut clock = ListClock::new([T0].to_vec(alloc)?);
+    Ok(status_of::<K, L, Brand>(
+        Blank::new(1),
+        alloc,
+        words,
+        source,
+        sink,
+        keeper,
+        link,
+        door,
+        &mut clock,
+    ))
+}
+
 /// The status of a run over these objects.
 pub(crate) fn ended<K: Keeper, L: Link>(
     alloc: Global,
@@ -57,16 +81,5 @@ pub(crate) fn ended<K: Keeper, L: Link>(
     door: &mut MemoryDoor,
 ) -> Result<u8, Fail> {
     let words = words_of(alloc, words)?;
-    let mut clock = ListClock::new([T0].to_vec(alloc)?);
-    Ok(status_of::<K, L, Brand>(
-        Blank::new(1),
-        alloc,
-        &words,
-        source,
-        sink,
-        keeper,
-        link,
-        door,
-        &mut clock,
-    ))
+    ended_by(alloc, &words, source, sink, keeper, link, door)
 }

@@ -2,6 +2,7 @@
 //! are neither; `bench/fail-allocations` lets each allocation of these tests fail in turn, and takes an assertion that fails here for a fault.
 ghost use Rattle.std.specs.Prelude.{◌≡◌, ◌≤◌, ◌<◌, [], length, IfOk, false};
 ghost use Rattle.field_merge.specs.Messages.{IsMessage, AreMessages};
+ghost use Rattle.minute_trie.specs.Trie.{is_spent};
 ghost use Rattle.device_core.specs.Edits.{IsEdit};
 
 use book_rows::Book;
@@ -28,48 +29,113 @@ fn message_of(alloc: Global) -> Result<Message, Fail>
     Ok(read_line(alloc, &line)?)
 }
 
+/// Whether a log finds no memory for a message.
+fn wants_in_log(alloc: Global, log: &mut Log) -> Result<bool, Fail>
+    requires { log.old.spent ≡ false }
+{
+    let message = message_of(alloc)?;
+    Ok(log.add(message).is_err())
+}
+
+/// Whether a log is spent by a message, and whether it found no memory.
+fn log_told(alloc: Global) -> Result<(bool, bool), Fail> {
+    let mut log = Log::new(alloc);
+    let wants = wants_in_log(alloc, &mut log)?;
+    Ok((log.is_spent(), wants))
+}
+
 #[test]
 fn logs(rt: HostRuntime) -> Result<(), Fail> {
-    let mut log = Log::new(rt.alloc());
-    let message = message_of(rt.alloc())?;
-    let wants = log.add(message).is_err();
-    assert_eq!(rt; log.is_spent(), wants);
+    let (spent, wants) = log_told(rt.alloc())?;
+    assert_eq!(rt; spent, wants);
     Ok(())
+}
+
+/// Whether a log finds no memory to join a message.
+fn wants_to_join(alloc: Global, log: &mut Log) -> Result<bool, Fail>
+    requires { log.old.spent ≡ false }
+{
+    let batch = [message_of(alloc)?];
+    Ok(log.join(&batch).is_err())
+}
+
+/// Whether a log is spent by a message that is joined, and whether it found no memory.
+fn join_told(alloc: Global) -> Result<(bool, bool), Fail> {
+    let mut log = Log::new(alloc);
+    let wants = wants_to_join(alloc, &mut log)?;
+    Ok((log.is_spent(), wants))
 }
 
 #[test]
 fn logs_that_join(rt: HostRuntime) -> Result<(), Fail> {
-    let mut log = Log::new(rt.alloc());
-    let batch = [message_of(rt.alloc())?];
-    let wants = log.join(&batch).is_err();
-    assert_eq!(rt; log.is_spent(), wants);
+    let (spent, wants) = join_told(rt.alloc())?;
+    assert_eq!(rt; spent, wants);
     Ok(())
+}
+
+/// Whether the latest messages find no memory for one.
+fn wants_in_latest(alloc: Global, latest: &mut LatestMessages) -> Result<bool, Fail>
+    requires { latest.old.spent ≡ false }
+{
+    let message = message_of(alloc)?;
+    Ok(latest.add(message).is_err())
+}
+
+/// Whether the latest messages are spent by one, and whether they found no memory.
+fn latest_told(alloc: Global) -> Result<(bool, bool), Fail> {
+    let mut latest = LatestMessages::new(alloc);
+    let wants = wants_in_latest(alloc, &mut latest)?;
+    Ok((latest.is_spent(), wants))
 }
 
 #[test]
 fn latest_messages(rt: HostRuntime) -> Result<(), Fail> {
-    let mut latest = LatestMessages::new(rt.alloc());
-    let message = message_of(rt.alloc())?;
-    let wants = latest.add(message).is_err();
-    assert_eq!(rt; latest.is_spent(), wants);
+    let (spent, wants) = latest_told(rt.alloc())?;
+    assert_eq!(rt; spent, wants);
     Ok(())
+}
+
+/// Whether a trie finds no memory for the timestamp of a message.
+fn wants_in_trie(alloc: Global, trie: &mut Trie) -> Result<bool, Fail>
+    requires { is_spent trie.old ≡ false }
+{
+    let message = message_of(alloc)?;
+    Ok(trie.insert(&message.stamp).is_err())
+}
+
+/// Whether a trie is spent by a timestamp, and whether it found no memory.
+fn trie_told(alloc: Global) -> Result<(bool, bool), Fail> {
+    let mut trie = Trie::new(alloc);
+    let wants = wants_in_trie(alloc, &mut trie)?;
+    Ok((trie.is_spent(), wants))
 }
 
 #[test]
 fn tries(rt: HostRuntime) -> Result<(), Fail> {
-    let mut trie = Trie::new(rt.alloc());
-    let message = message_of(rt.alloc())?;
-    let wants = trie.insert(&message.stamp).is_err();
-    assert_eq!(rt; trie.is_spent(), wants);
+    let (spent, wants) = trie_told(rt.alloc())?;
+    assert_eq!(rt; spent, wants);
     Ok(())
+}
+
+/// Whether a book finds no memory for a message.
+fn wants_in_book(alloc: Global, book: &mut Book) -> Result<bool, Fail>
+    requires { book.old.spent ≡ false }
+{
+    let message = message_of(alloc)?;
+    Ok(book.set(&message.field, &message.value).is_err())
+}
+
+/// Whether a book is spent by a message, and whether it found no memory.
+fn book_told(alloc: Global) -> Result<(bool, bool), Fail> {
+    let mut book = Book::new(alloc);
+    let wants = wants_in_book(alloc, &mut book)?;
+    Ok((book.is_spent(), wants))
 }
 
 #[test]
 fn books(rt: HostRuntime) -> Result<(), Fail> {
-    let mut book = Book::new(rt.alloc());
-    let message = message_of(rt.alloc())?;
-    let wants = book.set(&message.field, &message.value).is_err();
-    assert_eq!(rt; book.is_spent(), wants);
+    let (spent, wants) = book_told(rt.alloc())?;
+    assert_eq!(rt; spent, wants);
     Ok(())
 }
 
@@ -97,12 +163,26 @@ fn wants_to_receive<G: Ledger>(blank: Blank, device: &mut Device, batch: &[Messa
     }
 }
 
+/// Whether a device finds no memory for a message.
+fn wants_in_device(alloc: Global, device: &mut Device) -> Result<bool, Fail>
+    requires live { device.old.spent ≡ false }
+    requires idle { device.old.batch ≡ [] }
+{
+    let batch = [message_of(alloc)?];
+    Ok(wants_to_receive::<Brand>(Blank::new(1), device, &batch))
+}
+
+/// Whether a device is spent by a message, and whether it found no memory.
+fn receive_told(alloc: Global) -> Result<(bool, bool), Fail> {
+    let mut device = device_of(alloc)?;
+    let wants = wants_in_device(alloc, &mut device)?;
+    Ok((device.is_spent(), wants))
+}
+
 #[test]
 fn devices_that_receive(rt: HostRuntime) -> Result<(), Fail> {
-    let mut device = device_of(rt.alloc())?;
-    let batch = [message_of(rt.alloc())?];
-    let wants = wants_to_receive::<Brand>(Blank::new(1), &mut device, &batch);
-    assert_eq!(rt; device.is_spent(), wants);
+    let (spent, wants) = receive_told(rt.alloc())?;
+    assert_eq!(rt; spent, wants);
     Ok(())
 }
 
@@ -122,21 +202,34 @@ fn wants_to_edit<G: Ledger>(blank: Blank, device: &mut Device, edit: &Edit) -> b
     }
 }
 
+/// An edit that adds a payee.
+fn payee_added(alloc: Global) -> Result<Edit, Fail>
+    ensures { IfOk result IsEdit }
+{
+    let name = Txt::from_text(alloc, "Market")?;
+    Ok(Edit::Book(BookEdit::PayeeAdd { id: None, name }))
+}
+
 /// Whether a device finds no memory at a payee that is added.
 fn wants_to_add(alloc: Global, device: &mut Device) -> Result<bool, Fail>
     requires live { device.old.spent ≡ false }
     requires idle { device.old.batch ≡ [] }
 {
-    let name = Txt::from_text(alloc, "Market")?;
-    let edit = Edit::Book(BookEdit::PayeeAdd { id: None, name });
+    let edit = payee_added(alloc)?;
     Ok(wants_to_edit::<Brand>(Blank::new(1), device, &edit))
+}
+
+/// Whether a device is spent by an edit, and whether it found no memory.
+fn edit_told(alloc: Global) -> Result<(bool, bool), Fail> {
+    let mut device = device_of(alloc)?;
+    let wants = wants_to_add(alloc, &mut device)?;
+    Ok((device.is_spent(), wants))
 }
 
 #[test]
 fn devices_that_edit(rt: HostRuntime) -> Result<(), Fail> {
-    let mut device = device_of(rt.alloc())?;
-    let wants = wants_to_add(rt.alloc(), &mut device)?;
-    assert_eq!(rt; device.is_spent(), wants);
+    let (spent, wants) = edit_told(rt.alloc())?;
+    assert_eq!(rt; spent, wants);
     Ok(())
 }
 
@@ -151,14 +244,40 @@ fn record_of(alloc: Global, key: &str) -> Result<Record, Fail>
     })
 }
 
+/// Whether a keeper finds no memory for two records.
+fn wants_to_append(alloc: Global, keeper: &mut MemoryKeeper, group: &Txt) -> Result<bool, Fail> {
+    let batch = [record_of(alloc, "a")?, record_of(alloc, "b")?];
+    Ok(keeper.append(group, &batch).is_err())
+}
+
+/// How many records a keeper has.
+fn count_of(alloc: Global, keeper: &mut MemoryKeeper, group: &Txt) -> Result<usize, Fail> {
+    let none = Txt::from_text(alloc, "")?;
+    let records = keeper.since(group, &none)?;
+    Ok(records.len())
+}
+
+/// Whether a keeper found no memory for two records of a group, and how many it has then.
+fn group_told(
+    alloc: Global,
+    keeper: &mut MemoryKeeper,
+    group: &Txt,
+) -> Result<(bool, usize), Fail> {
+    let wants = wants_to_append(alloc, keeper, group)?;
+    let count = count_of(alloc, keeper, group)?;
+    Ok((wants, count))
+}
+
+/// The same of a new keeper.
+fn keeper_told(alloc: Global) -> Result<(bool, usize), Fail> {
+    let group = Txt::from_text(alloc, "home")?;
+    let mut keeper = MemoryKeeper::new(alloc);
+    group_told(alloc, &mut keeper, &group)
+}
+
 #[test]
 fn keepers(rt: HostRuntime) -> Result<(), Fail> {
-    let mut keeper = MemoryKeeper::new(rt.alloc());
-    let group = Txt::from_text(rt.alloc(), "home")?;
-    let none = Txt::from_text(rt.alloc(), "")?;
-    let batch = [record_of(rt.alloc(), "a")?, record_of(rt.alloc(), "b")?];
-    let wants = keeper.append(&group, &batch).is_err();
-    let records = keeper.since(&group, &none)?;
-    assert_eq!(rt; records.len(), if wants { 0 } else { 2 });
+    let (wants, count) = keeper_told(rt.alloc())?;
+    assert_eq!(rt; count, if wants { 0 } else { 2 });
     Ok(())
 }

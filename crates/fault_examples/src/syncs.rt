@@ -1,12 +1,11 @@
 //! The run of a device with a sync of two turns, while a call of the link or of the keeper fails.
-use crate::contents::{bytes_of, contents_of};
-use crate::running::ended;
+use crate::contents::{bytes_of, holds};
+use crate::running::{NEVER, ended};
 use crate::short::{ShortKeeper, ShortLink};
 use budget_ports::{Keeper, Link, MemoryDoor, MemoryKeeper, MemorySink, MemorySource, ScriptLink};
 use field_values::Items;
 use std::alloc::Global;
 use std::collections::VecDeque;
-use std::str;
 use std::test::Fail;
 
 /// A device makes a message, syncs, and tells what it has. A `>` is a TAB.
@@ -76,6 +75,12 @@ const KEEPER_WANTS: [(u64, u8, usize, usize, usize); 7] = [
     (6, 0, 0, 272, 3),
 ];
 
+/// Which of the outputs is meant to be written, how many bytes of it, and what is meant to be kept.
+type Meant = (usize, usize, usize);
+
+/// How a run ended, and whether it wrote what is meant and whether that is kept which is meant.
+type Told = (u8, bool, bool);
+
 /// The replies, in order.
 fn replies(alloc: Global) -> Result<VecDeque<Items<u8>>, Fail> {
     let mut replies = VecDeque::new(alloc);
@@ -85,20 +90,25 @@ fn replies(alloc: Global) -> Result<VecDeque<Items<u8>>, Fail> {
     Ok(replies)
 }
 
-/// The status of a run over a keeper, a sink and a link.
-fn status_over<K: Keeper, L: Link>(
+/// The device's lines.
+fn input_of(alloc: Global) -> Result<Vec<u8>, Fail> {
+    let lines = LINES.replace(alloc, '>', "\t")?;
+    Ok(lines.as_bytes().to_vec(alloc)?)
+}
+
+/// The status of a run over a keeper, a sink, a link and a source.
+fn status_from<K: Keeper, L: Link>(
     alloc: Global,
     keeper: &mut K,
     sink: &mut MemorySink,
     link: &mut L,
+    source: &mut MemorySource,
 ) -> Result<u8, Fail> {
-    let lines = LINES.replace(alloc, '>', "\t")?;
-    let mut source = MemorySource::new(alloc, lines.as_bytes().to_vec(alloc)?);
     let mut door = MemoryDoor::new(alloc, Vec::new(alloc), Vec::new(alloc), 0)?;
     ended(
         alloc,
         "device --node aa",
-        &mut source,
+        source,
         sink,
         keeper,
         link,
@@ -106,17 +116,15 @@ fn status_over<K: Keeper, L: Link>(
     )
 }
 
-/// How a run ended over a keeper and a link, what it wrote, and what is kept.
-fn told<K: Keeper, L: Link>(
+/// The status of a run over a keeper, a sink and a link.
+fn status_over<K: Keeper, L: Link>(
     alloc: Global,
     keeper: &mut K,
+    sink: &mut MemorySink,
     link: &mut L,
-) -> Result<(u8, String, String), Fail> {
-    let mut sink = MemorySink::new(alloc, 2000)?;
-    let status = status_over(alloc, keeper, &mut sink, link)?;
-    let output = String::from_str(alloc, str::from_utf8(sink.written()).unwrap_or("no text"))?;
-    let contents = contents_of(alloc, keeper, "device", "synced/home/home")?;
-    Ok((status, output, contents))
+) -> Result<u8, Fail> {
+    let mut source = MemorySource::new(alloc, input_of(alloc)?);
+    status_from(alloc, keeper, sink, link, &mut source)
 }
 
 /// The first bytes of the output with this number.
@@ -135,67 +143,117 @@ fn contents_at(number: usize) -> &'static str {
     }
 }
 
+/// How a run ended over a keeper and a link, and whether it wrote this.
+fn written<K: Keeper, L: Link>(
+    alloc: Global,
+    keeper: &mut K,
+    link: &mut L,
+    output: &str,
+) -> Result<(u8, bool), Fail> {
+    let mut sink = MemorySink::new(alloc, 2000)?;
+    let status = status_over(alloc, keeper, &mut sink, link)?;
+    Ok((status, sink.written() == output.as_bytes()))
+}
+
+/// What a run comes to over a keeper and a link.
+fn told<K: Keeper, L: Link>(
+    alloc: Global,
+    keeper: &mut K,
+    link: &mut L,
+    meant: Meant,
+) -> Result<Told, Fail> {
+    let (status, written) = written(alloc, keeper, link, output_at(meant.0, meant.1))?;
+    let contents = contents_at(meant.2);
+    let kept = holds(alloc, keeper, "device", "synced/home/home", contents)?;
+    Ok((status, written, kept))
+}
+
+/// The link, of which this call fails.
+fn link_of(alloc: Global, call: u64) -> Result<ScriptLink, Fail> {
+    let replies = replies(alloc)?;
+    let fails = [call].to_vec(alloc)?;
+    Ok(ScriptLink::with_faults(alloc, replies, fails))
+}
+
+/// What a run comes to over a keeper, of which this call of the link fails.
+fn told_over<K: Keeper>(
+    alloc: Global,
+    keeper: &mut K,
+    call: u64,
+    meant: Meant,
+) -> Result<Told, Fail> {
+    let mut link = link_of(alloc, call)?;
+    told(alloc, keeper, &mut link, meant)
+}
+
+/// What a run comes to of which this call of the link fails.
+fn told_of_link(alloc: Global, call: u64, meant: Meant) -> Result<Told, Fail> {
+    let mut keeper = MemoryKeeper::new(alloc);
+    told_over(alloc, &mut keeper, call, meant)
+}
+
 #[test]
 fn tells_that_the_link_failed(rt: HostRuntime) -> Result<(), Fail> {
     for (call, status, output, bytes, contents) in LINK {
-        let mut keeper = MemoryKeeper::new(rt.alloc());
-        let fails = [call].to_vec(rt.alloc())?;
-        let mut link = ScriptLink::with_faults(rt.alloc(), replies(rt.alloc())?, fails);
-        let (ended, told, kept) = told(rt.alloc(), &mut keeper, &mut link)?;
-        assert_eq!(rt;
-            (ended, told.as_str()),
-            (status, output_at(output, bytes)),
-            "at {call}"
-        );
-        assert_eq!(rt; kept.as_str(), contents_at(contents), "at {call}");
+        let told = told_of_link(rt.alloc(), call, (output, bytes, contents))?;
+        assert_eq!(rt; told, (status, true, true), "at {call}");
     }
     Ok(())
+}
+
+/// What a run comes to of which this call of the keeper fails.
+fn told_of_keeper(alloc: Global, call: u64, meant: Meant) -> Result<Told, Fail> {
+    let fails = [call].to_vec(alloc)?;
+    let mut keeper = MemoryKeeper::with_faults(alloc, fails);
+    told_over(alloc, &mut keeper, NEVER, meant)
 }
 
 #[test]
 fn tells_that_the_keeper_failed(rt: HostRuntime) -> Result<(), Fail> {
     for (call, status, output, bytes, contents) in KEEPER {
-        let mut keeper = MemoryKeeper::with_faults(rt.alloc(), [call].to_vec(rt.alloc())?);
-        let mut link = ScriptLink::new(rt.alloc(), replies(rt.alloc())?);
-        let (ended, told, kept) = told(rt.alloc(), &mut keeper, &mut link)?;
-        assert_eq!(rt;
-            (ended, told.as_str()),
-            (status, output_at(output, bytes)),
-            "at {call}"
-        );
-        assert_eq!(rt; kept.as_str(), contents_at(contents), "at {call}");
+        let told = told_of_keeper(rt.alloc(), call, (output, bytes, contents))?;
+        assert_eq!(rt; told, (status, true, true), "at {call}");
     }
     Ok(())
+}
+
+/// What a run comes to over a keeper, of which this call of the link finds no memory.
+fn told_over_wants<K: Keeper>(
+    alloc: Global,
+    keeper: &mut K,
+    call: u64,
+    meant: Meant,
+) -> Result<Told, Fail> {
+    let mut link = ShortLink::new(alloc, replies(alloc)?, call);
+    told(alloc, keeper, &mut link, meant)
+}
+
+/// What a run comes to of which this call of the link finds no memory.
+fn told_of_link_wants(alloc: Global, call: u64, meant: Meant) -> Result<Told, Fail> {
+    let mut keeper = MemoryKeeper::new(alloc);
+    told_over_wants(alloc, &mut keeper, call, meant)
 }
 
 #[test]
 fn tells_that_the_link_wants_memory(rt: HostRuntime) -> Result<(), Fail> {
     for (call, status, output, bytes, contents) in LINK_WANTS {
-        let mut keeper = MemoryKeeper::new(rt.alloc());
-        let mut link = ShortLink::new(rt.alloc(), replies(rt.alloc())?, call);
-        let (ended, told, kept) = told(rt.alloc(), &mut keeper, &mut link)?;
-        assert_eq!(rt;
-            (ended, told.as_str()),
-            (status, output_at(output, bytes)),
-            "at {call}"
-        );
-        assert_eq!(rt; kept.as_str(), contents_at(contents), "at {call}");
+        let told = told_of_link_wants(rt.alloc(), call, (output, bytes, contents))?;
+        assert_eq!(rt; told, (status, true, true), "at {call}");
     }
     Ok(())
+}
+
+/// What a run comes to of which this call of the keeper finds no memory.
+fn told_of_keeper_wants(alloc: Global, call: u64, meant: Meant) -> Result<Told, Fail> {
+    let mut keeper = ShortKeeper::new(alloc, call);
+    told_over(alloc, &mut keeper, NEVER, meant)
 }
 
 #[test]
 fn tells_that_the_keeper_wants_memory(rt: HostRuntime) -> Result<(), Fail> {
     for (call, status, output, bytes, contents) in KEEPER_WANTS {
-        let mut keeper = ShortKeeper::new(rt.alloc(), call);
-        let mut link = ScriptLink::new(rt.alloc(), replies(rt.alloc())?);
-        let (ended, told, kept) = told(rt.alloc(), &mut keeper, &mut link)?;
-        assert_eq!(rt;
-            (ended, told.as_str()),
-            (status, output_at(output, bytes)),
-            "at {call}"
-        );
-        assert_eq!(rt; kept.as_str(), contents_at(contents), "at {call}");
+        let told = told_of_keeper_wants(rt.alloc(), call, (output, bytes, contents))?;
+        assert_eq!(rt; told, (status, true, true), "at {call}");
     }
     Ok(())
 }

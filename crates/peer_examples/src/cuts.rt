@@ -73,11 +73,16 @@ fn add_syncs(
     Ok(())
 }
 
+/// Adds what a device comes to over a link.
+fn add_over(text: &mut String, alloc: Global, link: &mut ScriptLink) -> Result<(), Fail> {
+    let mut device = device_of(alloc, b"aa", KEPT_BY_ONE)?;
+    add_syncs(text, alloc, &mut device, link)
+}
+
 /// Adds what a device comes to whose first reply breaks off behind so many bytes.
 fn add_cut(text: &mut String, alloc: Global, reply: &[u8], count: usize) -> Result<(), Fail> {
     let mut link = link_of(alloc, reply, count)?;
-    let mut device = device_of(alloc, b"aa", KEPT_BY_ONE)?;
-    add_syncs(text, alloc, &mut device, &mut link)
+    add_over(text, alloc, &mut link)
 }
 
 /// The device has its two messages still, and gets the other two by the next sync.

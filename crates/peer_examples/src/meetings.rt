@@ -81,11 +81,19 @@ fn add_meeting(
     add_device(text, alloc, other)
 }
 
+/// Adds what a device and another come to.
+fn add_other(text: &mut String, alloc: Global, one: &mut Device) -> Result<(), Fail>
+    requires live { one.old.spent ≡ false }
+    requires idle { one.old.batch ≡ [] }
+{
+    let mut other = device_of(alloc, b"bb", KEPT_BY_OTHER)?;
+    add_meeting(text, alloc, one, &mut other)
+}
+
 /// Adds what two devices come to that edited apart.
 fn add_all(text: &mut String, alloc: Global) -> Result<(), Fail> {
     let mut one = device_of(alloc, b"aa", KEPT_BY_ONE)?;
-    let mut other = device_of(alloc, b"bb", KEPT_BY_OTHER)?;
-    add_meeting(text, alloc, &mut one, &mut other)
+    add_other(text, alloc, &mut one)
 }
 
 /// The first one hands its messages in, the other one gets them and hands its own in, and the first one gets those; so both have all four.

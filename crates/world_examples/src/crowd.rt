@@ -100,6 +100,36 @@ fn make_house<G: Ledger>(
     Ok(())
 }
 
+/// A device asks for all that the server has.
+fn ask<G: Ledger>(
+    alloc: Global,
+    session: &mut WorldSession,
+    steps: &mut Steps<G>,
+    told: &mut Told,
+    device: u32,
+) -> Result<(), Fail>
+    requires { session.old.spent ≡ false }
+    ensures { OnOk result (session.new.spent ≡ false) }
+{
+    let line = format!(in alloc; "ask\t{device}\t0")?;
+    tell(session, steps, told, None, line)
+}
+
+/// The server answers a request.
+fn serve<G: Ledger>(
+    alloc: Global,
+    session: &mut WorldSession,
+    steps: &mut Steps<G>,
+    told: &mut Told,
+    request: u32,
+) -> Result<(), Fail>
+    requires { session.old.spent ≡ false }
+    ensures { OnOk result (session.new.spent ≡ false) }
+{
+    let line = format!(in alloc; "serve\t{request}")?;
+    tell(session, steps, told, None, line)
+}
+
 /// A device asks for all that the server has, is served, and takes it, at a reading of its clock.
 fn exchange<G: Ledger>(
     alloc: Global,
@@ -114,10 +144,8 @@ fn exchange<G: Ledger>(
 {
     let request = told.requests;
     let reply = told.replies;
-    let ask = format!(in alloc; "ask\t{device}\t0")?;
-    tell(session, steps, told, None, ask)?;
-    let serve = format!(in alloc; "serve\t{request}")?;
-    tell(session, steps, told, None, serve)?;
+    ask(alloc, session, steps, told, device)?;
+    serve(alloc, session, steps, told, request)?;
     let take = format!(in alloc; "take\t{device}\t{reply}\t{reading}")?;
     tell(session, steps, told, None, take)
 }
@@ -386,6 +414,19 @@ fn settle<G: Ledger>(
 }
 
 /// What is there behind it.
+fn settled<G: Ledger>(
+    alloc: Global,
+    session: &mut WorldSession,
+    steps: &mut Steps<G>,
+) -> Result<End, Fail>
+    requires { session.old.spent ≡ false }
+{
+    let mut told = Told::new(alloc);
+    let late = settle(alloc, session, steps, &mut told)?;
+    end_of(alloc, session, steps, &told, late)
+}
+
+/// The same of a world of its own.
 fn played<G: Ledger>(blank: Blank, alloc: Global) -> Result<End, Fail>
     requires name { blank.name ≡ G.name }
     requires parts { blank.parts ≡ G.parts }
@@ -393,9 +434,7 @@ fn played<G: Ledger>(blank: Blank, alloc: Global) -> Result<End, Fail>
 {
     let mut session = WorldSession::new(alloc);
     let mut steps = Steps::<G>::new(blank);
-    let mut told = Told::new(alloc);
-    let late = settle(alloc, &mut session, &mut steps, &mut told)?;
-    end_of(alloc, &mut session, &mut steps, &told, late)
+    settled(alloc, &mut session, &mut steps)
 }
 
 /// The same with a counter of steps that nobody reads.

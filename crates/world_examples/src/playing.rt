@@ -117,20 +117,39 @@ fn two_nodes(alloc: Global) -> Result<Vec<Node>, Fail>
     Ok(nodes)
 }
 
+/// A world of two devices.
+fn world_of(alloc: Global) -> Result<World, Fail>
+    ensures { IfOk result (λ w. IsPlayed w 0) }
+{
+    let nodes = two_nodes(alloc)?;
+    Ok(World::new(alloc, nodes.as_slice())?)
+}
+
+/// Adds what the events come to, and what is there then.
+fn add_all<G: Ledger>(
+    text: &mut String,
+    alloc: Global,
+    world: &mut World,
+    steps: &mut Steps<G>,
+) -> Result<(), Fail>
+    requires { IsPlayed world.old 0 }
+{
+    play(alloc, world, steps, text)?;
+    add_device(text, alloc, world, 1)?;
+    add_device(text, alloc, world, 2)?;
+    add_server(text, alloc, world)
+}
+
 /// What the events come to, and what is there then.
 fn played<G: Ledger>(blank: Blank, alloc: Global) -> Result<String, Fail>
     requires name { blank.name ≡ G.name }
     requires parts { blank.parts ≡ G.parts }
     requires some { 1 ≤ G.parts }
 {
-    let nodes = two_nodes(alloc)?;
-    let mut world = World::new(alloc, nodes.as_slice())?;
+    let mut world = world_of(alloc)?;
     let mut steps = Steps::<G>::new(blank);
     let mut text = String::new(alloc);
-    play(alloc, &mut world, &mut steps, &mut text)?;
-    add_device(&mut text, alloc, &world, 1)?;
-    add_device(&mut text, alloc, &world, 2)?;
-    add_server(&mut text, alloc, &world)?;
+    add_all(&mut text, alloc, &mut world, &mut steps)?;
     Ok(text)
 }
 

@@ -1,5 +1,0 @@
-use Rattle.fault_examples.proofs.spent.devices_that_receive.Given as goal
-
--- the counter's ledger is the blank one's
-abbrev pub ghosts-wants_to_receive : goal.ghosts-wants_to_receive
-ghosts-wants_to_receive g a = record { name = a.blank.name; parts = a.blank.parts }
