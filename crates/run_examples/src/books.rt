@@ -83,8 +83,8 @@ register>bank = ok 3|t3>->0>->-|t1>20240102>100000>pay>-|t2>20240110>-35000>food
 #[test]
 fn months(rt: HostRuntime) -> Result<(), Fail> {
     for table in MONTHS {
-        let (told, meant) = talk(rt.alloc(), &[HOUSE, table])?;
-        assert_eq!(rt; told.as_str(), meant.as_str());
+        let wrong = talk(rt.alloc(), &[HOUSE, table])?;
+        assert_eq!(rt; wrong.as_str(), "");
     }
     Ok(())
 }
@@ -169,8 +169,8 @@ cell>2024-01>to-budget = ok 1|0",
 #[test]
 fn alone(rt: HostRuntime) -> Result<(), Fail> {
     for table in ALONE {
-        let (told, meant) = talk(rt.alloc(), &[table])?;
-        assert_eq!(rt; told.as_str(), meant.as_str());
+        let wrong = talk(rt.alloc(), &[table])?;
+        assert_eq!(rt; wrong.as_str(), "");
     }
     Ok(())
 }

@@ -151,7 +151,7 @@ value>categories>food>tombstone = ok 1|N:1",
 
 #[test]
 fn checks(rt: HostRuntime) -> Result<(), Fail> {
-    let (told, meant) = talk(rt.alloc(), CHECKS.as_slice())?;
-    assert_eq!(rt; told.as_str(), meant.as_str());
+    let wrong = talk(rt.alloc(), CHECKS.as_slice())?;
+    assert_eq!(rt; wrong.as_str(), "");
     Ok(())
 }

@@ -668,8 +668,8 @@ rule-add>a9>none>and>[]>[{"op":null,"field":"notes","value":"x"}] = refused E19 
 #[test]
 fn conditions(rt: HostRuntime) -> Result<(), Fail> {
     for table in TABLES {
-        let (told, meant) = talk(rt.alloc(), &[table])?;
-        assert_eq!(rt; told.as_str(), meant.as_str());
+        let wrong = talk(rt.alloc(), &[table])?;
+        assert_eq!(rt; wrong.as_str(), "");
     }
     Ok(())
 }

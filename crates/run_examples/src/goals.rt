@@ -211,8 +211,8 @@ cell>2024-01>to-budget = ok 1|-500",
 #[test]
 fn months_are_filled(rt: HostRuntime) -> Result<(), Fail> {
     for table in FILLED {
-        let (told, meant) = talk(rt.alloc(), &[HOUSE, table])?;
-        assert_eq!(rt; told.as_str(), meant.as_str());
+        let wrong = talk(rt.alloc(), &[HOUSE, table])?;
+        assert_eq!(rt; wrong.as_str(), "");
     }
     Ok(())
 }

@@ -210,8 +210,8 @@ track>2024-01>food>1 = refused E5 no-such-category food",
 #[test]
 fn categories_are_handed_on(rt: HostRuntime) -> Result<(), Fail> {
     for table in HANDED {
-        let (told, meant) = talk(rt.alloc(), &[HOUSE, table])?;
-        assert_eq!(rt; told.as_str(), meant.as_str());
+        let wrong = talk(rt.alloc(), &[HOUSE, table])?;
+        assert_eq!(rt; wrong.as_str(), "");
     }
     Ok(())
 }
@@ -393,8 +393,8 @@ import>bank>date,payee,amount\n2024-03-05,Shop Ltd,-5\n = ok 1|writes 0",
 #[test]
 fn payees_are_merged(rt: HostRuntime) -> Result<(), Fail> {
     for table in MERGED {
-        let (told, meant) = talk(rt.alloc(), &[SHOPS, table])?;
-        assert_eq!(rt; told.as_str(), meant.as_str());
+        let wrong = talk(rt.alloc(), &[SHOPS, table])?;
+        assert_eq!(rt; wrong.as_str(), "");
     }
     Ok(())
 }

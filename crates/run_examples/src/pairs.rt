@@ -83,8 +83,8 @@ broken = ok 0",
 #[test]
 fn splits(rt: HostRuntime) -> Result<(), Fail> {
     for table in SPLITS {
-        let (told, meant) = talk(rt.alloc(), &[SPLIT, table])?;
-        assert_eq!(rt; told.as_str(), meant.as_str());
+        let wrong = talk(rt.alloc(), &[SPLIT, table])?;
+        assert_eq!(rt; wrong.as_str(), "");
     }
     Ok(())
 }
@@ -163,8 +163,8 @@ broken = ok 1|transfer 2024-01-05T10:00:00.000Z-000D-00000000000000aa",
 #[test]
 fn pairs(rt: HostRuntime) -> Result<(), Fail> {
     for table in PAIRS {
-        let (told, meant) = talk(rt.alloc(), &[PAIR, table])?;
-        assert_eq!(rt; told.as_str(), meant.as_str());
+        let wrong = talk(rt.alloc(), &[PAIR, table])?;
+        assert_eq!(rt; wrong.as_str(), "");
     }
     Ok(())
 }
@@ -259,8 +259,8 @@ broken = ok 6|transfer a|transfer b|transfer c|transfer d|split f 100|split g -7
 #[test]
 fn refused(rt: HostRuntime) -> Result<(), Fail> {
     for table in REFUSED {
-        let (told, meant) = talk(rt.alloc(), &[table])?;
-        assert_eq!(rt; told.as_str(), meant.as_str());
+        let wrong = talk(rt.alloc(), &[table])?;
+        assert_eq!(rt; wrong.as_str(), "");
     }
     Ok(())
 }

@@ -63,8 +63,8 @@ note>a>\x = refused E30 bad-command 2";
 #[test]
 fn reads(rt: HostRuntime) -> Result<(), Fail> {
     for table in [READS, PARTS] {
-        let (told, meant) = talk(rt.alloc(), &[table])?;
-        assert_eq!(rt; told.as_str(), meant.as_str());
+        let wrong = talk(rt.alloc(), &[table])?;
+        assert_eq!(rt; wrong.as_str(), "");
     }
     Ok(())
 }
@@ -85,7 +85,7 @@ cell>2199-12>to-budget = ok 1|45000";
 
 #[test]
 fn cells(rt: HostRuntime) -> Result<(), Fail> {
-    let (told, meant) = talk(rt.alloc(), &[HOUSE, CELLS])?;
-    assert_eq!(rt; told.as_str(), meant.as_str());
+    let wrong = talk(rt.alloc(), &[HOUSE, CELLS])?;
+    assert_eq!(rt; wrong.as_str(), "");
     Ok(())
 }

@@ -108,8 +108,8 @@ rules-run>t = refused E7 no-such-transaction t"#,
 #[test]
 fn rules(rt: HostRuntime) -> Result<(), Fail> {
     for table in TABLES {
-        let (told, meant) = talk(rt.alloc(), &[SHOP, table])?;
-        assert_eq!(rt; told.as_str(), meant.as_str());
+        let wrong = talk(rt.alloc(), &[SHOP, table])?;
+        assert_eq!(rt; wrong.as_str(), "");
     }
     Ok(())
 }

@@ -1,7 +1,9 @@
 //! Runs of `merge`, of devices and of a server, also while calls fail.
-use crate::table::{DEVICE, Run, T0, outcome};
+ghost use Rattle.std.specs.Prelude.{◌<◌, length, IfOk};
+
+use crate::table::{DEVICE, Run, T0, outcome, run_of};
 use budget_ports::{Keeper, MemoryKeeper, PortFault, Record};
-use field_values::Txt;
+use field_values::{NoMemory, Txt};
 use std::alloc::Global;
 use std::test::Fail;
 
@@ -52,13 +54,7 @@ const MERGES: [(&str, u8, &str); 9] = [
 #[test]
 fn merges(rt: HostRuntime) -> Result<(), Fail> {
     for (input, status, output) in MERGES {
-        let run = Run {
-            words: "merge",
-            input,
-            ..DEVICE
-        };
-        let mut keeper = MemoryKeeper::new(rt.alloc());
-        let (ended, told) = outcome(rt.alloc(), &mut keeper, &run)?;
+        let (ended, told) = run_of(rt.alloc(), "merge", input)?;
         assert_eq!(rt; (ended, told.as_str()), (status, output), "at {input}");
     }
     Ok(())
@@ -75,13 +71,7 @@ fn refuses_words(rt: HostRuntime) -> Result<(), Fail> {
         "generate --count 100001",
         "world x",
     ] {
-        let run = Run {
-            words,
-            input: FOOD,
-            ..DEVICE
-        };
-        let mut keeper = MemoryKeeper::new(rt.alloc());
-        let (ended, told) = outcome(rt.alloc(), &mut keeper, &run)?;
+        let (ended, told) = run_of(rt.alloc(), words, FOOD)?;
         assert_eq!(rt; (ended, told.as_str()), (2, ""), "at {words}");
     }
     Ok(())
@@ -103,7 +93,8 @@ pub(crate) fn failing(
     input: &'static str,
     row: &Failing,
 ) -> Result<(u8, String), Fail> {
-    let mut keeper = MemoryKeeper::with_faults(alloc, row.2.to_vec(alloc)?);
+    let fails = row.2.to_vec(alloc)?;
+    let mut keeper = MemoryKeeper::with_faults(alloc, fails);
     let run = Run {
         words,
         input,
@@ -187,19 +178,75 @@ fn device<'a>(input: &'a str, sink_fails: &'a [u64], reading: u64) -> Run<'a> {
     }
 }
 
+/// The status of a run over a keeper, and whether it wrote this.
+fn tells(
+    alloc: Global,
+    keeper: &mut MemoryKeeper,
+    run: &Run<'_>,
+    output: &str,
+) -> Result<(u8, bool), Fail> {
+    let (status, told) = outcome(alloc, keeper, run)?;
+    Ok((status, told.as_str() == output))
+}
+
+/// How a run ended whose keeper failed behind the first line, and whether it wrote the answer to that line alone; and how a later run ended
+/// over this keeper, and whether it has the edit of that line alone.
+fn both_tell(alloc: Global) -> Result<((u8, bool), (u8, bool)), Fail> {
+    let fails = [2].to_vec(alloc)?;
+    let mut keeper = MemoryKeeper::with_faults(alloc, fails);
+    let first = tells(
+        alloc,
+        &mut keeper,
+        &device(SETS, &[], T0),
+        "ok 1\nwrites 1\n",
+    )?;
+    let second = tells(
+        alloc,
+        &mut keeper,
+        &device("messages\t\n", &[], T0),
+        "ok 1\n2024-01-05T10:00:00.000Z-0000-00000000000000aa\tcategories\tfood\tname\tS:Food\n",
+    )?;
+    Ok((first, second))
+}
+
 /// The second append fails, so a later run has the first edit alone.
 #[test]
 fn keeps_what_was_answered(rt: HostRuntime) -> Result<(), Fail> {
-    let mut keeper = MemoryKeeper::with_faults(rt.alloc(), [2].to_vec(rt.alloc())?);
-    let (ended, told) = outcome(rt.alloc(), &mut keeper, &device(SETS, &[], T0))?;
-    assert_eq!(rt; (ended, told.as_str()), (6, "ok 1\nwrites 1\n"));
-    let (ended, told) = outcome(rt.alloc(), &mut keeper, &device("messages\t\n", &[], T0))?;
-    assert_eq!(rt; ended, 0);
-    assert_eq!(rt;
-        told.as_str(),
-        "ok 1\n2024-01-05T10:00:00.000Z-0000-00000000000000aa\tcategories\tfood\tname\tS:Food\n"
-    );
+    let told = both_tell(rt.alloc())?;
+    assert_eq!(rt; told, ((6, true), (0, true)));
     Ok(())
+}
+
+/// A record with a key.
+fn record_of(alloc: Global, key: &str, body: &str) -> Result<Record, NoMemory>
+    requires { 0 < length key.now }
+    ensures { IfOk result (λ r. 0 < length r.key) }
+{
+    Ok(Record {
+        key: Txt::from_text(alloc, key)?,
+        body: Txt::from_text(alloc, body)?,
+    })
+}
+
+/// Keeps two records in a group, of which the later one stands first.
+fn keep_both(
+    alloc: Global,
+    keeper: &mut MemoryKeeper,
+    group: &Txt,
+    first: &str,
+    second: &str,
+) -> Result<(), PortFault> {
+    let second = record_of(
+        alloc,
+        "2024-01-05T10:00:01.000Z-0000-00000000000000bb",
+        second,
+    )?;
+    let first = record_of(
+        alloc,
+        "2024-01-05T10:00:00.000Z-0000-00000000000000aa",
+        first,
+    )?;
+    keeper.append(group, &[second, first])
 }
 
 /// Keeps two records of the device, of which the later one stands first.
@@ -210,15 +257,7 @@ fn keep(
     second: &str,
 ) -> Result<(), PortFault> {
     let group = Txt::from_text(alloc, "device")?;
-    let second = Record {
-        key: Txt::from_text(alloc, "2024-01-05T10:00:01.000Z-0000-00000000000000bb")?,
-        body: Txt::from_text(alloc, second)?,
-    };
-    let first = Record {
-        key: Txt::from_text(alloc, "2024-01-05T10:00:00.000Z-0000-00000000000000aa")?,
-        body: Txt::from_text(alloc, first)?,
-    };
-    keeper.append(&group, &[second, first])
+    keep_both(alloc, keeper, &group, first, second)
 }
 
 /// The bodies of both records, the status of a run that begins with them, and what it writes when it is asked for all messages. A record
@@ -258,37 +297,49 @@ const RECORDS: [(&str, &str, u8, &str); 7] = [
     ),
 ];
 
+/// The status and the text of a run that begins with two records.
+fn begun(alloc: Global, first: &str, second: &str) -> Result<(u8, String), Fail> {
+    let mut keeper = MemoryKeeper::new(alloc);
+    keep(alloc, &mut keeper, first, second)?;
+    outcome(alloc, &mut keeper, &device("messages\t\n", &[], T0))
+}
+
 #[test]
 fn begins_with_records(rt: HostRuntime) -> Result<(), Fail> {
     for (first, second, status, output) in RECORDS {
-        let mut keeper = MemoryKeeper::new(rt.alloc());
-        assert!(rt; keep(rt.alloc(), &mut keeper, first, second).is_ok());
-        let run = device("messages\t\n", &[], T0);
-        let (ended, told) = outcome(rt.alloc(), &mut keeper, &run)?;
+        let (ended, told) = begun(rt.alloc(), first, second)?;
         assert_eq!(rt; (ended, told.as_str()), (status, output), "at {second}");
     }
     Ok(())
 }
 
+/// Keeps a record in a group whose key is no timestamp.
+fn keep_bad_in(alloc: Global, keeper: &mut MemoryKeeper, group: &Txt) -> Result<(), PortFault> {
+    let record = record_of(alloc, "x", "categories\tfood\tname\t0:")?;
+    keeper.append(group, &[record])
+}
+
 /// Keeps a record of the device whose key is no timestamp.
 fn keep_bad(alloc: Global, keeper: &mut MemoryKeeper) -> Result<(), PortFault> {
     let group = Txt::from_text(alloc, "device")?;
-    let record = Record {
-        key: Txt::from_text(alloc, "x")?,
-        body: Txt::from_text(alloc, "categories\tfood\tname\t0:")?,
-    };
-    keeper.append(&group, &[record])
+    keep_bad_in(alloc, keeper, &group)
+}
+
+/// How a run over a bad record ended, and whether it wrote that alone; and how one ended over it whose sink fails, and whether it wrote
+/// nothing.
+fn bad_told(alloc: Global) -> Result<((u8, bool), (u8, bool)), Fail> {
+    let mut keeper = MemoryKeeper::new(alloc);
+    keep_bad(alloc, &mut keeper)?;
+    let first = tells(alloc, &mut keeper, &device(SETS, &[], T0), "bad-record 0\n")?;
+    let second = tells(alloc, &mut keeper, &device(SETS, &[0], T0), "")?;
+    Ok((first, second))
 }
 
 /// A record that keeps no message decides the status where the sink fails too.
 #[test]
 fn tells_bad_records(rt: HostRuntime) -> Result<(), Fail> {
-    let mut keeper = MemoryKeeper::new(rt.alloc());
-    assert!(rt; keep_bad(rt.alloc(), &mut keeper).is_ok());
-    let (ended, told) = outcome(rt.alloc(), &mut keeper, &device(SETS, &[], T0))?;
-    assert_eq!(rt; (ended, told.as_str()), (3, "bad-record 0\n"));
-    let (ended, told) = outcome(rt.alloc(), &mut keeper, &device(SETS, &[0], T0))?;
-    assert_eq!(rt; (ended, told.as_str()), (3, ""));
+    let told = bad_told(rt.alloc())?;
+    assert_eq!(rt; told, ((3, true), (3, true)));
     Ok(())
 }
 
@@ -321,12 +372,17 @@ const READINGS: [(u64, &str, &str); 5] = [
     ),
 ];
 
+/// What the device tells at a reading of the clock.
+fn told_at(alloc: Global, input: &str, reading: u64) -> Result<String, Fail> {
+    let mut keeper = MemoryKeeper::new(alloc);
+    let (_, told) = outcome(alloc, &mut keeper, &device(input, &[], reading))?;
+    Ok(told)
+}
+
 #[test]
 fn follows_the_clock(rt: HostRuntime) -> Result<(), Fail> {
     for (reading, input, output) in READINGS {
-        let mut keeper = MemoryKeeper::new(rt.alloc());
-        let run = device(input, &[], reading);
-        let (_, told) = outcome(rt.alloc(), &mut keeper, &run)?;
+        let told = told_at(rt.alloc(), input, reading)?;
         assert_eq!(rt; told.as_str(), output, "at {input}");
     }
     Ok(())
@@ -348,18 +404,29 @@ const SERVES: [Failing; 4] = [
     (&[], &[], &[0], 8, ""),
 ];
 
+/// The status and the text of a server's run of which these calls of the keeper, of the sink and of the door fail.
+fn served(
+    alloc: Global,
+    keeper_fails: &[u64],
+    sink_fails: &'static [u64],
+    door_fails: &'static [u64],
+) -> Result<(u8, String), Fail> {
+    let fails = keeper_fails.to_vec(alloc)?;
+    let mut keeper = MemoryKeeper::with_faults(alloc, fails);
+    let run = Run {
+        words: "serve --count 3",
+        connections: CONNECTIONS.as_slice(),
+        sink_fails,
+        door_fails,
+        ..DEVICE
+    };
+    outcome(alloc, &mut keeper, &run)
+}
+
 #[test]
 fn serves(rt: HostRuntime) -> Result<(), Fail> {
     for (keeper_fails, sink_fails, door_fails, status, output) in SERVES {
-        let mut keeper = MemoryKeeper::with_faults(rt.alloc(), keeper_fails.to_vec(rt.alloc())?);
-        let run = Run {
-            words: "serve --count 3",
-            connections: CONNECTIONS.as_slice(),
-            sink_fails,
-            door_fails,
-            ..DEVICE
-        };
-        let (ended, told) = outcome(rt.alloc(), &mut keeper, &run)?;
+        let (ended, told) = served(rt.alloc(), keeper_fails, sink_fails, door_fails)?;
         assert_eq!(rt; (ended, told.as_str()), (status, output));
     }
     Ok(())

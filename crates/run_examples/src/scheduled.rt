@@ -122,8 +122,8 @@ schedule-delete>s = refused E20 no-such-schedule s"#,
 #[test]
 fn schedules(rt: HostRuntime) -> Result<(), Fail> {
     for table in TABLES {
-        let (told, meant) = talk(rt.alloc(), &[BANK, table])?;
-        assert_eq!(rt; told.as_str(), meant.as_str());
+        let wrong = talk(rt.alloc(), &[BANK, table])?;
+        assert_eq!(rt; wrong.as_str(), "");
     }
     Ok(())
 }

@@ -270,8 +270,8 @@ schedule-post>s = ok 2|writes 5|made 2024-01-05T10:00:00.000Z-0053-0000000000000
 #[test]
 fn scores(rt: HostRuntime) -> Result<(), Fail> {
     for table in TABLES {
-        let (told, meant) = talk(rt.alloc(), &[table])?;
-        assert_eq!(rt; told.as_str(), meant.as_str());
+        let wrong = talk(rt.alloc(), &[table])?;
+        assert_eq!(rt; wrong.as_str(), "");
     }
     Ok(())
 }

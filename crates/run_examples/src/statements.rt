@@ -98,8 +98,8 @@ value>payees>2024-01-05T10:00:00.000Z-001F-00000000000000aa>name = ok 1|S:Baker"
 #[test]
 fn statements(rt: HostRuntime) -> Result<(), Fail> {
     for table in TABLES {
-        let (told, meant) = talk(rt.alloc(), &[BANK, table])?;
-        assert_eq!(rt; told.as_str(), meant.as_str());
+        let wrong = talk(rt.alloc(), &[BANK, table])?;
+        assert_eq!(rt; wrong.as_str(), "");
     }
     Ok(())
 }

@@ -1,14 +1,13 @@
 //! Runs of a device whose lines `sync` are answered by replies that were written before, the last one again and again.
 ghost use Rattle.std.specs.Prelude.{◌≡◌, ◌≤◌};
 
-use crate::table::T0;
+use crate::table::{T0, written_to};
 use budget_ports::{ListClock, MemoryDoor, MemoryKeeper, MemorySink, MemorySource, ScriptLink};
 use budget_top::run_in_memory;
 use field_values::{Items, Steps, Txt};
 use std::alloc::Global;
 use std::collections::VecDeque;
 use std::marker::Brand;
-use std::str;
 use std::sync::ledger::{Blank, Ledger};
 use std::test::Fail;
 
@@ -93,15 +92,20 @@ const RUNS: [Run; 7] = [
     },
 ];
 
+/// The bytes that a text stands for.
+fn bytes_of(alloc: Global, text: &str) -> Result<Vec<u8>, Fail> {
+    let mut bytes = Vec::new(alloc);
+    for letter in text.chars() {
+        bytes.push(u8::try_from(letter).unwrap_or(0))?;
+    }
+    Ok(bytes)
+}
+
 /// A link that gives the replies.
 fn link_of(alloc: Global, run: &Run) -> Result<ScriptLink, Fail> {
     let mut replies = VecDeque::new(alloc);
     for reply in run.replies {
-        let mut bytes = Vec::new(alloc);
-        for letter in reply.chars() {
-            bytes.push(u8::try_from(letter).unwrap_or(0))?;
-        }
-        replies.push_back(Items::new(bytes))?;
+        replies.push_back(Items::new(bytes_of(alloc, reply)?))?;
     }
     Ok(ScriptLink::new(alloc, replies))
 }
@@ -145,32 +149,92 @@ fn status_of<G: Ledger>(
     )
 }
 
-/// The status of a run over a sink.
-fn ended(alloc: Global, sink: &mut MemorySink, run: &Run) -> Result<u8, Fail> {
-    let words = words_of(alloc)?;
-    let mut source = MemorySource::new(alloc, run.input.as_bytes().to_vec(alloc)?);
-    let mut link = link_of(alloc, run)?;
-    let mut door = MemoryDoor::new(alloc, Vec::new(alloc), Vec::new(alloc), 0)?;
-    let mut clock = ListClock::new([run.reading].to_vec(alloc)?);
+fn source_of(alloc: Global, run: &Run) -> Result<MemorySource, Fail> {
+    let input = run.input.as_bytes().to_vec(alloc)?;
+    Ok(MemorySource::new(alloc, input))
+}
+
+fn clock_of(alloc: Global, run: &Run) -> Result<ListClock, Fail> {
+    Ok(ListClock::new([run.reading].to_vec(alloc)?))
+}
+
+/// The status of a run of these words over a source, a sink, a link and a door.
+fn ended_by(
+    alloc: Global,
+    words: &Items<Txt>,
+    source: &mut MemorySource,
+    sink: &mut MemorySink,
+    link: &mut ScriptLink,
+    door: &mut MemoryDoor,
+    run: &Run,
+) -> Result<u8, Fail> {
+    let mut clock = clock_of(alloc, run)?;
     Ok(status_of::<Brand>(
         Blank::new(1),
         alloc,
-        &words,
-        &mut source,
+        words,
+        source,
         sink,
-        &mut link,
-        &mut door,
+        link,
+        door,
         &mut clock,
     ))
+}
+
+/// The status of a run over a source, a sink, a link and a door.
+fn ended_over(
+    alloc: Global,
+    source: &mut MemorySource,
+    sink: &mut MemorySink,
+    link: &mut ScriptLink,
+    door: &mut MemoryDoor,
+    run: &Run,
+) -> Result<u8, Fail> {
+    let words = words_of(alloc)?;
+    ended_by(alloc, &words, source, sink, link, door, run)
+}
+
+/// The status of a run over a source, a sink and a link, in which nobody connects.
+fn ended_from(
+    alloc: Global,
+    source: &mut MemorySource,
+    sink: &mut MemorySink,
+    link: &mut ScriptLink,
+    run: &Run,
+) -> Result<u8, Fail> {
+    let mut door = MemoryDoor::new(alloc, Vec::new(alloc), Vec::new(alloc), 0)?;
+    ended_over(alloc, source, sink, link, &mut door, run)
+}
+
+/// The status of a run over a sink and a link.
+fn ended_with(
+    alloc: Global,
+    sink: &mut MemorySink,
+    link: &mut ScriptLink,
+    run: &Run,
+) -> Result<u8, Fail> {
+    let mut source = source_of(alloc, run)?;
+    ended_from(alloc, &mut source, sink, link, run)
+}
+
+/// The status of a run over a sink.
+fn ended(alloc: Global, sink: &mut MemorySink, run: &Run) -> Result<u8, Fail> {
+    let mut link = link_of(alloc, run)?;
+    ended_with(alloc, sink, &mut link, run)
+}
+
+/// The status of a run, and all that it wrote.
+fn outcome(alloc: Global, run: &Run) -> Result<(u8, String), Fail> {
+    let mut sink = MemorySink::new(alloc, 2_000)?;
+    let status = ended(alloc, &mut sink, run)?;
+    Ok((status, written_to(alloc, &sink)?))
 }
 
 #[test]
 fn syncs_are_told(rt: HostRuntime) -> Result<(), Fail> {
     for run in &RUNS {
-        let mut sink = MemorySink::new(rt.alloc(), 2_000)?;
-        let status = ended(rt.alloc(), &mut sink, run)?;
-        let told = str::from_utf8(sink.written()).unwrap_or("no text");
-        assert_eq!(rt; (status, told), (run.status, run.output));
+        let (status, told) = outcome(rt.alloc(), run)?;
+        assert_eq!(rt; (status, told.as_str()), (run.status, run.output));
     }
     Ok(())
 }

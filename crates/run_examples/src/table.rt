@@ -3,7 +3,7 @@ ghost use Rattle.std.specs.Prelude.{◌≡◌, ◌≤◌};
 
 use budget_ports::{ListClock, MemoryDoor, MemoryKeeper, MemorySink, MemorySource, ScriptLink};
 use budget_top::run_in_memory;
-use field_values::{Items, Steps, Txt};
+use field_values::{Items, NoMemory, Steps, Txt};
 use std::alloc::Global;
 use std::collections::VecDeque;
 use std::marker::Brand;
@@ -64,11 +64,17 @@ fn clock_of(alloc: Global, run: &Run<'_>) -> Result<ListClock, Fail> {
     Ok(ListClock::new([run.reading].to_vec(alloc)?))
 }
 
-fn door_of(alloc: Global, run: &Run<'_>) -> Result<MemoryDoor, Fail> {
+/// What each connection sends.
+fn connections_of(alloc: Global, run: &Run<'_>) -> Result<Vec<Items<u8>>, Fail> {
     let mut connections = Vec::new(alloc);
     for bytes in run.connections {
         connections.push(Items::new(bytes.to_vec(alloc)?))?;
     }
+    Ok(connections)
+}
+
+fn door_of(alloc: Global, run: &Run<'_>) -> Result<MemoryDoor, Fail> {
+    let connections = connections_of(alloc, run)?;
     let fails = run.door_fails.to_vec(alloc)?;
     let pieces = Vec::new(alloc);
     Ok(MemoryDoor::with_faults(alloc, connections, pieces, 1000, fails)?)
@@ -96,6 +102,54 @@ fn status_of<G: Ledger>(
     )
 }
 
+/// The status of a run of these words over a source, a sink, a keeper and a door.
+fn ended_by(
+    alloc: Global,
+    words: &Items<Txt>,
+    source: &mut MemorySource,
+    sink: &mut MemorySink,
+    keeper: &mut MemoryKeeper,
+    door: &mut MemoryDoor,
+    run: &Run<'_>,
+) -> Result<u8, Fail> {
+    let mut clock = clock_of(alloc, run)?;
+    Ok(status_of::<Brand>(
+        Blank::new(1),
+        alloc,
+        words,
+        source,
+        sink,
+        keeper,
+        door,
+        &mut clock,
+    ))
+}
+
+/// The status of a run over a source, a sink, a keeper and a door.
+fn ended_over(
+    alloc: Global,
+    source: &mut MemorySource,
+    sink: &mut MemorySink,
+    keeper: &mut MemoryKeeper,
+    door: &mut MemoryDoor,
+    run: &Run<'_>,
+) -> Result<u8, Fail> {
+    let words = words_of(alloc, run.words)?;
+    ended_by(alloc, &words, source, sink, keeper, door, run)
+}
+
+/// The status of a run over a source, a sink and a keeper.
+fn ended_from(
+    alloc: Global,
+    source: &mut MemorySource,
+    sink: &mut MemorySink,
+    keeper: &mut MemoryKeeper,
+    run: &Run<'_>,
+) -> Result<u8, Fail> {
+    let mut door = door_of(alloc, run)?;
+    ended_over(alloc, source, sink, keeper, &mut door, run)
+}
+
 /// The status of a run over a keeper and a sink.
 fn ended(
     alloc: Global,
@@ -103,20 +157,14 @@ fn ended(
     keeper: &mut MemoryKeeper,
     run: &Run<'_>,
 ) -> Result<u8, Fail> {
-    let words = words_of(alloc, run.words)?;
     let mut source = source_of(alloc, run)?;
-    let mut door = door_of(alloc, run)?;
-    let mut clock = clock_of(alloc, run)?;
-    Ok(status_of::<Brand>(
-        Blank::new(1),
-        alloc,
-        &words,
-        &mut source,
-        sink,
-        keeper,
-        &mut door,
-        &mut clock,
-    ))
+    ended_from(alloc, &mut source, sink, keeper, run)
+}
+
+/// All that was written to a sink.
+pub(crate) fn written_to(alloc: Global, sink: &MemorySink) -> Result<String, Fail> {
+    let text = str::from_utf8(sink.written()).unwrap_or("no text");
+    Ok(String::from_str(alloc, text)?)
 }
 
 /// The status of a run over a keeper, and all that it wrote.
@@ -127,15 +175,12 @@ pub(crate) fn outcome(
 ) -> Result<(u8, String), Fail> {
     let mut sink = sink_of(alloc, run)?;
     let status = ended(alloc, &mut sink, keeper, run)?;
-    let text = str::from_utf8(sink.written()).unwrap_or("no text");
-    Ok((status, String::from_str(alloc, text)?))
+    Ok((status, written_to(alloc, &sink)?))
 }
 
-/// A side of rows, with a TAB for each `>`, a line feed for each `|`, and 64 letters `x` for each `*`.
-fn written(alloc: Global, side: &str) -> Result<String, Fail> {
-    let tabs = side.replace(alloc, '>', "\t")?;
-    let feeds = tabs.as_str().replace(alloc, '|', "\n")?;
-    let long = feeds.as_str().replace(
+/// A side of rows with 64 letters `x` for each `*`.
+fn with_long(alloc: Global, side: &str) -> Result<String, NoMemory> {
+    let long = side.replace(
         alloc,
         '*',
         "xxxxxxxxxxxxxxxxxxxxxxxxxxxxxxxxxxxxxxxxxxxxxxxxxxxxxxxxxxxxxxxx",
@@ -143,32 +188,58 @@ fn written(alloc: Global, side: &str) -> Result<String, Fail> {
     Ok(long)
 }
 
-/// Adds the line and the reply of each row of a table.
-fn add_sides(lines: &mut String, replies: &mut String, table: &str) -> Result<(), Fail> {
+/// A side of rows with a line feed for each `|`, and 64 letters `x` for each `*`.
+fn with_feeds(alloc: Global, side: &str) -> Result<String, NoMemory> {
+    let feeds = side.replace(alloc, '|', "\n")?;
+    with_long(alloc, feeds.as_str())
+}
+
+/// A side of rows, with a TAB for each `>`, a line feed for each `|`, and 64 letters `x` for each `*`.
+fn written(alloc: Global, side: &str) -> Result<String, NoMemory> {
+    let tabs = side.replace(alloc, '>', "\t")?;
+    with_feeds(alloc, tabs.as_str())
+}
+
+/// A side of the rows `LINE = REPLY`.
+#[derive(Clone, Copy)]
+enum Side {
+    Lines,
+    Replies,
+}
+
+/// This side of a row.
+fn side_in(row: &str, side: Side) -> &str {
+    let (line, reply) = row.split_once(" = ").unwrap_or((row, ""));
+    match side {
+        Side::Lines => line,
+        Side::Replies => reply,
+    }
+}
+
+/// Adds this side of each row of a table.
+fn add_side(lines: &mut String, table: &str, side: Side) -> Result<(), NoMemory> {
     for row in table.split('\n') {
-        let (line, reply) = row.split_once(" = ").unwrap_or((row, ""));
-        lines.push_str(line)?;
-        lines.push('\n')?;
-        replies.push_str(reply)?;
-        replies.push('\n')?;
+        lines.push_str(side_in(row, side))?;
+        lines.push_str("\n")?;
     }
     Ok(())
 }
 
-/// The lines of tables whose rows are `LINE = REPLY`, and their replies.
-fn sides_of(alloc: Global, tables: &[&str]) -> Result<(String, String), Fail> {
+/// This side of tables.
+fn side_of(alloc: Global, tables: &[&str], side: Side) -> Result<String, NoMemory> {
     let mut lines = String::new(alloc);
-    let mut replies = String::new(alloc);
     for table in tables {
-        add_sides(&mut lines, &mut replies, table)?;
+        add_side(&mut lines, table, side)?;
     }
-    let lines = written(alloc, lines.as_str())?;
-    let replies = written(alloc, replies.as_str())?;
-    Ok((lines, replies))
+    written(alloc, lines.as_str())
 }
 
 /// The status and the text of a run of these words in which nothing fails.
-fn run_of<'a>(alloc: Global, words: &'a str, input: &'a str) -> Result<(u8, String), Fail> {
+pub(crate) fn run_of<'a>(
+    alloc: Global,
+    words: &'a str,
+    input: &'a str,
+) -> Result<(u8, String), Fail> {
     let mut keeper = MemoryKeeper::new(alloc);
     let run = Run {
         words,
@@ -178,22 +249,37 @@ fn run_of<'a>(alloc: Global, words: &'a str, input: &'a str) -> Result<(u8, Stri
     outcome(alloc, &mut keeper, &run)
 }
 
-/// What the device `aa` replies to the lines of the tables, one run for all of them, and what the tables say that it replies. The status
-/// tells whether a line was refused.
-pub(crate) fn talk(alloc: Global, tables: &[&str]) -> Result<(String, String), Fail> {
+/// The same of the lines of tables.
+fn run_of_lines(alloc: Global, words: &str, tables: &[&str]) -> Result<(u8, String), Fail> {
+    let lines = side_of(alloc, tables, Side::Lines)?;
+    run_of(alloc, words, lines.as_str())
+}
+
+/// What a run told otherwise than these replies, and these behind it; nothing where it told them. The status tells whether a line was refused.
+fn otherwise(alloc: Global, status: u8, told: String, replies: &str) -> Result<String, NoMemory> {
+    if told.as_str() == replies && status == u8::from(replies.contains("refused ")) {
+        return Ok(String::new(alloc));
+    }
+    let mut told = told;
+    told.push_str("instead of\n")?;
+    told.push_str(replies)?;
+    Ok(told)
+}
+
+/// What a run told otherwise than the replies of the tables; nothing where it told them.
+fn compared(alloc: Global, status: u8, told: String, tables: &[&str]) -> Result<String, NoMemory> {
+    let replies = side_of(alloc, tables, Side::Replies)?;
+    otherwise(alloc, status, told, replies.as_str())
+}
+
+/// What the device `aa` replies to the lines of the tables, one run for all of them, otherwise than the tables say that it replies; nothing
+/// where it replies what they say.
+pub(crate) fn talk(alloc: Global, tables: &[&str]) -> Result<String, Fail> {
     talk_of(alloc, DEVICE.words, tables)
 }
 
 /// The same of a run of these words.
-pub(crate) fn talk_of(
-    alloc: Global,
-    words: &str,
-    tables: &[&str],
-) -> Result<(String, String), Fail> {
-    let (lines, mut replies) = sides_of(alloc, tables)?;
-    let (status, told) = run_of(alloc, words, lines.as_str())?;
-    if status != u8::from(replies.as_str().contains("refused ")) {
-        replies.push_str("another status\n")?;
-    }
-    Ok((told, replies))
+pub(crate) fn talk_of(alloc: Global, words: &str, tables: &[&str]) -> Result<String, Fail> {
+    let (status, told) = run_of_lines(alloc, words, tables)?;
+    Ok(compared(alloc, status, told, tables)?)
 }

@@ -56,8 +56,8 @@ track-sheet>1969-12 = refused E10 bad-month 196912",
 #[test]
 fn months_are_tracked(rt: HostRuntime) -> Result<(), Fail> {
     for table in TRACKED {
-        let (told, meant) = talk(rt.alloc(), &[HOUSE, table])?;
-        assert_eq!(rt; told.as_str(), meant.as_str());
+        let wrong = talk(rt.alloc(), &[HOUSE, table])?;
+        assert_eq!(rt; wrong.as_str(), "");
     }
     Ok(())
 }

@@ -175,8 +175,8 @@ value>transactions>y>date = ok 1|N:20240202",
 #[test]
 fn undone(rt: HostRuntime) -> Result<(), Fail> {
     for table in UNDONE {
-        let (told, meant) = talk(rt.alloc(), &[table])?;
-        assert_eq!(rt; told.as_str(), meant.as_str());
+        let wrong = talk(rt.alloc(), &[table])?;
+        assert_eq!(rt; wrong.as_str(), "");
     }
     Ok(())
 }

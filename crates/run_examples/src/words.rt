@@ -85,18 +85,31 @@ fn parts_of(alloc: Global, plan: &Plan) -> Result<String, Fail> {
     Ok(format!(in alloc; "{node} {token} {file} {group} {count}")?)
 }
 
+/// A plan, with its mode first.
+fn plan_text(alloc: Global, plan: &Plan) -> Result<String, Fail> {
+    let mode = plan.mode;
+    let parts = parts_of(alloc, plan)?;
+    let listen = plan.listen.as_str();
+    let peer = plan.peer.as_str();
+    Ok(format!(in alloc; "{mode:?} {parts} {listen} {peer}")?)
+}
+
+/// The same of a copy of a plan.
+fn copy_text(alloc: Global, plan: &Plan) -> Result<String, Fail> {
+    let copy = plan.copy()?;
+    plan_text(alloc, &copy)
+}
+
+/// What is wrong of words.
+fn fault_text(alloc: Global, fault: WordFault) -> Result<String, Fail> {
+    Ok(format!(in alloc; "{fault:?}")?)
+}
+
 /// What a line asks for.
 fn shown(alloc: Global, line: &str) -> Result<String, Fail> {
     match planned(alloc, line)? {
-        Ok(made) => {
-            let plan = made.copy()?;
-            let mode = plan.mode;
-            let parts = parts_of(alloc, &plan)?;
-            let listen = plan.listen.as_str();
-            let peer = plan.peer.as_str();
-            Ok(format!(in alloc; "{mode:?} {parts} {listen} {peer}")?)
-        }
-        Err(fault) => Ok(format!(in alloc; "{fault:?}")?),
+        Ok(plan) => copy_text(alloc, &plan),
+        Err(fault) => fault_text(alloc, fault),
     }
 }
 
@@ -104,7 +117,8 @@ fn shown(alloc: Global, line: &str) -> Result<String, Fail> {
 fn rows(rt: HostRuntime) -> Result<(), Fail> {
     for row in ROWS.split('\n') {
         let (line, told) = row.split_once(" > ").unwrap_or((row, ""));
-        assert_eq!(rt; shown(rt.alloc(), line)?.as_str(), told, "{line}");
+        let shown = shown(rt.alloc(), line)?;
+        assert_eq!(rt; shown.as_str(), told, "{line}");
     }
     Ok(())
 }
@@ -116,14 +130,32 @@ fn no_words(rt: HostRuntime) -> Result<(), Fail> {
     Ok(())
 }
 
+/// A line with a token of so many letters.
+fn token_line(alloc: Global, count: u32) -> Result<String, Fail> {
+    let mut line = String::from_str(alloc, "merge --token ")?;
+    for _ in 0..count {
+        line.push_str("t")?;
+    }
+    Ok(line)
+}
+
+/// Whether a line with a token of so many letters is a plan.
+fn is_planned(alloc: Global, count: u32) -> Result<bool, Fail> {
+    let line = token_line(alloc, count)?;
+    let plan = planned(alloc, line.as_str())?;
+    Ok(plan.is_ok())
+}
+
+/// What a line with a token of so many letters asks for, or its fault.
+fn shown_token(alloc: Global, count: u32) -> Result<String, Fail> {
+    let line = token_line(alloc, count)?;
+    shown(alloc, line.as_str())
+}
+
 #[test]
 fn longest_token(rt: HostRuntime) -> Result<(), Fail> {
-    let mut line = String::from_str(rt.alloc(), "merge --token ")?;
-    for _ in 0..64 {
-        line.push('t')?;
-    }
-    assert!(rt; planned(rt.alloc(), line.as_str())?.is_ok());
-    line.push('t')?;
-    assert_eq!(rt; shown(rt.alloc(), line.as_str())?.as_str(), "Token");
+    assert!(rt; is_planned(rt.alloc(), 64)?);
+    let shown = shown_token(rt.alloc(), 65)?;
+    assert_eq!(rt; shown.as_str(), "Token");
     Ok(())
 }

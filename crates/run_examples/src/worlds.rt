@@ -79,8 +79,8 @@ take>1>0>18446744073709551615 = ok 1|received 0";
 
 #[test]
 fn worlds_are_played(rt: HostRuntime) -> Result<(), Fail> {
-    let (told, replies) = talk_of(rt.alloc(), "world", &[MEETING, STOPS, REFUSED])?;
-    assert_eq!(rt; told.as_str(), replies.as_str());
+    let wrong = talk_of(rt.alloc(), "world", &[MEETING, STOPS, REFUSED])?;
+    assert_eq!(rt; wrong.as_str(), "");
     Ok(())
 }
 

@@ -1,4 +1,4 @@
-use Rattle.run_examples.proofs.table.ended.Given as goal
+use Rattle.run_examples.proofs.syncs.ended_by.Given as goal
 
 -- the counter's ledger is the blank one's
 abbrev pub ghosts-status_of : goal.ghosts-status_of
