@@ -45,25 +45,67 @@ fn status_of<K: Keeper, G: Ledger>(
     )
 }
 
+/// The household's lines.
+fn input_of(alloc: Global) -> Result<Vec<u8>, Fail> {
+    let lines = LINES.replace(alloc, '>', "\t")?;
+    Ok(lines.as_bytes().to_vec(alloc)?)
+}
+
+fn clock_of(alloc: Global) -> Result<ListClock, Fail> {
+    Ok(ListClock::new([T0].to_vec(alloc)?))
+}
+
+/// The status of a run of these words over a source, a sink, a keeper and a door.
+fn ended_by<K: Keeper>(
+    alloc: Global,
+    words: &Items<Txt>,
+    source: &mut MemorySource,
+    sink: &mut MemorySink,
+    keeper: &mut K,
+    door: &mut MemoryDoor,
+) -> Result<u8, Fail> {
+    let mut clock = clock_of(alloc)?;
+    Ok(status_of::<K, Brand>(
+        Blank::new(1),
+        alloc,
+        words,
+        source,
+        sink,
+        keeper,
+        door,
+        &mut clock,
+    ))
+}
+
+/// The status of a run over a source, a sink, a keeper and a door.
+fn ended_over<K: Keeper>(
+    alloc: Global,
+    source: &mut MemorySource,
+    sink: &mut MemorySink,
+    keeper: &mut K,
+    door: &mut MemoryDoor,
+) -> Result<u8, Fail> {
+    let words = words_of(alloc)?;
+    ended_by(alloc, &words, source, sink, keeper, door)
+}
+
+/// The status of a run over a source, a sink and a keeper, in which nobody connects.
+fn ended_from<K: Keeper>(
+    alloc: Global,
+    source: &mut MemorySource,
+    sink: &mut MemorySink,
+    keeper: &mut K,
+) -> Result<u8, Fail> {
+    let mut door = MemoryDoor::new(alloc, Vec::new(alloc), Vec::new(alloc), 0)?;
+    ended_over(alloc, source, sink, keeper, &mut door)
+}
+
 /// The status of the household's run over a keeper and a sink.
 pub(crate) fn ended<K: Keeper>(
     alloc: Global,
     sink: &mut MemorySink,
     keeper: &mut K,
 ) -> Result<u8, Fail> {
-    let words = words_of(alloc)?;
-    let lines = LINES.replace(alloc, '>', "\t")?;
-    let mut source = MemorySource::new(alloc, lines.as_bytes().to_vec(alloc)?);
-    let mut door = MemoryDoor::new(alloc, Vec::new(alloc), Vec::new(alloc), 0)?;
-    let mut clock = ListClock::new([T0].to_vec(alloc)?);
-    Ok(status_of::<K, Brand>(
-        Blank::new(1),
-        alloc,
-        &words,
-        &mut source,
-        sink,
-        keeper,
-        &mut door,
-        &mut clock,
-    ))
+    let mut source = MemorySource::new(alloc, input_of(alloc)?);
+    ended_from(alloc, &mut source, sink, keeper)
 }

@@ -1,4 +1,4 @@
-use Rattle.stop_examples.proofs.running.ended.Given as goal
+use Rattle.stop_examples.proofs.running.ended_by.Given as goal
 
 -- the counter's ledger is the blank one's
 abbrev pub ghosts-status_of : goal.ghosts-status_of
