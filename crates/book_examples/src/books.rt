@@ -131,7 +131,7 @@ transactions b isChild N:1; transactions b parent_id S:t; transactions t isParen
 
 /// What stands before the first space, and what stands behind it.
 fn cut(text: &str) -> (&str, &str) {
-    text.split_once(' ').unwrap_or((text, ""))
+    text.split_once(" ").unwrap_or((text, ""))
 }
 
 /// Gives the field of a line its value: dataset, row, column, and the text of the value.
@@ -178,9 +178,9 @@ fn ids_of<T>(alloc: Global, rows: &BTreeMap<Txt, T>) -> Result<String, Fail> {
     let mut text = String::new(alloc);
     for (id, _) in rows.iter() {
         text.push_str(id.as_str())?;
-        text.push(' ')?;
+        text.push_str(" ")?;
     }
-    text.push('.')?;
+    text.push_str(".")?;
     Ok(text)
 }
 
@@ -189,9 +189,9 @@ fn joined(alloc: Global, ids: &Items<Txt>) -> Result<String, Fail> {
     let mut text = String::new(alloc);
     for id in ids.as_slice() {
         text.push_str(id.as_str())?;
-        text.push(' ')?;
+        text.push_str(" ")?;
     }
-    text.push('.')?;
+    text.push_str(".")?;
     Ok(text)
 }
 

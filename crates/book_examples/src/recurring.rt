@@ -86,8 +86,8 @@ fn follow(recurrence: &Recurrence, days: &[u32]) -> bool {
 
 /// Whether the occurrences of `RECURRENCE FROM TO` are these days, asked of a copy, and of the recurrence itself one after the other.
 fn is_right(alloc: Global, asked: &str, days: &str) -> Result<bool, Fail> {
-    let (text, range) = asked.split_once(' ').unwrap_or((asked, ""));
-    let (first, last) = range.split_once(' ').unwrap_or((range, ""));
+    let (text, range) = asked.split_once(" ").unwrap_or((asked, ""));
+    let (first, last) = range.split_once(" ").unwrap_or((range, ""));
     let recurrence = read_recur(alloc, &Txt::from_text(alloc, text)?)?;
     let meant = days_of(alloc, days)?;
     let told = told(

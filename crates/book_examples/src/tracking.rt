@@ -90,7 +90,7 @@ fn lines_of(alloc: Global, sheet: &TrackSheet) -> Result<Txt, Fail> {
     let mut text = String::new(alloc);
     for cell in sheet.cells.as_slice() {
         text.push_str(track_line(alloc, cell)?.as_str())?;
-        text.push('\n')?;
+        text.push_str("\n")?;
     }
     Ok(Txt::new(text))
 }
@@ -175,7 +175,7 @@ fn told(alloc: Global, fields: &str, name: &str) -> Result<String, Fail> {
 /// Of rows "name value", the first that is another one in the book of these fields, with its value.
 fn first_other(alloc: Global, fields: &str, rows: &str) -> Result<String, Fail> {
     for row in rows.lines() {
-        let (name, wanted) = row.split_once(' ').unwrap_or((row, ""));
+        let (name, wanted) = row.split_once(" ").unwrap_or((row, ""));
         let value = told(alloc, fields, name)?;
         if value.as_str() != wanted {
             return Ok(format!(in alloc; "{row}: {value}")?);

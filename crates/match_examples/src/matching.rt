@@ -113,11 +113,11 @@ fn joined(alloc: Global, ids: &[Option<Txt>]) -> Result<String, Fail> {
     let mut text = String::new(alloc);
     for id in ids {
         if !text.as_str().is_empty() {
-            text.push(' ')?;
+            text.push_str(" ")?;
         }
         match id {
             Some(id) => text.push_str(id.as_str())?,
-            None => text.push('-')?,
+            None => text.push_str("-")?,
         }
     }
     Ok(text)

@@ -71,7 +71,7 @@ fn add_trie(text: &mut String, device: &Device) -> Result<(), Fail>
 {
     let trie = device.trie().to_json()?;
     text.push_str(trie.as_str())?;
-    text.push('\n')?;
+    text.push_str("\n")?;
     Ok(())
 }
 

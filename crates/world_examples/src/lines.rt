@@ -147,7 +147,7 @@ fn wanted(alloc: Global) -> Result<String, Fail> {
     for row in TABLE.split('\n') {
         let (_, reply) = row.split_once(" = ").unwrap_or((row, ""));
         text.push_str(written(alloc, reply)?.as_str())?;
-        text.push('\n')?;
+        text.push_str("\n")?;
     }
     Ok(text)
 }

@@ -50,8 +50,8 @@ pub(crate) fn first_line(reply: &Reply) -> Result<&str, Fail> {
 
 /// The first number behind the word of a line, or 0.
 fn number_of(line: &str) -> u32 {
-    let (_, rest) = line.split_once(' ').unwrap_or((line, ""));
-    let (number, _) = rest.split_once(' ').unwrap_or((rest, ""));
+    let (_, rest) = line.split_once(" ").unwrap_or((line, ""));
+    let (number, _) = rest.split_once(" ").unwrap_or((rest, ""));
     number.parse().unwrap_or(0)
 }
 
@@ -75,7 +75,7 @@ fn note_sent(count: &mut u32, number: u32) -> Result<(), Fail> {
 
 /// Notes what was told of an event, which writes this number where it happens.
 pub(crate) fn note(told: &mut Told, number: Option<u32>, line: &str) -> Result<(), Fail> {
-    let (word, _) = line.split_once(' ').unwrap_or((line, ""));
+    let (word, _) = line.split_once(" ").unwrap_or((line, ""));
     match word {
         "writes" => note_writes(told, number, number_of(line))?,
         // An edit in whose middle a device stops writes one field.
