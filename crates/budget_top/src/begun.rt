@@ -6,7 +6,7 @@ ghost use Rattle.budget_top.specs.KeptLine.{judged_kept_line, kept_line_with};
 
 use crate::verdict::{Word, judge};
 use command_lines::LONGEST_LINE;
-use field_merge::Message;
+use field_merge::{LatestMessages, Message};
 use field_values::NoMemory;
 use std::alloc::Global;
 use std::marker::Model;
@@ -79,12 +79,12 @@ impl Begun {
         Some(self.bytes.as_slice())
     }
 
-    /// The message of the line, or the word for what is wrong with it.
+    /// The message of the line, which comes to those that came before it, or the word for what is wrong with it.
     ///
     /// # Errors
     ///
     /// `NoMemory`. The line stays as it is.
-    pub fn judge(&self, alloc: Global) -> Result<Result<Message, Word>, NoMemory>
+    pub fn judge(&self, latest: &LatestMessages) -> Result<Result<Message, Word>, NoMemory>
         ensures verdict { IfOk result (λ verdict. verdict ≡ judged_kept_line self.now) }
         ensures valid { IfOk result (λ verdict. IfOk verdict IsMessage) }
         ensures memory { IsErr result → IsSome self.now × IfSome self.now (λ line. IsUtf8 line × TakesMemory line) }
@@ -92,7 +92,7 @@ impl Begun {
         if self.is_long {
             return Ok(Err(Word::Long));
         }
-        judge(alloc, self.bytes.as_slice())
+        judge(latest, self.bytes.as_slice())
     }
 
     /// Begins the next line.

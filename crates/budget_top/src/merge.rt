@@ -95,7 +95,7 @@ impl Merge {
         ensures few { OnOk result (self.new.number ≡ self.old.number + 1) }
         ensures count { W.faults sink.new ≡ count_after (step_status stop_status result == 5) (W.faults sink.old) }
     {
-        let verdict = self.line.judge(alloc)?;
+        let verdict = self.line.judge(&self.latest)?;
         self.settle(alloc, sink, verdict)?;
         self.number += 1;
         self.line.clear();

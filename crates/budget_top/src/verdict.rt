@@ -4,7 +4,7 @@ ghost use Rattle.field_merge.specs.Lines.{TakesMemory};
 ghost use Rattle.field_merge.specs.Messages.{IsMessage};
 ghost use Rattle.budget_top.specs.Verdicts.{bad_line, judged_short, word_text};
 
-use field_merge::{LineFault, Message, read_text};
+use field_merge::{LatestMessages, LineFault, Message};
 use field_values::NoMemory;
 use std::alloc::Global;
 use std::str;
@@ -42,13 +42,14 @@ impl Word {
     }
 }
 
-/// The message of a line that is short enough, or the word for what is wrong with it.
+/// The message of a line that is short enough, or the word for what is wrong with it. It may have its names in the memory of one that
+/// came before.
 ///
 /// # Errors
 ///
 /// `NoMemory`.
 #[tactic(auto, unfolding(crate::specs::Verdicts::judged_short))]
-pub fn judge(alloc: Global, line: &[u8]) -> Result<Result<Message, Word>, NoMemory>
+pub fn judge(latest: &LatestMessages, line: &[u8]) -> Result<Result<Message, Word>, NoMemory>
     ensures verdict { IfOk result (λ verdict. verdict ≡ judged_short line.now) }
     ensures valid { IfOk result (λ verdict. IfOk verdict IsMessage) }
     ensures memory { IsErr result → IsUtf8 line.now × TakesMemory line.now }
@@ -56,7 +57,7 @@ pub fn judge(alloc: Global, line: &[u8]) -> Result<Result<Message, Word>, NoMemo
     let Ok(text) = str::from_utf8(line) else {
         return Ok(Err(Word::Utf8));
     };
-    match read_text(alloc, text) {
+    match latest.read_text(text) {
         Ok(message) => Ok(Ok(message)),
         Err(LineFault::Columns { .. }) => Ok(Err(Word::Columns)),
         Err(LineFault::Escape { .. }) => Ok(Err(Word::Escape)),

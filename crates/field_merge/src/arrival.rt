@@ -1,15 +1,15 @@
 //! A message that came, as it is sorted.
-ghost use Rattle.std.specs.Prelude.{◌≡◌, IfOk};
+ghost use Rattle.std.specs.Prelude.{◌≡◌, IfOk, IfSome, OnErr};
 ghost use Rattle.std.specs.Ordering.{as_partial_cmp, is_eq};
 ghost use Rattle.std.proofs.Common.{rules};
 ghost use Rattle.std.specs.Cmp.Rules.{comparing};
 ghost use Rattle.std.specs.Cmp.{eq_by_cmp_equiv, partial_equiv_from_equiv, partial_order_from_own_ties, partial_order_from_total};
-ghost use Rattle.field_values.specs.Names.{names_eq};
+ghost use Rattle.field_values.specs.Names.{field_of, names_eq, AreNames};
 ghost use Rattle.field_merge.specs.Messages.{IsMessage};
 ghost use Rattle.field_merge.specs.Latest.{latest_first, latest_first_total};
 
 use crate::message::Message;
-use field_values::{FieldKey, NoMemory};
+use field_values::{Field, FieldKey, NoMemory};
 use std::cmp::Ordering;
 use std::marker::Model;
 
@@ -48,6 +48,25 @@ impl Arrival {
         ensures valid { IsMessage self.now }
     {
         &self.message
+    }
+
+    /// Its field, in the same memory, where it has these names.
+    pub(crate) fn field_named(
+        &self,
+        dataset: &str,
+        row: &str,
+        column: &str,
+    ) -> Result<Option<Field>, NoMemory>
+        ensures field { IfOk result (λ found. IfSome found (λ f. f ≡ field_of dataset.now row.now column.now)) }
+        ensures valid { IfOk result (λ found. IfSome found AreNames) }
+        ensures memory { OnErr result (AreNames (field_of dataset.now row.now column.now)) }
+    {
+        let field = &self.message.field;
+        if field.row() != row || field.column() != column || field.dataset() != dataset {
+            return Ok(None);
+        }
+        let field = field.copy()?;
+        Ok(Some(field))
     }
 
     /// Puts another message of the field in its place.

@@ -1,11 +1,15 @@
 //! The latest message of each field, without the older ones.
-ghost use Rattle.std.specs.Prelude.{◌≡◌, ◌<◌, ◌∷◌, ◌++◌, [], List, length, slice_index_or, OnOk, OnErr, false, true};
+ghost use Rattle.std.specs.Prelude.{◌≡◌, ◌<◌, ◌∷◌, ◌++◌, [], List, length, slice_index_or, IfErr, IfOk, IfSome, Ok, OnOk, OnErr, false, true};
+ghost use Rattle.field_values.specs.Names.{field_of, AreNames};
 ghost use Rattle.field_merge.specs.declared.message.Message.{Message};
 ghost use Rattle.field_merge.specs.Messages.{IsMessage};
+ghost use Rattle.field_merge.specs.Lines.{reading, IsLineFault, TakesMemory};
+ghost use Rattle.field_merge.specs.declared.line.LineFault.TheVariants.{NoMemory as OutOfMemory};
 ghost use Rattle.field_merge.specs.Log.{IsByField, fields, join};
 ghost use Rattle.field_merge.specs.Latest.{CameFrom, HasLatest, IsFew, KeepsLatest, later, next_most};
 
 use crate::arrival::Arrival;
+use crate::line::{LineFault, read_beside};
 use crate::message::Message;
 use crate::pieces::FieldLines;
 use crate::stamps::Stamps;
@@ -54,10 +58,10 @@ struct Place {
 }
 
 /// A number that is made of the names of a field. What is found by it is looked at before it is believed, so any number would do.
-fn hash_of(field: &Field) -> u64 {
+fn hash_of(row: &str, column: &str) -> u64 {
     let mut hasher = FoldHasher::default();
-    hasher.write(field.row().as_bytes());
-    hasher.write(field.column().as_bytes());
+    hasher.write(row.as_bytes());
+    hasher.write(column.as_bytes());
     hasher.finish()
 }
 
@@ -80,6 +84,24 @@ fn is_of_field_at(came: &[Arrival], place: usize, field: &Field) -> bool
     }
 }
 
+/// The field of these names, in the same memory, where a message of it stands at a place.
+fn field_at(
+    came: &[Arrival],
+    place: usize,
+    dataset: &str,
+    row: &str,
+    column: &str,
+) -> Result<Option<Field>, NoMemory>
+    ensures field { IfOk result (λ found. IfSome found (λ f. f ≡ field_of dataset.now row.now column.now)) }
+    ensures valid { IfOk result (λ found. IfSome found AreNames) }
+    ensures memory { OnErr result (AreNames (field_of dataset.now row.now column.now)) }
+{
+    match came.get(place) {
+        Some(arrival) => arrival.field_named(dataset, row, column),
+        None => Ok(None),
+    }
+}
+
 /// Keeps the later of two messages of a field.
 fn keep_later(kept: &mut Arrival, message: Message)
     requires valid { IsMessage message }
@@ -97,7 +119,7 @@ fn take_in(came: &mut Vec<Arrival>, places: &mut [Place], message: Message) -> R
     requires valid { IsMessage message }
     ensures { OnOk result (HasLatest (came.old.items ++ message ∷ []) came.new.items) }
 {
-    let hash = hash_of(&message.field);
+    let hash = hash_of(message.field.row(), message.field.column());
     let slot = slot_of(hash, places.len());
     let place = places[slot];
     if place.hash == hash && is_of_field_at(came.as_slice(), place.at, &message.field) {
@@ -169,6 +191,40 @@ impl LatestMessages {
             return Ok(());
         }
         self.tidy()
+    }
+
+    /// The message of a line that is lent, as `read_line` reads it. Where a message of its field stands at the place that is known
+    /// of the field, it has its names in the memory of that one.
+    pub fn read_text(&self, line: &str) -> Result<Message, LineFault>
+        ensures ok { IfOk result (λ m. reading line.now ≡ Ok m) }
+        ensures valid { IfOk result IsMessage }
+        ensures err { IfErr result (IsLineFault (reading line.now)) }
+        ensures memory { IfErr result (λ fault. fault ≡ OutOfMemory → TakesMemory line.now) }
+    {
+        read_beside(self.alloc, Some(self), line)
+    }
+
+    /// The field of these names, in the same memory, where a message of it stands at the place that is known of the field. Names that
+    /// stand there need no test.
+    pub(crate) fn known_field(
+        &self,
+        dataset: &str,
+        row: &str,
+        column: &str,
+    ) -> Result<Option<Field>, NoMemory>
+        ensures field { IfOk result (λ found. IfSome found (λ f. f ≡ field_of dataset.now row.now column.now)) }
+        ensures valid { IfOk result (λ found. IfSome found AreNames) }
+        ensures memory { OnErr result (AreNames (field_of dataset.now row.now column.now)) }
+    {
+        if self.places.is_empty() {
+            return Ok(None);
+        }
+        let hash = hash_of(row, column);
+        let place = self.places[slot_of(hash, self.places.len())];
+        if place.hash != hash {
+            return Ok(None);
+        }
+        field_at(self.came.as_slice(), place.at, dataset, row, column)
     }
 
     /// Takes one message more, and sorts none.

@@ -20,7 +20,7 @@ pub use laws::{
     joined, joined_again, joined_in_any_order, joined_in_turn, latest_message,
     line_faults_are_told, listed_fields, message_lines,
 };
-pub use line::{LineFault, cut_part, push_body, read_line, read_text, write_line};
+pub use line::{LineFault, cut_part, push_body, read_line, write_line};
 pub use log::{Entered, Joined, Log};
 pub use message::Message;
 pub use pieces::FieldLines;

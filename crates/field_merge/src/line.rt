@@ -14,6 +14,7 @@ ghost use Rattle.field_merge.specs.Messages.{IsMessage, message_line, message_bo
 ghost use Rattle.field_merge.specs.declared.line.LineFault.TheVariants.{NoMemory as OutOfMemory};
 
 use crate::escape::{bad_escape, is_plain, is_plain_part, push_escaped, push_name, unescape};
+use crate::latest_messages::LatestMessages;
 use crate::message::Message;
 use field_values::{Field, NameFault, NoMemory, Txt, Value};
 use hybrid_clock::{Stamp, StampFault};
@@ -124,9 +125,10 @@ fn stamp_in(
     Ok(Stamp::parse(text.as_bytes()))
 }
 
-/// The field of three names.
+/// The field of three names. Where one of them is known already, the names are those in its memory.
 fn field_of_names(
     alloc: Global,
+    known: Option<&LatestMessages>,
     dataset: &str,
     row: &str,
     column: &str,
@@ -137,6 +139,11 @@ fn field_of_names(
         (λ fault. names_fault names ≡ Some fault)) }
     ensures memory { OnErr result (names_fault (field_of dataset.now row.now column.now) ≡ None) }
 {
+    if let Some(latest) = known {
+        if let Some(field) = latest.known_field(dataset, row, column)? {
+            return Ok(Ok(field));
+        }
+    }
     match Field::make(alloc, dataset, row, column) {
         Ok(field) => Ok(Ok(field)),
         Err(NameFault::NoMemory) => Err(NoMemory),
@@ -147,6 +154,7 @@ fn field_of_names(
 /// The field that three parts stand for. Where none has a backslash they are not copied first.
 fn field_in(
     alloc: Global,
+    known: Option<&LatestMessages>,
     parts: &Parts<'_>,
     is_plain: bool,
 ) -> Result<Result<Field, NameFault>, NoMemory>
@@ -164,12 +172,18 @@ fn field_in(
         && is_plain_part(is_plain, parts.row)
         && is_plain_part(is_plain, parts.column)
     {
-        return field_of_names(alloc, parts.dataset, parts.row, parts.column);
+        return field_of_names(alloc, known, parts.dataset, parts.row, parts.column);
     }
     let dataset = unescape(alloc, parts.dataset)?;
     let row = unescape(alloc, parts.row)?;
     let column = unescape(alloc, parts.column)?;
-    field_of_names(alloc, dataset.as_str(), row.as_str(), column.as_str())
+    field_of_names(
+        alloc,
+        known,
+        dataset.as_str(),
+        row.as_str(),
+        column.as_str(),
+    )
 }
 
 /// The value that a part stands for.
@@ -187,7 +201,12 @@ fn value_in(alloc: Global, part: &str, is_plain: bool) -> Result<Value, NoMemory
 
 /// The message that five parts stand for.
 #[tactic(auto, using(crate::proofs::LineLemmas::reads_well))]
-fn message_in(alloc: Global, parts: &Parts<'_>, is_plain: bool) -> Result<Message, LineFault>
+fn message_in(
+    alloc: Global,
+    known: Option<&LatestMessages>,
+    parts: &Parts<'_>,
+    is_plain: bool,
+) -> Result<Message, LineFault>
     requires { is_plain ≡ true → ArePlain parts.now.stamp.now parts.now.dataset.now parts.now.row.now parts.now.column.now parts.now.value.now }
     ensures ok { IfOk result (λ m. of_parts (parts.now.stamp.now ∷ parts.now.dataset.now ∷ parts.now.row.now
         ∷ parts.now.column.now ∷ parts.now.value.now ∷ []) None ≡ Ok m) }
@@ -201,7 +220,7 @@ fn message_in(alloc: Global, parts: &Parts<'_>, is_plain: bool) -> Result<Messag
         Ok(stamp) => stamp,
         Err(fault) => return Err(LineFault::Stamp(fault)),
     };
-    let field = match field_in(alloc, parts, is_plain)? {
+    let field = match field_in(alloc, known, parts, is_plain)? {
         Ok(field) => field,
         Err(fault) => return Err(LineFault::Name(fault)),
     };
@@ -232,12 +251,16 @@ pub fn read_line(alloc: Global, line: &Txt) -> Result<Message, LineFault>
     ensures err { IfErr result (IsLineFault (reading line.now)) }
     ensures memory { IfErr result (λ fault. fault ≡ OutOfMemory → TakesMemory line.now) }
 {
-    read_text(alloc, line.as_str())
+    read_beside(alloc, None, line.as_str())
 }
 
-/// The message of a line that is lent, as [`read_line`].
+/// The message of a line that is lent, beside messages whose fields may be known already.
 #[tactic(auto, using(crate::proofs::LineLemmas::reading_of_others))]
-pub fn read_text(alloc: Global, line: &str) -> Result<Message, LineFault>
+pub(crate) fn read_beside(
+    alloc: Global,
+    known: Option<&LatestMessages>,
+    line: &str,
+) -> Result<Message, LineFault>
     ensures ok { IfOk result (λ m. reading line.now ≡ Ok m) }
     ensures valid { IfOk result IsMessage }
     ensures err { IfErr result (IsLineFault (reading line.now)) }
@@ -252,7 +275,7 @@ pub fn read_text(alloc: Global, line: &str) -> Result<Message, LineFault>
     if let Some(at) = bad_escape_in(line, is_plain) {
         return Err(LineFault::Escape { at });
     }
-    message_in(alloc, &parts, is_plain)
+    message_in(alloc, known, &parts, is_plain)
 }
 
 /// Bytes that are UTF-8, as a text.

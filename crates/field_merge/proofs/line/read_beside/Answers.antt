@@ -1,6 +1,6 @@
 use Rattle.std.proofs.Common.{sym, ◌∙◌}
 use Rattle.field_merge.proofs.LineLemmas.{memory_of_parts, plain_parts}
-use Rattle.field_merge.proofs.line.read_text.Goals as goal
+use Rattle.field_merge.proofs.line.read_beside.Goals as goal
 
 pub returns-clause-memory : goal.returns-clause-memory
 returns-clause-memory c =
