@@ -16,5 +16,6 @@ pub mod InsertLemmas
 pub mod RefuseLemmas
 pub mod Relisted
 pub mod OrderLemmas
+pub mod FoundLemmas
 pub mod AdoptLemmas
 pub mod TakeLemmas

@@ -9,7 +9,7 @@ use Rattle.sqlite_trees.specs.Tree.{Trees}
 use Rattle.sqlite_schema.specs.declared.schema.Schema.{Schema}
 use Rattle.sqlite_rules.specs.Calls.{Excuses}
 use Rattle.sqlite_catalog.specs.Listing.{AreListed, IsSound}
-use Rattle.sqlite_catalog.proofs.LayoutLemmas.{laid_out, objects_rise}
+use Rattle.sqlite_catalog.proofs.LayoutLemmas.{laid_out}
 use Rattle.sqlite.specs.Store.{Ghosts}
 use Rattle.sqlite.specs.declared.error.ErrorCode.TheVariants as code
 use Rattle.sqlite.specs.declared.error.Error.{Error}
@@ -20,6 +20,7 @@ use Rattle.sqlite.specs.Held.{Held}
 use Rattle.sqlite_keeper.specs.Taking.{IsOther, IsForeign, IsLost, HasCause, IsLetGo, IsToldOf, TellsLast, opening_fault, told_as}
 use Rattle.sqlite_keeper.specs.declared.keeper.AdoptFault.{AdoptFault}
 use Rattle.sqlite_keeper.specs.declared.keeper.AdoptFault.TheVariants as adopt
+use Rattle.sqlite_trees.specs.declared.store.Shape.{Shape}
 use Rattle.sqlite_trees.specs.declared.store.Shape.TheVariants as shape
 use Rattle.sqlite_rules.specs.Lists.{Has}
 use Rattle.sqlite_rules.proofs.ListLemmas.{all_has}
@@ -39,11 +40,18 @@ fresh old new law back numbered sound clean =
     let kept = back.kept clean in
     record { sound = sound; numbered = numbered; clean = (back.undone is_open).0 ∙ sym (kept.committed is_open); unmarked = kept.marks is_open }
 
+-- the rows of each table that is listed, where the trees are in the order of their shapes
+pub in_shape : (trees : Trees) (shapes : ℕ → Shape) (reals : ℕ → ℕ) (schema : Schema) → IsListed (trees catalog_tree) shapes reals → IsOrdered shapes trees → AreListed (trees catalog_tree) schema
+    → (t : Table) → Has schema.tables t → IsShaped shape.Table (trees t.tree)
+in_shape trees shapes reals schema listed ordered are t has =
+    let objects = subst (λ s. IsShaped s (trees catalog_tree)) listed.itself.0 (ordered catalog_tree) in
+    let laid = laid_out listed objects are in
+    subst (λ s. IsShaped s (trees t.tree)) (all_has (λ (u : Table). shapes u.tree ≡ shape.Table) schema.tables t laid.tables has) (ordered t.tree)
+
 pub rows_rise : (v : View) (trees : Trees) (schema : Schema) → trees ≡ v.trees → IsListed (v.trees catalog_tree) v.shape v.reals → IsOrdered v.shape v.trees → AreListed (trees catalog_tree) schema
     → (t : Table) → Has schema.tables t → Rises (trees t.tree)
 rows_rise v trees schema same listed ordered are t has =
-    let laid = laid_out listed (objects_rise v listed ordered) (subst (λ (d : Trees). AreListed (d catalog_tree) schema) same are) in
-    let it = subst (λ s. IsShaped s (v.trees t.tree)) (all_has (λ (u : Table). v.shape u.tree ≡ shape.Table) schema.tables t laid.tables has) (ordered t.tree) in
+    let it = in_shape v.trees v.shape v.reals schema listed ordered (subst (λ (d : Trees). AreListed (d catalog_tree) schema) same are) t has in
     subst (λ (d : Trees). Rises (d t.tree)) (sym same) (record { up = it.0; ints = it.1 })
 
 -- a store that is broken after it was rolled back was shut before, or the disk has failed meanwhile

@@ -102,7 +102,7 @@ impl<S: Alter> SqliteKeeper<S> {
     ///
     /// Over an open connection to a store of this version, or to one where nothing is listed, a keeper is shut only if the disk failed
     /// or returned something else, a limit was set on the steps of a query, or the store tells the version before. What `in_order`
-    /// gives is what `ordered` asks.
+    /// gives is what `ordered` asks, and so is what an open of files gives.
     pub fn adopt(alloc: Global, connection: Connection<S>) -> Result<SqliteKeeper<S>, Unadopted<S>>
         requires idle { connection.in_transaction ≡ false }
         requires ordered { IsInOrder S.Store connection }

@@ -173,16 +173,17 @@ fn let_go(rt: &HostRuntime, files: Files<File>, made: Option<String>) {
 /// A keeper over the store in a file, which is made where it is not there.
 ///
 /// A file that cannot be opened, or that is no store, is told as `Unopened`. Where a file that is there is not taken, nothing stands
-/// beside it that did not before.
+/// beside it that did not before. What an open finds in files has its rows in order, so the file is not read again, as `take` reads
+/// a store of which that is not known.
 pub fn open(rt: &HostRuntime, path: &str) -> Result<SqliteKeeper<FileStore<File>>, StoreFault>
     ensures count { IfOk result (λ k. k.faults ≡ (if k.is_shut then 1 else 0)) }
 {
     let made = missing_log(rt, path);
     match Connection::open_from(rt, path, false, Unknown) {
-        Ok(connection) => match take(rt.alloc(), connection) {
+        Ok(connection) => match SqliteKeeper::adopt(rt.alloc(), connection) {
             Ok(keeper) => Ok(keeper),
-            Err(untaken) => {
-                let Untaken { fault, store } = untaken;
+            Err(unadopted) => {
+                let Untaken { fault, store } = left_by(unadopted);
                 let_go(rt, store.close(), made);
                 Err(fault)
             }
