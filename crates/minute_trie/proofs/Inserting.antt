@@ -1,5 +1,5 @@
 -- What an insertion below one child makes of a node.
-use Rattle.std.proofs.Common.{◌≡◌, ℕ, length, List, [], ◌∷◌, Some, None, bit_xor, Box, refl, sym, ap, ◌∙◌, arith}
+use Rattle.std.proofs.Common.{◌≡◌, ℕ, true, ◌&&◌, cond, is_some, length, List, [], ◌∷◌, Some, None, bit_xor, Box, refl, sym, ap, ◌∙◌, arith}
 use Rattle.std.proofs.Math.Path.{fun_ext}
 use Rattle.std.specs.declared.alloc.Global.{Global}
 use Rattle.minute_trie.specs.declared.node.Node.{Node, out-Node, roll-Node}
@@ -53,6 +53,13 @@ module _ (node : Node) (key : List Digit) (hash : ℕ) (child : Child) where
     at (Zero ∷ p) = sym (at_open node (Zero ∷ p))
     at (One ∷ p) = sym (at_open node (One ∷ p))
     at (Two ∷ p) = put p ∙ ap (λ f. added key hash f p) (fun_ext (λ q. sym (at_open node (Two ∷ q))))
+
+-- behind 1 and 2 nothing stays that is put behind 0
+pub none_stays : (f g : Held) → (is_some (f (One ∷ [])) && is_some (f (Two ∷ []))) ≡ true → (p : List Digit) → with_two_greatest f p ≡ with_two_greatest (instead Zero g f) p
+none_stays f g full [] = refl
+none_stays f g full (Zero ∷ p) = ap (λ b. cond b None (f (Zero ∷ p))) full ∙ sym (ap (λ b. cond b None (g p)) full)
+none_stays f g full (One ∷ p) = refl
+none_stays f g full (Two ∷ p) = refl
 
 -- the insertion goes on in a node that the least child may then leave
 pub thinned : (mid new : Node) (f g : Held) → ((p : List Digit) → at_node new p ≡ with_two_greatest (at_node mid) p) → ((p : List Digit) → at_node mid p ≡ f p) → g ≡ with_two_greatest f → (p : List Digit) → at_node new p ≡ g p

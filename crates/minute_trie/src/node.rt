@@ -1,5 +1,6 @@
 //! A node of the trie, with the nodes below it.
-ghost use Rattle.std.specs.Prelude.{◌≡◌, OnOk, List, ◌∷◌, [], Some};
+ghost use Rattle.std.specs.Prelude.{◌≡◌, ◌&&◌, is_some, OnOk, List, ◌∷◌, [], Some};
+ghost use Rattle.minute_trie.specs.declared.key.Digit.TheVariants.{One, Two};
 ghost use Rattle.minute_trie.specs.Held.{at_node, at_below};
 ghost use Rattle.minute_trie.specs.Adding.{added, with_two_greatest};
 ghost use Rattle.minute_trie.specs.Pruned.{pruned};
@@ -63,7 +64,12 @@ impl Node {
         self.hash ^= hash;
         if let Some((digit, rest)) = key.split_first() {
             match digit {
-                Digit::Zero => insert_below(&mut self.zero, alloc, rest, hash)?,
+                Digit::Zero => {
+                    // Behind 1 and 2 it would be taken out at once.
+                    if !self.is_full() {
+                        insert_below(&mut self.zero, alloc, rest, hash)?;
+                    }
+                }
                 Digit::One => insert_below(&mut self.one, alloc, rest, hash)?,
                 Digit::Two => insert_below(&mut self.two, alloc, rest, hash)?,
             }
@@ -72,11 +78,18 @@ impl Node {
         Ok(())
     }
 
+    /// Whether the two greatest children are there.
+    fn is_full(&self) -> bool
+        ensures { result ≡ (is_some (at_node self.now (One ∷ [])) && is_some (at_node self.now (Two ∷ []))) }
+    {
+        self.one.is_some() && self.two.is_some()
+    }
+
     /// Keeps the two greatest children.
     fn prune(&mut self)
         ensures { (p : List Digit) → at_node self.new p ≡ with_two_greatest (at_node self.old) p }
     {
-        if self.one.is_some() && self.two.is_some() {
+        if self.is_full() {
             self.zero = None;
         }
     }

@@ -1,13 +1,14 @@
-use Rattle.std.proofs.Common.{◌≡◌, List, ◌∷◌, Ok, Err, Some, OnOk, refl, ◌∙◌, ap}
+use Rattle.std.proofs.Common.{◌≡◌, ◌&&◌, is_some, List, [], ◌∷◌, Ok, Err, Some, OnOk, refl, sym, ◌∙◌, ap, ap₂}
+use Rattle.std.proofs.Math.Path.{fun_ext}
 use Rattle.minute_trie.specs.declared.key.Digit.{Digit}
 use Rattle.minute_trie.specs.declared.key.Digit.TheVariants.{Zero, One, Two}
 use Rattle.minute_trie.specs.Held.{at_node, at_below, after}
-use Rattle.minute_trie.specs.Adding.{added, instead, xored}
-use Rattle.minute_trie.proofs.Inserting.{insert_here, laid_zero, laid_one, laid_two, thinned, child_there, child_new, none_left}
+use Rattle.minute_trie.specs.Adding.{added, instead, with_two_greatest, xored}
+use Rattle.minute_trie.proofs.Inserting.{insert_here, none_stays, laid_zero, laid_one, laid_two, thinned, child_there, child_new, none_left}
 use Rattle.minute_trie.proofs.Nodes.{rolled_zero, rolled_one, rolled_two, rolled_hash}
 use Rattle.std.specs.Box.{with_value}
 use Rattle.minute_trie.proofs.node.+insert.Goals as goal
-use Rattle.minute_trie.proofs.node.+insert.Goals.{Node::insert-in-Zero+in_ok-insert_below-in-Zero, Node::insert-in-One+in_ok-insert_below-in-One, Node::insert-in-Two+in_ok-insert_below-in-Two}
+use Rattle.minute_trie.proofs.node.+insert.Goals.{Node::insert-in-Zero+else-not-is_full, Node::insert-in-Zero+then-not-is_full+in_ok-insert_below-in-Zero, Node::insert-in-One+in_ok-insert_below-in-One, Node::insert-in-Two+in_ok-insert_below-in-Two}
 
 pub Node::insert-returns-after-digit : goal.Node::insert-returns-after-digit
 Node::insert-returns-after-digit t c p =
@@ -15,7 +16,13 @@ Node::insert-returns-after-digit t c p =
     let rest = c.in-Some.rest.now in
     let hash = c.args.hash in
     elim c.match-digit.branch [
-      | Node::insert-in-Zero+in_ok-insert_below-in-Zero w ↦
+      | Node::insert-in-Zero+else-not-is_full w ↦
+          let key : c.args.key.now ≡ Zero ∷ c.in-Some.rest.now = c.in-Some.ensures.cases.0 ∙ ap (λ d. d ∷ c.in-Some.rest.now) w.in-Zero.is in
+          let laid = insert_here c.args.self.now hash in
+          let full = sym (ap₂ (λ a b. is_some a && is_some b) (laid (One ∷ [])) (laid (Two ∷ []))) ∙ sym w.is_full.ensures ∙ w.if-not-is_full.false in
+          c.prune.ensures p ∙ ap (λ n. with_two_greatest (at_node n) p) w.self-is ∙ ap (λ h. with_two_greatest h p) (fun_ext laid)
+          ∙ none_stays (xored hash old) (added rest hash (after Zero old)) full p ∙ sym (ap (λ k. added k hash old p) key)
+      | Node::insert-in-Zero+then-not-is_full+in_ok-insert_below-in-Zero w ↦
           let key : c.args.key.now ≡ Zero ∷ c.in-Some.rest.now = c.in-Some.ensures.cases.0 ∙ ap (λ d. d ∷ c.in-Some.rest.now) w.in-Zero.is in
           let laid = laid_zero c.args.self.now rest hash w.insert_below.new.child (rw rolled_zero at w.in_ok-insert_below-in-Zero.ensures) in
           let there = simp (rolled_hash, rolled_zero, rolled_one, rolled_two) at w.self-is in
