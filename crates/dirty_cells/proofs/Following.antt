@@ -337,19 +337,23 @@ module _ (r : Rows) (changes : List Change) (ids : List Text) (m : Marked) (f : 
           absurd (omega (arith, l, zero))
       by false e = same_before m.from (f.from ∙ ap (λ (b : Bool). if b then 0 else by_all) e) e
 
--- what is marked before the changes and after them is all that is marked
-module _ (r s : Rows) (changes : List Change) (ids : List Text) (b : Begun) (m : Marked) (t : Bool) where
-  pub is_followed : s ≡ with_fields r changes → t ≡ is_rearranged changes
-      → ((q : Text) → set.contains text_cmp b.categories q ≡ (is_among text_cmp (flat_map (category_at r) ids) q || is_among text_cmp (flat_map (categories_by r) changes) q))
-      → ((q : Text) → set.contains text_cmp b.groups q ≡ is_among text_cmp (flat_map (groups_by r) changes) q)
-      → b.first ≡ earliest (earliest 2760 (list_map month_by changes)) (list_map (month_at_tx r) ids)
-      → ((q : Text) → is_among text_cmp m.categories q ≡ (is_among text_cmp (flat_map (category_at s) ids) q || set.contains text_cmp b.categories q))
-      → ((q : Text) → is_among text_cmp m.groups q ≡ (is_among text_cmp (flat_map (group_at s) m.categories) q || set.contains text_cmp b.groups q))
-      → m.from ≡ (if t then 0 else earliest b.first (list_map (month_at_tx s) ids)) → m.rearranged ≡ t
+-- what the rows of the changes mark, and then what their transactions mark before the changes and after them, is all that is marked
+module _ (r s : Rows) (changes : List Change) (ids : List Text) (b a : Begun) (m : Marked) where
+  pub is_followed : s ≡ with_fields r changes
+      → ((q : Text) → set.contains text_cmp b.categories q ≡ is_among text_cmp (flat_map (categories_by r) changes) q)
+      → ((q : Text) → set.contains text_cmp a.groups q ≡ is_among text_cmp (flat_map (groups_by r) changes) q)
+      → b.first ≡ earliest 2760 (list_map month_by changes)
+      → a.rearranged ≡ is_rearranged changes
+      → ((q : Text) → set.contains text_cmp a.categories q ≡ (is_among text_cmp (flat_map (category_at s) ids) q || (is_among text_cmp (flat_map (category_at r) ids) q || set.contains text_cmp b.categories q)))
+      → a.first ≡ earliest (earliest b.first (list_map (month_at_tx r) ids)) (list_map (month_at_tx s) ids)
+      → ((q : Text) → is_among text_cmp m.categories q ≡ set.contains text_cmp a.categories q)
+      → ((q : Text) → is_among text_cmp m.groups q ≡ (is_among text_cmp (flat_map (group_at s) m.categories) q || set.contains text_cmp a.groups q))
+      → m.from ≡ (if a.rearranged then 0 else a.first) → m.rearranged ≡ a.rearranged
       → IsFollowed r (with_fields r changes) changes ids m
-  is_followed e te bc bg bf mc mg mf mr = subst (λ z. IsFollowed r z changes ids m) e (record {
-    categories = λ q. mc q ∙ ap (λ o. is_among text_cmp (flat_map (category_at s) ids) q || o) (bc q);
+  is_followed e bc bg bf br ac af mc mg mf mr = subst (λ z. IsFollowed r z changes ids m) e (record {
+    categories = λ q. mc q ∙ ac q ∙ ap (λ o. is_among text_cmp (flat_map (category_at s) ids) q || (is_among text_cmp (flat_map (category_at r) ids) q || o)) (bc q);
     groups = λ q. mg q ∙ ap (λ o. is_among text_cmp (flat_map (group_at s) m.categories) q || o) (bg q);
-    rearranged = mr ∙ te;
-    from = mf ∙ ap (λ n. if t then 0 else earliest n (list_map (month_at_tx s) ids)) bf ∙ ap (λ (u : Bool). if u then 0 else earliest (earliest (earliest 2760 (list_map month_by changes)) (list_map (month_at_tx r) ids)) (list_map (month_at_tx s) ids)) te;
+    rearranged = mr ∙ br;
+    from = mf ∙ ap (λ n. if a.rearranged then 0 else n) af ∙ ap (λ n. if a.rearranged then 0 else earliest (earliest n (list_map (month_at_tx r) ids)) (list_map (month_at_tx s) ids)) bf
+        ∙ ap (λ (u : Bool). if u then 0 else earliest (earliest (earliest 2760 (list_map month_by changes)) (list_map (month_at_tx r) ids)) (list_map (month_at_tx s) ids)) br;
   })

@@ -1,5 +1,5 @@
 -- A sum after the share of a transaction is put into it, or taken out.
-use Rattle.std.proofs.Common.{◌≡◌, ℕ, ◌==◌, Bool, true, false, cond, Option, Some, None, refl, ap, sym, ◌∙◌, subst, arith}
+use Rattle.std.proofs.Common.{◌≡◌, ℕ, ◌==◌, Bool, true, false, cond, Option, Some, refl, ap, sym, ◌∙◌, subst, arith}
 use Rattle.std.specs.Prelude.{◌&&◌, unwrap_or}
 use lib.IntN.{ℤ, pos, ◌+ℤ◌}
 use Rattle.std.specs.declared.cmp.Ordering.{Ordering}
@@ -10,7 +10,7 @@ use Rattle.std.specs.FinMap.{get, insert, get-insert}
 use Rattle.std.proofs.lemmas.Int.{ints}
 use Rattle.std.proofs.lemmas.Bool.Decides.{nat_tests}
 use Rattle.finite_sums.specs.Sums.{only_if}
-use Rattle.finite_sums.specs.Maps.{Text, text_cmp, some_and, value_or_zero}
+use Rattle.finite_sums.specs.Maps.{Text, text_cmp, some_and}
 use Rattle.finite_sums.proofs.MapSums.{both_true, and_both}
 use Rattle.book_rows.specs.declared.rows.Rows.{Rows}
 use Rattle.book_rows.specs.declared.rows.TxRow.{TxRow}
@@ -23,7 +23,7 @@ use Rattle.envelope_cells.specs.Parts.{sum_name, value_at}
 use Rattle.envelope_cells.specs.declared.name.CellName.{CellName}
 use Rattle.envelope_cells.proofs.Exact.{cells_same}
 use Rattle.envelope_cells.proofs.Among.{same_texts, itself}
-use Rattle.dirty_cells.specs.Changes.{share_at, signed}
+use Rattle.dirty_cells.specs.Changes.{signed}
 
 iff_bool : (a b : Bool) → (a ≡ true → b ≡ true) → (b ≡ true → a ≡ true) → a ≡ b
 iff_bool true b f g = sym (f refl)
@@ -65,19 +65,14 @@ at_name : (sums : Cells) (a b : CellName) (z : ℤ) (t : Bool) → eq_by_cmp cel
 at_name sums a b z true h = ap (λ n. value_at sums n +ℤ z) (sym (cells_same a b (is_equal _ h)))
 at_name sums a b z false h = refl
 
-module _ (r : Rows) (sums new : Cells) (id d : Text) (n : ℕ) (x : TxRow) (into : Bool) where
-  pub moved : get r.txs id ≡ Some x → category_of r x ≡ Some d → month_of_row x ≡ Some n → is_counted r x ≡ true → new ≡ insert sums (sum_name d n) (value_at sums (sum_name d n) +ℤ signed into x.amount)
-      → (c : Text) (m : ℕ) → value_at new (sum_name c m) ≡ value_at sums (sum_name c m) +ℤ signed into (share_at r c m id)
-  moved row category month counted e c m =
+module _ (r : Rows) (sums new : Cells) (d : Text) (n : ℕ) (x : TxRow) (into : Bool) where
+  pub moved : category_of r x ≡ Some d → month_of_row x ≡ Some n → is_counted r x ≡ true → new ≡ insert sums (sum_name d n) (value_at sums (sum_name d n) +ℤ signed into x.amount)
+      → (c : Text) (m : ℕ) → value_at new (sum_name c m) ≡ value_at sums (sum_name c m) +ℤ signed into (share r c m x)
+  moved category month counted e c m =
       let t = eq_by_cmp cell_cmp (sum_name c m) (sum_name d n) in
       let z = signed into x.amount in
       let of : is_of r c m x ≡ t = ap (λ o. is_text c o && some_and (λ k. k == m) (month_of_row x)) category ∙ ap (λ o. eq_by_cmp text_cmp d c && some_and (λ k. k == m) o) month ∙ same_sum c d m n in
       let left : value_at new (sum_name c m) ≡ cond t (value_at sums (sum_name d n) +ℤ z) (value_at sums (sum_name c m)) =
       ap (λ s. value_at s (sum_name c m)) e ∙ ap (λ o. unwrap_or o (pos 0)) (get-insert cells_total sums (sum_name d n) (value_at sums (sum_name d n) +ℤ z) (sum_name c m)) ∙ by_test t (value_at sums (sum_name d n) +ℤ z) (get sums (sum_name c m)) in
-      let right : share_at r c m id ≡ only_if t x.amount = ap (value_or_zero (share r c m)) row ∙ ap (λ b. only_if (b && is_of r c m x) x.amount) counted ∙ ap (λ b. only_if b x.amount) of in
+      let right : share r c m x ≡ only_if t x.amount = ap (λ b. only_if (b && is_of r c m x) x.amount) counted ∙ ap (λ b. only_if b x.amount) of in
       left ∙ at_name sums (sum_name c m) (sum_name d n) z t refl ∙ moved_by t into (value_at sums (sum_name c m)) x.amount ∙ ap (λ a. value_at sums (sum_name c m) +ℤ signed into a) (sym right)
-
--- a transaction that has no share
-module _ (r : Rows) (id : Text) where
-  none_at : get r.txs id ≡ None → (c : Text) (m : ℕ) → share_at r c m id ≡ pos 0
-  none_at e c m = ap (value_or_zero (share r c m)) e

@@ -13,22 +13,22 @@ ghost use Rattle.dirty_cells.specs.Bound.{pairs, different, touched_categories, 
 ghost use Rattle.dirty_cells.specs.Changes.{AreValues, AreDifferent, with_fields};
 ghost use Rattle.dirty_cells.specs.Followed.{Follows};
 ghost use Rattle.dirty_cells.specs.Grid.{Marks, SameBefore};
-ghost use Rattle.dirty_cells.specs.Marking.{dataset_with, set_in, listed, category_at, budget_category, members, group_at, is_in_group, categories_in, groups_in, month_in, is_order, categories_by, groups_by, month_by, is_rearranged, month_at_tx, number_of, earlier, earliest};
+ghost use Rattle.dirty_cells.specs.Marking.{dataset_with, set_in, listed, budget_category, members, group_at, is_in_group, categories_in, groups_in, month_in, is_order, categories_by, groups_by, month_by, is_rearranged, earlier, earliest};
 
+use crate::passing::earlier;
 use crate::sums::change_sums;
 use crate::touching::{list_of, put_one, touched_ids};
 use book_rows::{
-    Book, CategoryRow, Dataset, budget_month, column_of, dataset_kind, dataset_of, is_month,
-    month_row_month,
+    Book, CategoryRow, Dataset, budget_month, column_of, dataset_kind, dataset_of, month_row_month,
 };
-use envelope_cells::{CellValues, month_number};
+use envelope_cells::CellValues;
 use field_values::{Field, Items, NoMemory, Steps, Txt, Value};
 use std::alloc::Global;
 use std::cmp::Ordering;
 use std::collections::BTreeSet;
 use std::sync::ledger::Ledger;
 
-/// What changes mark before they are made.
+/// What changes mark, while it is gathered.
 #[derive(Drop)]
 pub(crate) struct Begun {
     pub categories: BTreeSet<Txt>,
@@ -201,27 +201,6 @@ fn month_in(alloc: Global, dataset: Option<Dataset>, row: &str) -> Result<Option
     }
 }
 
-/// The number of a month, or 0 where it is none.
-fn number_of(month: u32) -> u32
-    ensures { result ≡ number_of month }
-{
-    if is_month(month) {
-        month_number(month)
-    } else {
-        0
-    }
-}
-
-/// The less of a number and that of a month, if there is one.
-fn earlier(number: u32, month: Option<u32>) -> u32
-    ensures { result ≡ earlier number month }
-{
-    match month {
-        None => number,
-        Some(month) => number.min(number_of(month)),
-    }
-}
-
 /// Whether a changed row is one of a category or a group.
 fn is_order(dataset: Option<Dataset>) -> bool
     ensures { result ≡ is_order dataset }
@@ -273,95 +252,20 @@ fn mark_changes(alloc: Global, book: &Book, changes: &[(Field, Value)]) -> Resul
     Ok(begun)
 }
 
-/// Puts the category of a transaction among others.
-fn mark_tx<G: Ledger>(
-    book: &Book,
-    cs: &mut BTreeSet<Txt>,
-    id: &Txt,
-    steps: &mut Steps<G>,
-) -> Result<(), NoMemory>
-    ensures more { OnOk result ((q : Text) → set.contains text_cmp cs.new q ≡ (is_among text_cmp (category_at book.now.rows id.now) q || set.contains text_cmp cs.old q)) }
-    ensures cost { steps.new ≤ steps.old + 1 }
-{
-    if let Some(row) = book.tx(id, steps) {
-        if let Some(category) = book.resolved_category(row) {
-            put_one(cs, category)?;
-        }
-    }
-    Ok(())
-}
-
-/// Puts the categories of transactions among others.
-pub(crate) fn mark_txs<G: Ledger>(
-    book: &Book,
-    cs: &mut BTreeSet<Txt>,
-    ids: &[Txt],
-    steps: &mut Steps<G>,
-) -> Result<(), NoMemory>
-    ensures more { OnOk result ((q : Text) → set.contains text_cmp cs.new q ≡ (is_among text_cmp (flat_map (category_at book.now.rows) ids.now) q || set.contains text_cmp cs.old q)) }
-    ensures cost { OnOk result (steps.new ≤ steps.old + length ids.now) }
-{
-    for id in ids {
-        mark_tx(book, cs, id, steps)?;
-    }
-    Ok(())
-}
-
-/// The least of a number and those of the months of transactions. It takes no step.
-pub(crate) fn first_of_txs(book: &Book, ids: &[Txt], number: u32) -> u32
-    ensures { result ≡ earliest number (list_map (month_at_tx book.now.rows) ids.now) }
-{
-    let mut first = number;
-    for id in ids {
-        first = earlier(first, book.month_of(id));
-    }
-    first
-}
-
-/// What changes mark, by the book before them. The ids are those of the transactions that they touch.
-fn marks_before<G: Ledger>(
-    alloc: Global,
-    book: &Book,
-    changes: &[(Field, Value)],
-    ids: &[Txt],
-    steps: &mut Steps<G>,
-) -> Result<Begun, NoMemory>
-    ensures categories { IfOk result (λ m. (q : Text) → set.contains text_cmp m.categories q ≡ (is_among text_cmp (flat_map (category_at book.now.rows) ids.now) q || is_among text_cmp (flat_map (categories_by book.now.rows) changes.now) q)) }
-    ensures groups { IfOk result (λ m. (q : Text) → set.contains text_cmp m.groups q ≡ is_among text_cmp (flat_map (groups_by book.now.rows) changes.now) q) }
-    ensures first { IfOk result (λ m. m.first ≡ earliest (earliest 2760 (list_map month_by changes.now)) (list_map (month_at_tx book.now.rows) ids.now)) }
-    ensures rearranged { IfOk result (λ m. m.rearranged ≡ is_rearranged changes.now) }
-    ensures cost { OnOk result (steps.new ≤ steps.old + length ids.now) }
-{
-    let mut begun = mark_changes(alloc, book, changes)?;
-    mark_txs(book, &mut begun.categories, ids, steps)?;
-    begun.first = first_of_txs(book, ids, begun.first);
-    Ok(begun)
-}
-
-/// What changes mark, by what they marked before them and by the book after them.
-fn marks_after<G: Ledger>(
-    alloc: Global,
-    book: &Book,
-    begun: Begun,
-    ids: &[Txt],
-    steps: &mut Steps<G>,
-) -> Result<Marked, NoMemory>
-    ensures categories { IfOk result (λ m. (q : Text) → is_among text_cmp m.categories q ≡ (is_among text_cmp (flat_map (category_at book.now.rows) ids.now) q || set.contains text_cmp begun.categories q)) }
+/// What changes mark in all: with the groups that the marked categories name in the book after them.
+fn marks_after(alloc: Global, book: &Book, begun: Begun) -> Result<Marked, NoMemory>
+    ensures categories { IfOk result (λ m. (q : Text) → is_among text_cmp m.categories q ≡ set.contains text_cmp begun.categories q) }
     ensures groups { IfOk result (λ m. (q : Text) → is_among text_cmp m.groups q ≡ (is_among text_cmp (flat_map (group_at book.now.rows) m.categories) q || set.contains text_cmp begun.groups q)) }
-    ensures from { IfOk result (λ m. m.from ≡ (if begun.rearranged then 0 else earliest begun.first (list_map (month_at_tx book.now.rows) ids.now))) }
+    ensures from { IfOk result (λ m. m.from ≡ (if begun.rearranged then 0 else begun.first)) }
     ensures rearranged { IfOk result (λ m. m.rearranged ≡ begun.rearranged) }
     ensures distinct { IfOk result (λ m. AreDistinct text_cmp m.categories × AreDistinct text_cmp m.groups) }
-    ensures cost { OnOk result (steps.new ≤ steps.old + length ids.now) }
 {
-    let mut all = begun.categories;
     let mut owners = begun.groups;
-    mark_txs(book, &mut all, ids, steps)?;
-    let categories = list_of(alloc, &all)?;
+    let categories = list_of(alloc, &begun.categories)?;
     mark_groups(book, &mut owners, categories.as_slice())?;
     let groups = list_of(alloc, &owners)?;
-    let first = first_of_txs(book, ids, begun.first);
     let rearranged = begun.rearranged;
-    let from = if rearranged { 0 } else { first };
+    let from = if rearranged { 0 } else { begun.first };
     Ok(Marked {
         categories,
         groups,
@@ -390,10 +294,17 @@ fn set_and_mark<G: Ledger>(
     ensures cost { OnOk result (AreDifferent changes.now → steps.new ≤ steps.old + 7 * (length changes.now + pairs book.old.rows (with_fields book.old.rows changes.now) changes.now)) }
 {
     let ids = touched_ids(alloc, book, changes, steps)?;
-    let list = ids.as_slice();
-    let begun = marks_before(alloc, book, changes, list, steps)?;
-    change_sums(sums, book, changes, list, steps)?;
-    marks_after(alloc, book, begun, list, steps)
+    let mut begun = mark_changes(alloc, book, changes)?;
+    begun.first = change_sums(
+        sums,
+        book,
+        &mut begun.categories,
+        changes,
+        ids.as_slice(),
+        begun.first,
+        steps,
+    )?;
+    marks_after(alloc, book, begun)
 }
 
 /// Gives fields their values, keeps the sums those of the book, and tells what is marked: off the marked categories and groups each
