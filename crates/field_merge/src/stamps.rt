@@ -109,18 +109,18 @@ fn link(heads: &mut [u32], kept: &mut [Kept])
     }
 }
 
-/// Makes more buckets where there are not more than timestamps.
+/// Makes more buckets where there are not twice as many as timestamps.
 fn make_room(alloc: Global, heads: &mut Vec<u32>, kept: &mut [Kept]) -> Result<(), NoMemory>
     requires { IsStored heads.old.items kept.old }
     ensures stored { IsStored heads.new.items kept.new }
     ensures same { map stamp_of kept.new ≡ map stamp_of kept.old }
     ensures room { OnOk result (0 < length heads.new.items) }
 {
-    if kept.len() < heads.len() {
+    if 2 * kept.len() < heads.len() {
         return Ok(());
     }
     let mut more = Vec::new(alloc);
-    more.resize((2 * kept.len()).max(FIRST_BUCKETS), 0u32)?;
+    more.resize((4 * kept.len()).max(FIRST_BUCKETS), 0u32)?;
     link(&mut more, kept);
     *heads = more;
     Ok(())
