@@ -9,7 +9,7 @@ use Rattle.book_rows.specs.Live.{is_live_category_row, has_income_group}
 use Rattle.book_rows.specs.Months.{window_of}
 use Rattle.std.specs.Prelude.{◌&&◌}
 use Rattle.envelope_cells.specs.Names.{Cells}
-use Rattle.envelope_cells.specs.Budget.{Budget, categories, expense, expense_groups}
+use Rattle.envelope_cells.specs.Budget.{Budget, categories, expense}
 use Rattle.envelope_cells.specs.BudgetOf.{budget_of, groups_of}
 use Rattle.envelope_cells.specs.Places.{ids_of_group}
 use Rattle.envelope_cells.specs.Cells.{leftover}
@@ -19,7 +19,6 @@ use Rattle.envelope_cells.specs.Parts.{IsPast}
 use Rattle.envelope_cells.specs.declared.name.CellKind.{CellKind}
 use Rattle.envelope_cells.specs.declared.name.CellKind.TheVariants.{TotalIncome, FromLastMonth, AvailableFunds, LastMonthOverspent, TotalBudgeted, Buffered, ToBudget, TotalSpent, TotalLeftover, GroupSum, GroupBudget, GroupLeftover, Sum, Budget as OfBudget, Carryover, Leftover}
 use Rattle.envelope_cells.proofs.Quiet.{quiet_some, quiet_none}
-use Rattle.envelope_cells.specs.declared.groups.BudgetGroup.{BudgetGroup}
 use Rattle.dirty_cells.specs.Grid.{is_pending, SameBut, SameBefore, nothing}
 use Rattle.dirty_cells.specs.Right.{cell_at, AreRightBut, none_pending}
 use Rattle.dirty_cells.proofs.Chains.{stays, stays_before}

@@ -1,11 +1,11 @@
 -- Which cells of a month stay, from what budgets say.
-use Rattle.std.proofs.Common.{◌≡◌, ℕ, ◌<◌, Bool, true, false, true≢false, not, cond, List, [], ◌∷◌, Option, Some, None, zero, suc, refl, ap, sym, ◌∙◌, arith}
-use lib.IntN.{ℤ, neg_ℤ, ◌+ℤ◌, ◌-ℤ◌}
+use Rattle.std.proofs.Common.{◌≡◌, ℕ, ◌<◌, Bool, true, false, true≢false, not, cond, List, [], ◌∷◌, Option, Some, None, zero, suc, refl, ap, ◌∙◌, arith}
+use lib.IntN.{ℤ, neg_ℤ}
 use Rattle.std.specs.List.{filter}
 use Rattle.finite_sums.specs.Sums.{total}
 use Rattle.finite_sums.specs.Maps.{Text, text_cmp, is_among}
-use Rattle.envelope_cells.specs.Budget.{Budget, categories_of, categories, income, expense, income_groups, expense_groups}
-use Rattle.envelope_cells.specs.Cells.{carried_before, buffered_before, leftover_before, leftover, taken_from, total_income, last_month_overspent, all_budgeted, total_spent, total_leftover, to_budget_before, from_last_month, available_funds, to_budget, total_budgeted}
+use Rattle.envelope_cells.specs.Budget.{Budget, categories_of, categories, expense, expense_groups}
+use Rattle.envelope_cells.specs.Cells.{carried_before, buffered_before, leftover_before, leftover, taken_from, total_income, last_month_overspent, all_budgeted, total_spent, total_leftover, to_budget_before, from_last_month}
 use Rattle.envelope_cells.specs.CellOf.{of_month, of_category, of_group, group_named, flag_value, value_of}
 use Rattle.envelope_cells.specs.declared.name.CellKind.{CellKind}
 use Rattle.envelope_cells.specs.declared.name.CellKind.TheVariants.{TotalIncome, FromLastMonth, AvailableFunds, LastMonthOverspent, TotalBudgeted, Buffered, ToBudget, TotalSpent, TotalLeftover, GroupSum, GroupBudget, GroupLeftover, Sum, Budget as OfBudget, Carryover, Leftover}

@@ -1,9 +1,9 @@
 -- What is kept of the months of a range, by month and by name.
-use Rattle.std.proofs.Common.{◌≡◌, ℕ, ◌<◌, ◌≤◌, ◌+◌, ◌-◌, ◌/◌, ◌%◌, Bool, true, false, cond, [], Option, Some, None, refl, ap, sym, ◌∙◌, subst, arith, ltb, if◌then◌else◌, true≢false, IfSome}
-use Rattle.std.specs.Prelude.{◌&&◌, nat_lt, nat_le, unwrap_or}
+use Rattle.std.proofs.Common.{◌≡◌, ℕ, ◌<◌, ◌≤◌, ◌+◌, ◌-◌, ◌/◌, ◌%◌, Bool, true, false, [], Option, Some, None, refl, ap, sym, ◌∙◌, subst, arith, if◌then◌else◌, true≢false}
+use Rattle.std.specs.Prelude.{nat_lt, nat_le, unwrap_or}
 use Rattle.std.proofs.lemmas.Int.{ints}
 use Rattle.std.proofs.lemmas.Bool.Decides.{nat_tests}
-use lib.IntN.{ℤ, pos, ◌+ℤ◌}
+use lib.IntN.{ℤ, pos}
 use Rattle.std.specs.FinMap.{get}
 use Rattle.finite_sums.specs.Maps.{Text}
 use Rattle.finite_sums.proofs.MapSums.{both_true, and_both}
@@ -22,7 +22,7 @@ use Rattle.envelope_cells.specs.declared.name.CellKind.TheVariants.{Buffered, To
 use Rattle.envelope_cells.proofs.Quiet.{month_back, below_first}
 use Rattle.envelope_cells.proofs.Money.{money_is_kept_lem}
 use Rattle.dirty_cells.specs.Grid.{nothing}
-use Rattle.dirty_cells.specs.Right.{cell_at, AreRightBut, AreRightIn, AreWithin, IsOutside, none_pending, Pending}
+use Rattle.dirty_cells.specs.Right.{cell_at, AreRightIn, AreWithin, IsOutside, none_pending, Pending}
 use Rattle.dirty_cells.specs.Stands.{is_between, is_covered, HasWindow, based, StandsFor, kept_whole, KeepsMoney}
 use Rattle.dirty_cells.specs.declared.grid.Grid.{Grid}
 use Rattle.dirty_cells.proofs.Begun.{quiet_first}

@@ -12,20 +12,19 @@ use Rattle.std.specs.FinMap.{find, put, is_sorted, entries, entries_sorted, get,
 use Rattle.std.specs.FinMap.Entries.{below_all, by_order, same_entries, is_sorted-put}
 use Rattle.std.proofs.lemmas.Map.Lookups.{exact_pairs, exact_signed, exact_bytes}
 use lib.IntN.{ℤ}
-use Rattle.finite_sums.specs.Maps.{Text, text_cmp, is_among, some_and, keys_where}
+use Rattle.finite_sums.specs.Maps.{Text, text_cmp, some_and, keys_where}
 use Rattle.finite_sums.proofs.MapSums.{so, both_true, and_both}
-use Rattle.finite_sums.proofs.Texts.{text_same}
 use Rattle.book_rows.specs.declared.rows.Rows.{Rows}
 use Rattle.book_rows.specs.declared.rows.GroupRow.{GroupRow}
 use Rattle.book_rows.specs.declared.rows.CategoryRow.{CategoryRow}
 use Rattle.book_rows.specs.Parts.{is_text}
 use Rattle.envelope_cells.specs.declared.groups.BudgetGroup.{BudgetGroup}
 use Rattle.envelope_cells.specs.declared.groups.Place.{Place}
-use Rattle.envelope_cells.specs.Places.{place_cmp, places_total, placed, group_places, category_places, ids_of_group, with_categories}
+use Rattle.envelope_cells.specs.Places.{place_cmp, places_total, placed, category_places, ids_of_group, with_categories}
 use Rattle.envelope_cells.specs.BudgetOf.{groups_of}
 use Rattle.envelope_cells.specs.CellOf.{group_named}
 use Rattle.envelope_cells.proofs.Among.{same_texts}
-use Rattle.dirty_cells.proofs.Listed.{or_none, or_swap, or_assoc, or_first, or_second, any_same, any-map, any-filter, and_true, and_false, and_assoc, and_comm, has, IsFresh, fresh, fresh_same, any_insert, found_any, found_in, group_found, group_list, category_list}
+use Rattle.dirty_cells.proofs.Listed.{or_none, or_swap, or_assoc, or_first, or_second, any_same, any-map, any-filter, and_false, and_assoc, has, IsFresh, fresh, fresh_same, any_insert, found_any, group_found, group_list, category_list}
 
 -- places that are the same in their order are equal
 place_from : ℤ × Text → Place

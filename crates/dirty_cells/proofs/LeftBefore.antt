@@ -1,5 +1,5 @@
 -- What was left in the expense categories before a month is small.
-use Rattle.std.proofs.Common.{◌≡◌, ℕ, zero, suc, ◌≤◌, ◌<◌, ◌^◌, unsigned_abs, refl, ap, arith}
+use Rattle.std.proofs.Common.{ℕ, zero, suc, ◌≤◌, ◌<◌, ◌^◌, unsigned_abs, refl, ap, arith}
 use Rattle.book_rows.specs.declared.rows.Rows.{Rows}
 use Rattle.book_rows.specs.Book.{HasSizes}
 use Rattle.envelope_cells.specs.Budget.{expense}

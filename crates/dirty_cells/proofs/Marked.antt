@@ -1,5 +1,5 @@
 -- What is said of categories and groups that are not marked stays.
-use Rattle.std.proofs.Common.{◌≡◌, ℕ, Bool, true, false, not, cond, List, [], ◌∷◌, map, Option, Some, None, refl, ap, sym, ◌∙◌, inl, inr, true≢false}
+use Rattle.std.proofs.Common.{◌≡◌, Bool, true, false, not, List, Option, Some, None, refl, ap, sym, ◌∙◌, inl, inr, true≢false}
 use Rattle.std.specs.Prelude.{◌&&◌, ◌⊎◌}
 use Rattle.std.specs.Option.{option_map}
 use Rattle.std.specs.List.{filter}
@@ -11,10 +11,8 @@ use Rattle.book_rows.specs.declared.rows.BudgetRow.{BudgetRow}
 use Rattle.book_rows.specs.declared.rows.GroupRow.{GroupRow}
 use Rattle.book_rows.specs.Live.{is_live_category, is_expense_category, is_live_category_row, has_income_group}
 use Rattle.book_rows.specs.Parts.{is_text}
-use Rattle.book_rows.specs.Ids.{budget_id}
 use Rattle.envelope_cells.specs.Ids.{month_at}
 use Rattle.envelope_cells.specs.BudgetOf.{budget_of, groups_of}
-use Rattle.envelope_cells.specs.Budget.{categories, expense, expense_groups}
 use Rattle.envelope_cells.specs.Places.{ids_of_group}
 use Rattle.envelope_cells.specs.CellOf.{group_named}
 use Rattle.envelope_cells.specs.Laws.{SayTheSame}

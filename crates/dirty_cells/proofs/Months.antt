@@ -1,8 +1,8 @@
 -- Month after month.
-use Rattle.std.proofs.Common.{◌≡◌, ℕ, zero, suc, ◌+◌, ◌-◌, ◌*◌, ◌<◌, ◌≤◌, Bool, true, false, cond, List, [], ◌∷◌, map, Option, None, Some, refl, ap, sym, ◌∙◌, subst, arith, ⊎_elim, inl, inr, true≢false}
+use Rattle.std.proofs.Common.{◌≡◌, ℕ, zero, suc, ◌+◌, ◌<◌, ◌≤◌, Bool, true, false, cond, List, [], ◌∷◌, map, None, Some, refl, ap, sym, ◌∙◌, subst, arith, ⊎_elim, inl, inr, true≢false}
 use Rattle.std.specs.Prelude.{◌⊎◌, ◌||◌}
 use Rattle.std.specs.Ordering.{eq_by_cmp}
-use Rattle.std.specs.FinMap.{find, is_sorted, get, entries, entries_sorted, get-entries}
+use Rattle.std.specs.FinMap.{find, get, entries, get-entries}
 use Rattle.finite_sums.specs.Maps.{Text, Texts, text_cmp, is_among}
 use Rattle.book_rows.specs.declared.rows.Rows.{Rows}
 use Rattle.envelope_cells.specs.Names.{Cells}
@@ -11,9 +11,8 @@ use Rattle.envelope_cells.specs.BudgetOf.{budget_of}
 use Rattle.envelope_cells.specs.Ids.{month_at}
 use Rattle.envelope_cells.specs.declared.name.CellName.{CellName}
 use Rattle.envelope_cells.specs.declared.name.CellKind.{CellKind}
-use Rattle.envelope_cells.proofs.Among.{same_texts}
 use Rattle.dirty_cells.specs.Grid.{is_pending}
-use Rattle.dirty_cells.specs.Right.{cell_at, Pending, AreRightBut, AreRightIn, AreWithin, IsOutside, none_pending}
+use Rattle.dirty_cells.specs.Right.{cell_at, Pending, AreRightBut, AreRightIn, IsOutside, none_pending}
 use Rattle.dirty_cells.proofs.Begun.{nothing_kept}
 
 -- two months of one number

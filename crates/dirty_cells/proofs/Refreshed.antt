@@ -13,16 +13,16 @@ use Rattle.book_rows.specs.Book.{HasSizes}
 use Rattle.book_rows.specs.Live.{is_live_category, is_expense_category, is_live_category_row, has_income_group}
 use Rattle.book_rows.specs.declared.rows.CategoryRow.{CategoryRow}
 use Rattle.envelope_cells.specs.Names.{Cells, cell_cmp, cells_total}
-use Rattle.envelope_cells.specs.Budget.{Budget, categories, expense, categories_of}
+use Rattle.envelope_cells.specs.Budget.{Budget, categories, expense}
 use Rattle.envelope_cells.specs.BudgetOf.{budget_of}
 use Rattle.envelope_cells.specs.Cells.{leftover_before, leftover, carried_before}
 use Rattle.envelope_cells.specs.CellOf.{value_of, of_category, flag_value}
 use Rattle.envelope_cells.specs.Ids.{month_at}
-use Rattle.envelope_cells.specs.Parts.{weight_before, IsSmall}
+use Rattle.envelope_cells.specs.Parts.{weight_before}
 use Rattle.envelope_cells.specs.declared.name.CellName.{CellName}
 use Rattle.envelope_cells.specs.declared.name.CellKind.{CellKind}
 use Rattle.envelope_cells.specs.declared.name.CellKind.TheVariants.{TotalIncome, FromLastMonth, AvailableFunds, LastMonthOverspent, TotalBudgeted, Buffered, ToBudget, TotalSpent, TotalLeftover, GroupSum, GroupBudget, GroupLeftover, Sum, Budget as OfBudget, Carryover, Leftover}
-use Rattle.envelope_cells.proofs.Among.{same_texts, itself, or_either}
+use Rattle.envelope_cells.proofs.Among.{same_texts, or_either}
 use Rattle.envelope_cells.proofs.Bounds.{rows_are_small}
 use Rattle.envelope_cells.proofs.Parts.{left_small}
 use Rattle.dirty_cells.specs.Grid.{is_pending}

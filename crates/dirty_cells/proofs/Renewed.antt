@@ -1,12 +1,12 @@
 -- A range of months in three parts: those that are new before it, those that are computed anew, and those that are new behind it.
-use Rattle.std.proofs.Common.{◌≡◌, ℕ, ◌<◌, ◌≤◌, ◌+◌, ◌-◌, ◌*◌, Option, None, refl, ap, sym, ◌∙◌, arith, ⊎_elim}
+use Rattle.std.proofs.Common.{◌≡◌, ℕ, ◌<◌, ◌≤◌, ◌+◌, ◌*◌, None, sym, ◌∙◌, arith, ⊎_elim}
 use Rattle.std.specs.FinMap.{get}
 use Rattle.envelope_cells.specs.Names.{Cells}
 use Rattle.envelope_cells.specs.Budget.{Budget}
 use Rattle.envelope_cells.specs.Ids.{month_at}
 use Rattle.envelope_cells.specs.declared.name.CellName.{CellName}
-use Rattle.dirty_cells.specs.Right.{AreRightIn, AreWithin, IsOutside, none_pending, Pending}
-use Rattle.dirty_cells.proofs.Months.{other_month, other_month_after, right_beside, apart_before, apart_after, below_or_not}
+use Rattle.dirty_cells.specs.Right.{AreRightIn, AreWithin, IsOutside, Pending}
+use Rattle.dirty_cells.proofs.Months.{other_month, right_beside, apart_before, apart_after, below_or_not}
 
 -- the cell of a month is of none of the months of a range before it, or behind it
 pub outside_before : (from to n : ℕ) (q : CellName) → to ≤ n → q.month ≡ month_at n → IsOutside from to q

@@ -1,5 +1,5 @@
 -- What a live group's record says of its expenses, and what there is of no group.
-use Rattle.std.proofs.Common.{◌≡◌, Bool, true, false, not, cond, List, [], ◌∷◌, Option, Some, None, refl, ap, sym, ◌∙◌, true≢false}
+use Rattle.std.proofs.Common.{◌≡◌, Bool, true, false, not, cond, List, Option, Some, None, refl, ap, sym, ◌∙◌, true≢false}
 use Rattle.std.specs.Prelude.{◌&&◌}
 use Rattle.std.specs.Option.{option_map}
 use Rattle.std.specs.List.{filter}
@@ -12,7 +12,7 @@ use Rattle.envelope_cells.specs.Places.{ids_of_group}
 use Rattle.envelope_cells.specs.CellOf.{group_named}
 use Rattle.envelope_cells.specs.declared.groups.BudgetGroup.{BudgetGroup}
 use Rattle.dirty_cells.proofs.Listed.{all_pass, category_list}
-use Rattle.dirty_cells.proofs.Groups.{named_is, side_of, group_by}
+use Rattle.dirty_cells.proofs.Groups.{named_is, side_of}
 
 module _ (r : Rows) (id : Text) where
   abbrev ids : List Text

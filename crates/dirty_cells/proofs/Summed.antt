@@ -1,11 +1,8 @@
 -- The cells of a group add up kept cells of its categories.
-use Rattle.std.proofs.Common.{◌≡◌, ℕ, suc, ◌+◌, ◌≤◌, ◌<◌, ◌^◌, Bool, true, false, not, cond, List, [], ◌∷◌, ◌++◌, Option, Some, None, refl, ap, sym, ◌∙◌, arith, true≢false, unsigned_abs, add-one}
-use Rattle.std.specs.Prelude.{◌||◌, unwrap_or}
-use Rattle.std.specs.List.{filter}
+use Rattle.std.proofs.Common.{◌≡◌, ℕ, suc, ◌≤◌, ◌<◌, ◌^◌, Bool, true, false, cond, List, [], ◌∷◌, ◌++◌, Some, None, refl, ap, sym, ◌∙◌, arith, unsigned_abs}
+use Rattle.std.specs.Prelude.{unwrap_or}
 use Rattle.std.specs.Ordering.{eq_by_cmp}
-use lib.IntN.{ℤ, pos}
-use Rattle.std.proofs.lemmas.Int.{ints}
-use Rattle.std.specs.FinMap.{get}
+use lib.IntN.{pos}
 use Rattle.finite_sums.specs.Sums.{total, weight}
 use Rattle.finite_sums.specs.Maps.{Text, text_cmp, is_among}
 use Rattle.book_rows.specs.declared.rows.Rows.{Rows}
@@ -14,17 +11,15 @@ use Rattle.envelope_cells.specs.Names.{Cells}
 use Rattle.envelope_cells.specs.Budget.{Budget, categories, categories_of, expense, expense_groups}
 use Rattle.envelope_cells.specs.BudgetOf.{budget_of}
 use Rattle.envelope_cells.specs.Cells.{leftover}
-use Rattle.envelope_cells.specs.CellOf.{value_of, of_category, of_group, group_named}
+use Rattle.envelope_cells.specs.CellOf.{value_of, of_group, group_named}
 use Rattle.envelope_cells.specs.Parts.{weight_before}
-use Rattle.envelope_cells.specs.declared.name.CellKind.{CellKind}
-use Rattle.envelope_cells.specs.declared.name.CellKind.TheVariants.{Sum, Budget as OfBudget, Carryover, Leftover, GroupSum, GroupBudget, GroupLeftover}
-use Rattle.envelope_cells.proofs.Among.{itself, or_left, or_right, total_on, in_front, in_back, of_some}
-use Rattle.envelope_cells.proofs.Lists.{weight-append, weight_le}
+use Rattle.envelope_cells.specs.declared.name.CellKind.TheVariants.{Sum, Budget as OfBudget, Leftover, GroupSum, GroupBudget, GroupLeftover}
+use Rattle.envelope_cells.proofs.Among.{itself, or_left, or_right, total_on, in_front, in_back}
+use Rattle.envelope_cells.proofs.Lists.{weight-append}
 use Rattle.envelope_cells.proofs.Parts.{left_small}
 use Rattle.envelope_cells.proofs.Bounds.{rows_are_small}
 use Rattle.envelope_cells.specs.declared.groups.BudgetGroup.{BudgetGroup}
-use Rattle.dirty_cells.specs.Grid.{is_pending}
-use Rattle.dirty_cells.specs.Right.{cell_at, AreRightBut, HasCategories, kept_value}
+use Rattle.dirty_cells.specs.Right.{HasCategories, kept_value}
 
 -- a named group is one of the groups
 module _ (id : Text) (k : BudgetGroup) where

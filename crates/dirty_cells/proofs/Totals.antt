@@ -1,14 +1,14 @@
 -- The cells of a whole month, from those of its groups and those of the month before.
-use Rattle.std.proofs.Common.{◌≡◌, ℕ, zero, suc, Bool, true, false, not, List, [], ◌∷◌, ◌++◌, refl, ap, sym, ◌∙◌, arith}
+use Rattle.std.proofs.Common.{◌≡◌, ℕ, zero, suc, List, [], ◌∷◌, refl, sym, ◌∙◌, arith}
 use lib.IntN.{ℤ, pos, ◌+ℤ◌, ◌-ℤ◌}
 use Rattle.std.proofs.lemmas.Int.{ints}
 use Rattle.finite_sums.specs.Sums.{total}
 use Rattle.finite_sums.specs.Maps.{Text}
 use Rattle.finite_sums.proofs.Totals.{total-append, total-plus}
-use Rattle.envelope_cells.specs.Budget.{Budget, categories_of, categories, income, expense, income_groups, expense_groups}
-use Rattle.envelope_cells.specs.Cells.{leftover_before, buffered_before, to_budget_before, money_before, from_last_month, last_month_overspent, all_budgeted, total_spent, total_income, total_leftover, leftover}
+use Rattle.envelope_cells.specs.Budget.{Budget, categories_of, categories, expense, income_groups, expense_groups}
+use Rattle.envelope_cells.specs.Cells.{leftover_before, money_before, from_last_month, last_month_overspent, all_budgeted, total_spent, total_income, total_leftover, leftover}
 use Rattle.envelope_cells.specs.Parts.{IsPast, sums_before}
-use Rattle.envelope_cells.proofs.Money.{all_left_before, leftovers_next, money_before_is, split, total_same, total_zero}
+use Rattle.envelope_cells.proofs.Money.{all_left_before, leftovers_next, money_before_is, total_same, total_zero}
 use Rattle.envelope_cells.specs.declared.groups.BudgetGroup.{BudgetGroup}
 use Rattle.dirty_cells.specs.Grid.{nothing}
 

@@ -1,6 +1,6 @@
 -- What the groups of a month have together, and what the month before left, from kept cells; and all of it is small.
-use Rattle.std.proofs.Common.{◌≡◌, ℕ, zero, suc, ◌+◌, ◌-◌, ◌/◌, ◌%◌, ◌≤◌, ◌<◌, ◌^◌, Bool, true, false, not, cond, List, [], ◌∷◌, ◌++◌, map, Option, Some, None, unsigned_abs, refl, ap, sym, ◌∙◌, arith}
-use Rattle.std.specs.Prelude.{◌&&◌, ◌||◌, unwrap_or}
+use Rattle.std.proofs.Common.{◌≡◌, ℕ, suc, ◌+◌, ◌-◌, ◌/◌, ◌%◌, ◌≤◌, ◌<◌, ◌^◌, Bool, true, false, not, cond, List, [], ◌∷◌, ◌++◌, map, Some, unsigned_abs, refl, ap, ◌∙◌, arith}
+use Rattle.std.specs.Prelude.{unwrap_or}
 use Rattle.std.specs.List.{filter}
 use Rattle.std.specs.Ordering.{eq_by_cmp}
 use lib.IntN.{ℤ, pos, ◌+ℤ◌}
@@ -13,13 +13,13 @@ use Rattle.book_rows.specs.declared.rows.Rows.{Rows}
 use Rattle.book_rows.specs.Book.{HasSizes}
 use Rattle.book_rows.specs.Months.{is_month}
 use Rattle.envelope_cells.specs.Names.{Cells}
-use Rattle.envelope_cells.specs.Budget.{Budget, categories, categories_of, expense, expense_groups}
+use Rattle.envelope_cells.specs.Budget.{Budget, categories, categories_of}
 use Rattle.envelope_cells.specs.BudgetOf.{budget_of, groups_of}
 use Rattle.envelope_cells.specs.Places.{ids_of_group, with_categories}
-use Rattle.envelope_cells.specs.Cells.{leftover, leftover_before, total_income, total_spent, last_month_overspent, all_budgeted, total_leftover, to_budget, from_last_month}
+use Rattle.envelope_cells.specs.Cells.{leftover, total_income, total_spent, last_month_overspent, all_budgeted, total_leftover, to_budget, from_last_month}
 use Rattle.envelope_cells.specs.CellOf.{value_of}
 use Rattle.envelope_cells.specs.Ids.{month_at, month_number}
-use Rattle.envelope_cells.specs.Parts.{weight_before, IsPast}
+use Rattle.envelope_cells.specs.Parts.{weight_before}
 use Rattle.envelope_cells.specs.declared.groups.BudgetGroup.{BudgetGroup}
 use Rattle.envelope_cells.specs.declared.groups.Place.{Place}
 use Rattle.envelope_cells.specs.declared.name.CellKind.{CellKind}
@@ -28,15 +28,15 @@ use Rattle.envelope_cells.proofs.Among.{itself, or_left, or_right}
 use Rattle.envelope_cells.proofs.Lists.{weight-append, total_within}
 use Rattle.envelope_cells.proofs.Parts.{left_small}
 use Rattle.envelope_cells.proofs.Small.{cells_are_small_lem}
-use Rattle.dirty_cells.specs.Grid.{is_pending, nothing}
+use Rattle.dirty_cells.specs.Grid.{is_pending}
 use Rattle.dirty_cells.specs.Right.{cell_at, kept_value, AreRightBut, none_pending}
-use Rattle.dirty_cells.specs.WholeOf.{IsWhole, is_on, kept_of_group, AreTotals, IsBegin, left_before, overspent_by, whole_by}
+use Rattle.dirty_cells.specs.WholeOf.{IsWhole, kept_of_group, AreTotals, IsBegin, left_before, overspent_by, whole_by}
 use Rattle.dirty_cells.specs.declared.whole.Totals.{Totals}
 use Rattle.dirty_cells.specs.declared.whole.Begin.{Begin}
 use Rattle.dirty_cells.proofs.Listed.{group_list, category_list}
 use Rattle.dirty_cells.proofs.GroupTotals.{of_side, ids, kept, kept_expense, income_from_groups, spent_from_groups, budgeted_from_groups, leftover_from_groups}
 use Rattle.dirty_cells.proofs.Summed.{small_rows}
-use Rattle.dirty_cells.proofs.Totals.{overspent_of_totals, quiet_left, quiet_from}
+use Rattle.dirty_cells.proofs.Totals.{overspent_of_totals}
 
 -- ---- sums over all groups are sums over those of a side
 by_side : (u : Bool → Bool) (F : Text → ℤ) (gs : List BudgetGroup) → total (λ (g : BudgetGroup). only_if (u g.is_income) (F g.id)) gs ≡ total F (map (λ (g : BudgetGroup). g.id) (filter (λ k. u k.is_income) gs))

@@ -1,25 +1,19 @@
 -- What is kept, and which cells are computed anew.
-use Rattle.std.specs.Prelude.{◌≡◌, ℕ, ◌<◌, ◌≤◌, Bool, true, false, ◌&&◌, not, ℤ, pos, neg_ℤ, List, [], ◌∷◌, Option, Some, None, nat_lt, if◌then◌else◌}
+use Rattle.std.specs.Prelude.{◌≡◌, ℕ, ◌<◌, Bool, true, false, pos, List, [], ◌∷◌, Some}
 use Rattle.std.specs.FinMap as map
 use Rattle.finite_sums.specs.Maps.{Text, text_cmp, is_among, some_and}
 use Rattle.book_rows.specs.declared.rows.CategoryRow.{CategoryRow}
 use Rattle.book_rows.specs.Parts.{is_text}
 use Rattle.book_rows.specs.Ids.{budget_id}
 use Rattle.book_rows.specs.declared.rows.Rows.{Rows}
-use Rattle.book_rows.specs.declared.rows.TxRow.{TxRow}
-use Rattle.book_rows.specs.Months.{is_month, window_of}
-use Rattle.envelope_cells.specs.Names.{Cells}
 use Rattle.envelope_cells.specs.Budget.{Budget, categories, expense, expense_groups}
-use Rattle.envelope_cells.specs.CellOf.{value_of, cell_of, group_named}
-use Rattle.envelope_cells.specs.BudgetOf.{budget_of, category_sum}
-use Rattle.envelope_cells.specs.Ids.{month_number, month_at}
-use Rattle.envelope_cells.specs.Parts.{AreSums, IsPast}
+use Rattle.envelope_cells.specs.CellOf.{group_named}
+use Rattle.envelope_cells.specs.BudgetOf.{category_sum}
 use Rattle.envelope_cells.specs.Laws.{SayTheSame}
 use Rattle.envelope_cells.specs.declared.groups.BudgetGroup.{BudgetGroup}
 use Rattle.envelope_cells.specs.declared.part.Past.{Past}
-use Rattle.envelope_cells.specs.declared.name.CellName.{CellName}
 use Rattle.envelope_cells.specs.declared.name.CellKind.{CellKind}
-use Rattle.envelope_cells.specs.declared.name.CellKind.TheVariants.{TotalIncome, FromLastMonth, AvailableFunds, LastMonthOverspent, TotalBudgeted, Buffered, ToBudget, TotalSpent, TotalLeftover, GroupSum, GroupBudget, GroupLeftover, Sum, Budget as OfBudget, Carryover, Leftover}
+use Rattle.envelope_cells.specs.declared.name.CellKind.TheVariants.{GroupSum, GroupBudget, GroupLeftover, Sum, Budget as OfBudget, Carryover, Leftover}
 
 -- a cell of the whole month has the empty id: there is none with another, so none is to be computed
 abbrev pub of_whole : Bool → Text → Bool

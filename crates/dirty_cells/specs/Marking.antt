@@ -1,10 +1,9 @@
 -- Which categories, groups and months are marked: those of whose cells changes may change one.
-use Rattle.std.specs.Prelude.{◌≡◌, ℕ, Bool, true, false, ◌&&◌, ◌||◌, ◌==◌, nat_lt, min, List, [], ◌∷◌, ◌++◌, flat_map, map as list_map, length, drop, slice_index, Option, Some, None, is_some, if◌then◌else◌}
+use Rattle.std.specs.Prelude.{◌≡◌, ℕ, Bool, true, false, ◌||◌, ◌==◌, nat_lt, min, List, [], ◌∷◌, flat_map, map as list_map, length, drop, slice_index, Option, Some, None, is_some, if◌then◌else◌}
 use Rattle.std.specs.List.{list_any}
 use Rattle.std.specs.FinMap as map
 use Rattle.finite_sums.specs.Maps.{Text, text_cmp, is_among, keys_where}
 use Rattle.book_rows.specs.declared.rows.Rows.{Rows}
-use Rattle.book_rows.specs.declared.rows.TxRow.{TxRow}
 use Rattle.book_rows.specs.declared.rows.CategoryRow.{CategoryRow}
 use Rattle.book_rows.specs.declared.column.Dataset.{Dataset}
 use Rattle.book_rows.specs.declared.column.Dataset.TheVariants.{CategoryGroups, Categories, ZeroBudgets, ZeroBudgetMonths}

@@ -131,7 +131,7 @@ looked_found count ks b s at k looked some at_place same =
 
 pub looked_all : (count : ℕ) (ks : List Kept) (b : ℕ) (s : Stamp) (at : ℕ) → IsLookedThrough count ks b s at → at ≡ 0 → is_among s (map stamp_of ks) ≡ false
 looked_all count ks b s at looked none_left =
-    let d : Kept = record { millis = s.millis; node = s.node; counter = s.counter; before = 0 } in
+    let d : Kept = record { minute = 0; millis = s.millis; node = s.node; counter = s.counter; before = 0 } in
     let long = length-map ks stamp_of in
     list_any_none (λ t. is_eq (stamp_cmp s t)) (map stamp_of ks)
     (All-from_get_or (λ t. is_eq (stamp_cmp s t) ≡ false) (map stamp_of ks) s

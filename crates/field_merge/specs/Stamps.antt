@@ -1,5 +1,5 @@
 -- How the timestamps that came are kept: in the order in which they came, and by their hashes in buckets.
-use Rattle.std.specs.Prelude.{◌≡◌, ◌≢◌, ◌≤◌, ◌<◌, ◌-◌, ◌^◌, ◌∷◌, ◌++◌, ℕ, List, [], length, map, slice_index, bit_and, bit_xor}
+use Rattle.std.specs.Prelude.{◌≡◌, ◌≢◌, ◌≤◌, ◌<◌, ◌+◌, ◌-◌, ◌*◌, ◌^◌, ◌∷◌, ◌++◌, ℕ, List, [], length, map, slice_index, bit_and, bit_xor}
 use Rattle.std.specs.List.{fold}
 use Rattle.std.specs.Hash as fed
 use Rattle.std.specs.Hash.FoldHasher as folding
@@ -14,8 +14,9 @@ stamp_hash s = folding.finish (fold folding.write folding.initial (fed.u64 (bit_
 abbrev pub bucket_of : ℕ → Stamp → ℕ
 bucket_of count s = bit_and (stamp_hash s) (count - 1)
 
+-- the timestamp of a minute, and of a millisecond in it
 abbrev pub stamp_of : Kept → Stamp
-stamp_of k = record { millis = k.millis; counter = k.counter; node = k.node }
+stamp_of k = record { millis = k.minute * 60_000 + k.millis; counter = k.counter; node = k.node }
 
 -- where the buckets of all are these, `at` is one past the last place below `upto` of one of the bucket b, or 0 where there is none
 pub record IsLink (buckets : List ℕ) (b at upto : ℕ) : Type 0 where

@@ -1,6 +1,7 @@
 //! The timestamps that came.
 ghost use Rattle.std.specs.Prelude.{◌≡◌, ◌<◌, ◌∷◌, ◌++◌, ◌^◌, [], ℕ, if◌then◌else◌, length, map, not, replicate, IfOk, OnErr, OnOk};
 ghost use Rattle.hybrid_clock.specs.declared.stamp.Stamp.{Stamp as AnyStamp};
+ghost use Rattle.hybrid_clock.specs.Stamp.{IsStamp};
 ghost use Rattle.field_merge.specs.Latest.{is_among};
 ghost use Rattle.field_merge.specs.Stamps.{bucket_of as bucket_in, stamp_hash, stamp_of, IsStored};
 
@@ -10,12 +11,15 @@ use std::alloc::Global;
 use std::hash::{FoldHasher, Hash, Hasher};
 use std::marker::Model;
 
-/// A timestamp that came, in the 32 bytes that a `Stamp` takes.
+/// A timestamp that came, in 28 bytes, where a `Stamp` takes 32.
 #[derive(Clone, Copy)]
 struct Kept {
-    millis: u64,
-    node: Node,
+    /// The whole minutes since 1970.
+    minute: u32,
+    /// The milliseconds of the minute.
+    millis: u16,
     counter: u16,
+    node: Node,
     /// One past the place of the one of its bucket that came before it, or 0 where none did.
     before: u32,
 }
@@ -31,6 +35,9 @@ pub(crate) struct Stamps {
     heads: Vec<u32>,
     kept: Vec<Kept>,
 }
+
+/// The milliseconds of a minute.
+const MINUTE: u64 = 60_000;
 
 /// There are so many buckets at first.
 const FIRST_BUCKETS: usize = 1 << 12;
@@ -52,9 +59,24 @@ impl Kept {
         ensures { result ≡ stamp_of self.now }
     {
         Stamp {
-            millis: self.millis,
+            millis: self.minute as u64 * MINUTE + self.millis as u64,
             counter: self.counter,
             node: self.node,
+        }
+    }
+
+    /// A timestamp, and what its bucket had.
+    fn of(stamp: Stamp, before: u32) -> Kept
+        requires { IsStamp stamp }
+        ensures same { stamp_of result ≡ stamp }
+        ensures before { result.before ≡ before }
+    {
+        Kept {
+            minute: (stamp.millis / MINUTE) as u32,
+            millis: (stamp.millis % MINUTE) as u16,
+            counter: stamp.counter,
+            node: stamp.node,
+            before,
         }
     }
 }
@@ -109,18 +131,18 @@ fn link(heads: &mut [u32], kept: &mut [Kept])
     }
 }
 
-/// Makes more buckets where there are not twice as many as timestamps.
+/// Makes more buckets where there are not more than timestamps.
 fn make_room(alloc: Global, heads: &mut Vec<u32>, kept: &mut [Kept]) -> Result<(), NoMemory>
     requires { IsStored heads.old.items kept.old }
     ensures stored { IsStored heads.new.items kept.new }
     ensures same { map stamp_of kept.new ≡ map stamp_of kept.old }
     ensures room { OnOk result (0 < length heads.new.items) }
 {
-    if 2 * kept.len() < heads.len() {
+    if kept.len() < heads.len() {
         return Ok(());
     }
     let mut more = Vec::new(alloc);
-    more.resize((4 * kept.len()).max(FIRST_BUCKETS), 0u32)?;
+    more.resize((2 * kept.len()).max(FIRST_BUCKETS), 0u32)?;
     link(&mut more, kept);
     *heads = more;
     Ok(())
@@ -133,6 +155,7 @@ fn append(
     bucket: usize,
     stamp: Stamp,
 ) -> Result<(), NoMemory>
+    requires valid { IsStamp stamp }
     requires stored { IsStored heads.old kept.old.items }
     requires within { bucket < length heads.old }
     requires bucket { bucket ≡ bucket_in (length heads.old) stamp }
@@ -143,12 +166,7 @@ fn append(
     if kept.len() >= u32::MAX as usize {
         return Err(NoMemory);
     }
-    kept.push(Kept {
-        millis: stamp.millis,
-        node: stamp.node,
-        counter: stamp.counter,
-        before: heads[bucket],
-    })?;
+    kept.push(Kept::of(stamp, heads[bucket]))?;
     heads[bucket] = kept.len() as u32;
     Ok(())
 }
@@ -167,6 +185,7 @@ impl Stamps {
 
     /// Takes one more unless it came before, and says whether it did not.
     pub(crate) fn insert(&mut self, stamp: Stamp) -> Result<bool, NoMemory>
+        requires { IsStamp stamp }
         ensures fresh { IfOk result (λ fresh. fresh ≡ not (is_among stamp self.old)) }
         ensures kept { IfOk result (λ fresh. self.new ≡ (if fresh then self.old ++ stamp ∷ [] else self.old)) }
     {

@@ -1,4 +1,4 @@
-use Rattle.std.proofs.Common.{◌≡◌, ap, ◌∙◌, arith}
+use Rattle.std.proofs.Common.{ap, ◌∙◌, arith}
 use Rattle.std.specs.FinMap.{get, get-empty}
 use Rattle.envelope_cells.specs.Names.{cell_cmp}
 use Rattle.envelope_cells.specs.BudgetOf.{budget_of}

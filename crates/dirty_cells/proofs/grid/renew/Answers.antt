@@ -1,4 +1,4 @@
-use Rattle.std.proofs.Common.{◌≡◌, ◌-◌, ◌≤◌, length, true, arith, OnOk, Result, Ok, Err}
+use Rattle.std.proofs.Common.{◌-◌, length, true, arith, OnOk, Result, Ok, Err}
 use Rattle.std.specs.FinMap.{entries}
 use Rattle.envelope_cells.specs.BudgetOf.{budget_of}
 use Rattle.dirty_cells.specs.Grid.{is_pending}

@@ -1,12 +1,10 @@
-use Rattle.std.proofs.Common.{◌≡◌, ap, sym, ◌∙◌, rules, OnOk, Result, Ok, Err, Some, None, to_z, of_z}
+use Rattle.std.proofs.Common.{ap, sym, ◌∙◌, rules, OnOk, Result, Ok, Err, Some}
 use mir.Val.{SFits}
 use mir.Syntax.{w128}
 use Rattle.std.proofs.lemmas.Int.{to_z-of_z}
-use Rattle.envelope_cells.specs.Budget.{Budget, expense_groups}
 use Rattle.envelope_cells.specs.BudgetOf.{budget_of}
 use Rattle.envelope_cells.specs.Cells.{leftover}
-use Rattle.envelope_cells.specs.CellOf.{value_of, of_group}
-use Rattle.envelope_cells.specs.declared.name.CellKind.TheVariants.{GroupSum, GroupBudget, GroupLeftover}
+use Rattle.envelope_cells.specs.CellOf.{of_group}
 use Rattle.envelope_cells.specs.declared.groups.BudgetGroup.{BudgetGroup}
 use Rattle.dirty_cells.proofs.Summed.{group_sum, group_budget, group_leftover, sums_small, budgets_small, leftovers_small, small_rows}
 use Rattle.dirty_cells.proofs.group.refresh_group.Goals as goal

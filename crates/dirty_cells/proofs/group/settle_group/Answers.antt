@@ -1,6 +1,4 @@
-use Rattle.std.proofs.Common.{◌≡◌, ap, ◌∙◌, OnOk, Result, Ok, Err, subst}
-use Rattle.envelope_cells.specs.declared.name.CellKind.TheVariants.{GroupSum, GroupBudget, GroupLeftover}
-use Rattle.dirty_cells.specs.Right.{cell_at, Settled}
+use Rattle.std.proofs.Common.{OnOk, Result, Ok, Err, subst}
 use Rattle.dirty_cells.specs.Spots.{SettledThree}
 use Rattle.dirty_cells.proofs.Refreshed.{group_right, group_elsewhere}
 use Rattle.dirty_cells.proofs.group.settle_group.Goals as goal

@@ -1,15 +1,14 @@
-use Rattle.std.proofs.Common.{◌≡◌, ℕ, ◌+◌, ◌*◌, ◌≤◌, ◌<◌, ◌^◌, ◌+ℤ◌, List, length, unsigned_abs, rules, arith, drop, to_z, ap, ◌∙◌, Option, Some}
+use Rattle.std.proofs.Common.{◌≡◌, ◌+◌, ◌*◌, ◌≤◌, ◌+ℤ◌, unsigned_abs, rules, arith, drop, to_z, ap, ◌∙◌}
 use mir.Syntax.{w128}
 use mir.Val.{SFits}
-use lib.IntN.{ℤ, pos}
+use lib.IntN.{pos}
 use Rattle.std.specs.Prelude.{unwrap_or}
 use Rattle.std.specs.FinMap.{get}
 use Rattle.std.proofs.lemmas.Int.{ints}
-use Rattle.finite_sums.specs.Maps.{Text}
 use Rattle.finite_sums.specs.Sums.{total, weight}
 use Rattle.envelope_cells.proofs.Lists.{weight_here, sum_small, sum_turn}
 use Rattle.envelope_cells.specs.declared.name.CellKind.TheVariants.{Sum, Budget as OfBudget, Leftover}
-use Rattle.dirty_cells.specs.Right.{cell_at, kept_value}
+use Rattle.dirty_cells.specs.Right.{kept_value}
 use Rattle.dirty_cells.proofs.group.sums_kept.Goals as goal
 
 pub overflow_add-sum : goal.overflow_add-sum

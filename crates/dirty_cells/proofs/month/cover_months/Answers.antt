@@ -1,4 +1,4 @@
-use Rattle.std.proofs.Common.{◌≡◌, ap, ◌∙◌}
+use Rattle.std.proofs.Common.{◌∙◌}
 use Rattle.dirty_cells.proofs.Months.{all_pending}
 use Rattle.dirty_cells.proofs.month.cover_months.Goals as goal
 

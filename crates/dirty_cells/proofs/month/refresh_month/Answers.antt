@@ -1,4 +1,4 @@
-use Rattle.std.proofs.Common.{◌≡◌, ◌<◌, arith, ◌∙◌, OnOk, Result, Ok, Err}
+use Rattle.std.proofs.Common.{◌<◌, arith, ◌∙◌, OnOk, Result, Ok, Err}
 use Rattle.envelope_cells.specs.BudgetOf.{budget_of}
 use Rattle.dirty_cells.proofs.Settling.{month_stays}
 use Rattle.dirty_cells.proofs.month.refresh_month.Goals as goal

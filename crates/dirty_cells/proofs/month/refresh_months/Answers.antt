@@ -1,4 +1,4 @@
-use Rattle.std.proofs.Common.{◌≡◌, ℕ, zero, suc, ◌+◌, ◌-◌, ◌*◌, ◌<◌, ◌≤◌, length, true, refl, ap, sym, arith, ◌∙◌}
+use Rattle.std.proofs.Common.{◌≡◌, ℕ, ◌+◌, ◌-◌, ◌*◌, ◌≤◌, length, true, ap, arith, ◌∙◌}
 use Rattle.envelope_cells.specs.BudgetOf.{budget_of}
 use Rattle.dirty_cells.specs.Grid.{is_pending}
 use Rattle.dirty_cells.specs.Steps.{month_cost}

@@ -1,4 +1,4 @@
-use Rattle.std.proofs.Common.{◌≡◌, length, arith, ◌∙◌, ap, subst}
+use Rattle.std.proofs.Common.{length, arith, ◌∙◌, ap, subst}
 use Rattle.std.specs.Prelude.{◌||◌, flat_map}
 use Rattle.std.specs.BTreeSet as set
 use Rattle.std.specs.List.Sorted.{IsStrictlySortedBy}

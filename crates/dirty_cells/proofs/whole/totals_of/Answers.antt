@@ -1,4 +1,4 @@
-use Rattle.std.proofs.Common.{◌≡◌, ◌≤◌, ◌^◌, unsigned_abs, true, false, rules, ap, sym, ◌∙◌, subst, to_z, of_z, List}
+use Rattle.std.proofs.Common.{◌≤◌, ◌^◌, unsigned_abs, true, false, rules, ap, sym, ◌∙◌, subst, List}
 use mir.Syntax.{w128}
 use mir.Val.{SFits}
 use Rattle.std.proofs.lemmas.Int.{to_z-of_z}

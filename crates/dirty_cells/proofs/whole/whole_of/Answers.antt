@@ -1,4 +1,4 @@
-use Rattle.std.proofs.Common.{◌≡◌, ◌≤◌, ◌^◌, unsigned_abs, refl, ap, sym, ◌∙◌, subst, rules, arith, to_z, of_z}
+use Rattle.std.proofs.Common.{unsigned_abs, refl, ap, sym, ◌∙◌, subst, rules, arith, to_z, of_z}
 use mir.Val.{SFits}
 use mir.Syntax.{w64}
 use Rattle.std.proofs.lemmas.Int.{ints, to_z-of_z}

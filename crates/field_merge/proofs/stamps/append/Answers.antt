@@ -12,4 +12,4 @@ returns-clause-stored c =
     let counted : c.len-2.result ≡ length c.args.kept.now.items + 1 = omega (arith, long, more, now) in
     let small : c.len-2.result < 2 ^ 32 = omega (arith, long, more, now) in
     subst (λ (ks : List Kept). IsStored (set c.args.heads.now c.args.bucket c.len-2.result) ks) (sym c.in_ok-push.ensures.items)
-    (stored_more c.args.heads.now c.args.kept.now.items c.args.bucket c.len-2.result c.args.stamp _ c.requires.stored c.requires.within c.requires.bucket refl refl counted small)
+    (stored_more c.args.heads.now c.args.kept.now.items c.args.bucket c.len-2.result c.args.stamp _ c.requires.stored c.requires.within c.requires.bucket c.of.ensures.same c.of.ensures.before counted small)

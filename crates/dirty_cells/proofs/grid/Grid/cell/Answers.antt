@@ -1,4 +1,4 @@
-use Rattle.std.proofs.Common.{◌≡◌, Bool, None, ap, ◌∙◌, if◌then◌else◌}
+use Rattle.std.proofs.Common.{Bool, None, ap, ◌∙◌, if◌then◌else◌}
 use Rattle.envelope_cells.specs.BudgetOf.{budget_of}
 use Rattle.envelope_cells.specs.CellOf.{cell_of}
 use Rattle.dirty_cells.proofs.Covered.{keeps_money}

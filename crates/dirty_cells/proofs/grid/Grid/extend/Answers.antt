@@ -1,4 +1,4 @@
-use Rattle.std.proofs.Common.{◌≡◌, ◌<◌, ◌≤◌, ◌+◌, ◌-◌, ◌*◌, length, refl, ap, sym, ◌∙◌, subst, arith}
+use Rattle.std.proofs.Common.{◌<◌, ◌≤◌, ◌+◌, ◌-◌, ◌*◌, length, refl, ap, sym, ◌∙◌, subst, arith}
 use Rattle.std.specs.FinMap.{entries}
 use Rattle.book_rows.specs.Months.{window_of}
 use Rattle.envelope_cells.specs.Ids.{month_number}

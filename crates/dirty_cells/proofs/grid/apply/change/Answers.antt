@@ -1,6 +1,5 @@
-use Rattle.std.proofs.Common.{◌≡◌, ◌<◌, ◌≤◌, ◌+◌, ◌-◌, ◌*◌, true, length, refl, ap, sym, ◌∙◌, subst, arith}
+use Rattle.std.proofs.Common.{◌<◌, ◌≤◌, ◌+◌, ◌-◌, ◌*◌, true, length, refl, ap, sym, ◌∙◌, subst, arith}
 use Rattle.std.specs.FinMap.{entries}
-use Rattle.finite_sums.specs.Maps.{Text}
 use Rattle.envelope_cells.specs.BudgetOf.{budget_of}
 use Rattle.dirty_cells.specs.Bound.{different, pairs, touched_categories, touched_groups, touched_count, first_touched}
 use Rattle.dirty_cells.specs.Grid.{is_pending}
