@@ -1,5 +1,5 @@
 -- A TAB is ASCII, so the line may be cut before and behind it.
-use Rattle.std.proofs.Common.{arith, ◌<◌, lit<, subst, sym}
+use Rattle.std.proofs.Common.{lit<}
 use Rattle.std.proofs.lemmas.Str.{IsCharBoundary-before_ascii, IsCharBoundary-after_ascii}
 use Rattle.field_merge.proofs.LineLemmas.{FirstTab, parts-whole, parts-cut}
 use Rattle.field_merge.proofs.line.cut_part.Goals as goal

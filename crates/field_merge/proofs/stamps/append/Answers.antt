@@ -1,4 +1,4 @@
-use Rattle.std.proofs.Common.{◌≡◌, ◌<◌, ◌+◌, ◌^◌, List, length, set, arith, refl, sym, subst}
+use Rattle.std.proofs.Common.{◌≡◌, ◌<◌, ◌+◌, ◌^◌, List, length, set, arith, sym, subst}
 use Rattle.field_merge.specs.declared.stamps.Kept.{Kept}
 use Rattle.field_merge.specs.Stamps.{IsStored}
 use Rattle.field_merge.proofs.Links.{stored_more}

@@ -1,4 +1,4 @@
-use Rattle.std.proofs.Common.{◌≡◌, ◌<◌, length, arith, ap, refl, ◌∙◌}
+use Rattle.std.proofs.Common.{◌<◌, length, arith, ap, refl, ◌∙◌}
 use Rattle.std.proofs.lemmas.List.{get_or_default}
 use Rattle.field_merge.specs.Stamps.{bucket_of, stamp_of}
 use Rattle.field_merge.proofs.Links.{put_linked, put_same}
