@@ -66,25 +66,6 @@ at_front (x ∷ batch) (suc i) r here = at_front batch i r here
 pub one_read : (batch : List Record) (i : ℕ) (r : Record) → slice_get batch i ≡ Some r → drop i batch ≡ r ∷ drop (i + 1) batch
 one_read batch i r here = rw add-one (at_front batch i r here)
 
--- which entries a range from a key on has: those above the key
-abbrev pub is_above : Text → Text × Text → Bool
-is_above k e = is_lt (text_cmp k e.0) && not false
-
-same_scan : (k : Text) (es : List (Text × Text)) → filter (is_above k) es ≡ filter (λ e. is_lt (text_cmp k e.0)) es
-same_scan k [] = refl
-same_scan k (e ∷ es) =
-    ap (λ b. cond b (e ∷ filter (is_above k) es) (filter (is_above k) es)) (simple (is_lt (text_cmp k e.0)))
-    ∙ ap (λ l. cond (is_lt (text_cmp k e.0)) (e ∷ l) l) (same_scan k es)
-  where
-    simple : (b : Bool) → (b && not false) ≡ b
-    simple true = refl
-    simple false = refl
-
-pub scan_start : (k : Text) (es : List (Text × Text)) (m : Bodies) → from_entries es ≡ m → IsStrictlySortedBy text_cmp (keys_of es) → map of_pair (filter (is_above k) es) ≡ bodies_after m k
-scan_start k es m is sorted =
-    ap (map of_pair) (same_scan k es)
-    ∙ ap (λ l. map of_pair (filter (λ e. is_lt (text_cmp k e.0)) l)) (sym (entries_are text_total text_same es (rising text_cmp es sorted)) ∙ ap entries is)
-
 -- the last place is taken from the list, and its record out
 pub one_popped : (batch : List Record) (m n : Bodies) (places popped : List ℕ) (i : ℕ) (r : Record) → places ≡ popped ++ i ∷ [] → slice_get batch i ≡ Some r → n ≡ remove m r.key → taken_out batch n popped ≡ taken_out batch m places
 one_popped batch m n places popped i r pop here out =

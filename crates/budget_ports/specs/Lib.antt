@@ -6,6 +6,7 @@ pub mod Contents
 pub mod Keeper
 pub mod Groups
 pub mod KeeperState
+pub mod Latest
 pub mod Undoing
 pub mod Exchanges
 pub mod Script

@@ -4,32 +4,36 @@ ghost use Rattle.std.specs.List.{slice_get};
 ghost use Rattle.std.specs.FinMap as map;
 ghost use Rattle.budget_ports.specs.declared.keeper.Record.{Record};
 ghost use Rattle.budget_ports.specs.Groups.{with_body, with_bodies, bodies_after};
+ghost use Rattle.budget_ports.specs.Latest.{IsRoomFor};
 ghost use Rattle.budget_ports.specs.Undoing.{taken_out};
 
 use crate::keeper::Record;
+use crate::latest_first::LatestFirst;
 use field_values::{Items, NoMemory, Txt};
 use std::alloc::Global;
 use std::collections::BTreeMap;
 use std::marker::Model;
 use std::ops::Bound;
 
-/// Bodies by key.
+/// Bodies by key, from the greatest key on: a search of the map begins at its first key, and most records that come are behind
+/// all others.
 #[derive(Debug, Drop)]
 pub struct GroupRecords {
     alloc: Global,
-    bodies: BTreeMap<Txt, Txt>,
+    bodies: BTreeMap<LatestFirst, Txt>,
 }
 
 impl Model for GroupRecords {
     ghost use Rattle.std.specs.FinMap as map;
     ghost use Rattle.budget_ports.specs.Contents.{Text, text_cmp};
     ghost use Rattle.budget_ports.specs.KeeperState.{texts_code};
+    ghost use Rattle.budget_ports.specs.Latest.{by_text};
 
     ghost Value = { map.FinMap text_cmp Text };
 
     ghost coded = { texts_code };
 
-    ghost view = { λ r. map.from_entries r.bodies.entries };
+    ghost view = { λ r. map.from_entries (by_text r.bodies.entries) };
 }
 
 impl GroupRecords {
@@ -52,10 +56,11 @@ impl GroupRecords {
             return self.add_one(kept);
         }
         let mut added = Vec::with_capacity(self.alloc, batch.len())?;
+        let room = LatestFirst::with_room(self.alloc, longest_key(batch))?;
         match self.add_all(batch, &mut added) {
             Ok(()) => Ok(()),
             Err(fault) => {
-                self.take_out(batch, added);
+                self.take_out(batch, added, room);
                 Err(fault)
             }
         }
@@ -72,23 +77,22 @@ impl GroupRecords {
         Ok(())
     }
 
-    /// Whether a record stands under this key. One behind all of them is known by the last one to have none.
-    fn has(&self, key: &Txt) -> bool
-        ensures { result ≡ map.contains_key self.now key.now }
+    /// Whether a record stands under this key. One behind all of them is known by the first one to have none.
+    fn has(&self, key: &LatestFirst) -> bool
+        ensures { result ≡ map.contains_key self.now key.now.0 }
     {
-        match self.bodies.last_key_value() {
-            Some((last, _)) if *last < *key => false,
+        match self.bodies.first_key_value() {
+            Some((latest, _)) if *key < *latest => false,
             _ => self.bodies.contains_key(key),
         }
     }
 
-    /// Puts a record under its key.
-    fn put(&mut self, kept: &Record) -> Result<(), NoMemory>
-        ensures ok { OnOk result (self.new ≡ map.insert self.old kept.now.key kept.now.body) }
+    /// Puts a body under a key.
+    fn put(&mut self, key: LatestFirst, body: &Txt) -> Result<(), NoMemory>
+        ensures ok { OnOk result (self.new ≡ map.insert self.old key.0 body.now) }
         ensures err { OnErr result (self.new ≡ self.old) }
     {
-        let key = kept.key.copy()?;
-        let body = kept.body.copy()?;
+        let body = body.copy()?;
         self.bodies.insert(key, body)?;
         Ok(())
     }
@@ -98,10 +102,11 @@ impl GroupRecords {
         ensures ok { OnOk result (self.new ≡ with_body self.old kept.now) }
         ensures err { OnErr result (self.new ≡ self.old) }
     {
-        if self.has(&kept.key) {
+        let key = LatestFirst::of(self.alloc, &kept.key)?;
+        if self.has(&key) {
             return Ok(());
         }
-        self.put(kept)
+        self.put(key, &kept.body)
     }
 
     /// Adds a record whose key is not there, and its place in the batch to `added`.
@@ -109,27 +114,31 @@ impl GroupRecords {
         ensures ok { OnOk result (self.new ≡ with_body self.old kept.now) }
         ensures undone { (batch : List Record) → slice_get batch place ≡ Some kept.now → taken_out batch self.new added.new.items ≡ taken_out batch self.old added.old.items }
     {
-        if self.has(&kept.key) {
+        let key = LatestFirst::of(self.alloc, &kept.key)?;
+        if self.has(&key) {
             return Ok(());
         }
         added.push(place)?;
-        self.put(kept)
+        self.put(key, &kept.body)
     }
 
-    /// Takes out the records that stand at these places in the batch, the last place first.
-    fn take_out(&mut self, batch: &[Record], mut added: Vec<usize>)
+    /// Takes out the records that stand at these places in the batch, the last place first. `room` is room for a key, so that
+    /// it takes no memory.
+    fn take_out(&mut self, batch: &[Record], mut added: Vec<usize>, mut room: LatestFirst)
+        requires { IsRoomFor batch.now room.1 }
         ensures { self.new ≡ taken_out batch.now self.old added.items }
     {
         while let Some(place) = added.pop() {
             if let Some(kept) = batch.get(place) {
-                self.remove(&kept.key);
+                room.put(&kept.key);
+                self.remove(&room);
             }
         }
     }
 
     /// Takes out the record under a key, if there is one.
-    fn remove(&mut self, key: &Txt)
-        ensures { self.new ≡ map.remove self.old key.now }
+    fn remove(&mut self, key: &LatestFirst)
+        ensures { self.new ≡ map.remove self.old key.now.0 }
     {
         self.bodies.remove(key);
     }
@@ -138,16 +147,26 @@ impl GroupRecords {
     pub fn after(&self, after: &Txt) -> Result<Items<Record>, NoMemory>
         ensures { IfOk result (λ rs. rs ≡ bodies_after self.now after.now) }
     {
+        let end = LatestFirst::of(self.alloc, after)?;
+        let mut above = self.bodies.range((Bound::Unbounded, Bound::Excluded(&end)));
         let mut found = Vec::new(self.alloc);
-        for (key, body) in self
-            .bodies
-            .range((Bound::Excluded(after), Bound::Unbounded))
-        {
+        while let Some((key, body)) = above.next_back() {
             found.push(Record {
-                key: key.copy()?,
+                key: key.copy(self.alloc)?,
                 body: body.copy()?,
             })?;
         }
         Ok(Items::new(found))
     }
+}
+
+/// How many bytes the longest key of a batch has.
+fn longest_key(batch: &[Record]) -> usize
+    ensures { IsRoomFor batch.now result }
+{
+    let mut longest = 0;
+    for kept in batch {
+        longest = longest.max(kept.key.bytes().len());
+    }
+    longest
 }

@@ -8,6 +8,7 @@ mod clock;
 mod door;
 mod group_records;
 mod keeper;
+mod latest_first;
 mod laws;
 mod link;
 mod memory_door;
