@@ -33,6 +33,7 @@ has_asked_id ids (Some id) = set.contains text_cmp ids id
 abbrev pub is_asked : BTreeSet ℤ → BTreeSet Text → ℤ → Option Text → Bool
 is_asked amounts ids amount id = set.contains int_cmp amounts amount || has_asked_id ids id
 
+-- the candidate, where its amount or its id is asked for
 abbrev pub asked_one : BTreeSet ℤ → BTreeSet Text → Candidate → Option Candidate
 asked_one amounts ids c = if is_asked amounts ids c.amount c.financial_id then Some c else None
 
