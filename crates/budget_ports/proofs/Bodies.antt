@@ -1,16 +1,14 @@
 -- The bodies of one group: a record is added, and taken out again.
-use Rattle.std.proofs.Common.{◌≡◌, ℕ, zero, suc, ◌+◌, add-one, drop, Bool, true, false, not, ◌&&◌, cond, map, filter, List, [], ◌∷◌, ◌++◌, Option, None, Some, is_some, Result, Ok, Err, OnOk, OnErr, refl, sym, ap, ◌∙◌}
+use Rattle.std.proofs.Common.{◌≡◌, ℕ, zero, suc, ◌+◌, add-one, drop, true, false, List, [], ◌∷◌, ◌++◌, Option, None, Some, is_some, Result, Ok, Err, OnOk, OnErr, refl, sym, ap, ◌∙◌}
 use Rattle.std.specs.List.{slice_get}
 use Rattle.std.specs.BTreeMap.{is_at}
-use Rattle.std.specs.Ordering.{is_lt}
-use Rattle.std.specs.List.Sorted.{IsStrictlySortedBy}
-use Rattle.std.specs.Map.{lookup, keys_of}
-use Rattle.std.specs.FinMap.{entries, get, insert, remove, contains_key, from_entries}
+use Rattle.std.specs.Map.{lookup}
+use Rattle.std.specs.FinMap.{get, insert, remove, contains_key, from_entries}
 use Rattle.budget_ports.specs.declared.keeper.Record.{Record}
 use Rattle.budget_ports.specs.Contents.{Text, text_cmp}
-use Rattle.budget_ports.specs.Groups.{Bodies, with_body, bodies_after}
+use Rattle.budget_ports.specs.Groups.{Bodies, with_body}
 use Rattle.budget_ports.specs.Undoing.{without, taken_out}
-use Rattle.budget_ports.proofs.Maps.{get_is, in_and_out, not_there, entries_are, rising}
+use Rattle.budget_ports.proofs.Maps.{get_is, in_and_out, not_there}
 use Rattle.budget_ports.proofs.Places.{text_total, text_same}
 
 -- an entry of one group as a record
