@@ -1,9 +1,10 @@
 //! The register of an account: its live transactions, by day and id.
-ghost use Rattle.std.specs.Prelude.{◌≡◌, ◌≤◌, ◌++◌, ◌∷◌, List, false, OnOk, IfOk, string_bytes};
+ghost use Rattle.std.specs.Prelude.{◌≡◌, ◌≤◌, ◌++◌, ◌∷◌, List, false, not, OnOk, IfOk, string_bytes};
 ghost use Rattle.std.specs.List.{flat_map};
 ghost use Rattle.std.specs.Option.{option_copied};
 ghost use Rattle.std.specs.Fmt.{signed_decimal};
-ghost use Rattle.finite_sums.specs.Maps.{Text};
+ghost use Rattle.finite_sums.specs.Maps.{Text, some_and};
+ghost use Rattle.book_rows.specs.Live.{is_live_tx};
 ghost use Rattle.command_lines.specs.Register.{day_text, day_or_first, shown_id, register_line, entry_of, placed, register_of, register_lines};
 
 use book_rows::{Book, TxRow};
@@ -14,6 +15,9 @@ use std::alloc::Global;
 use std::collections::BTreeMap;
 use std::marker::Brand;
 use std::sync::ledger::{Blank, Ledger};
+
+/// Room for most lines.
+const ROOM: usize = 128;
 
 /// Where a transaction stands in a register: its day, or 0 where it has none, and its id.
 type Place = (u32, Txt);
@@ -62,7 +66,7 @@ fn push_id(text: &mut String, id: Option<&Txt>) -> Result<(), NoMemory>
 fn line_of(alloc: Global, book: &Book, id: &Txt, row: &TxRow) -> Result<Txt, NoMemory>
     ensures { IfOk result (λ t. t ≡ register_line book.now.rows id.now row.now) }
 {
-    let mut text = String::new(alloc);
+    let mut text = String::with_capacity(alloc, ROOM)?;
     text.push_str(id.as_str())?;
     push_day(&mut text, row.date)?;
     push_amount(&mut text, row.amount)?;
@@ -78,6 +82,32 @@ fn place_of(id: Txt, date: Option<u32>) -> Place
     (date.unwrap_or(0), id)
 }
 
+/// Whether a transaction was deleted.
+fn is_deleted(row: Option<&TxRow>) -> bool
+    ensures { result ≡ not (some_and (λ x. not x.tombstone) (option_copied row.entry)) }
+{
+    match row {
+        Some(row) => row.tombstone,
+        None => true,
+    }
+}
+
+/// Whether a transaction is live. One that is no part of another one needs no look-up.
+fn is_live<G: Ledger>(book: &Book, row: &TxRow, steps: &mut Steps<G>) -> bool
+    ensures { result ≡ is_live_tx book.now.rows row.now }
+{
+    if row.tombstone {
+        return false;
+    }
+    if !row.is_child {
+        return true;
+    }
+    match &row.parent_id {
+        Some(id) => !is_deleted(book.tx(id, steps)),
+        None => false,
+    }
+}
+
 /// Puts the line of a transaction in its place, if it is live.
 fn place_tx<G: Ledger>(
     alloc: Global,
@@ -91,7 +121,7 @@ fn place_tx<G: Ledger>(
     let Some(row) = book.tx(&id, steps) else {
         return Ok(());
     };
-    if !book.alive(&id) {
+    if !is_live(book, row, steps) {
         return Ok(());
     }
     let line = line_of(alloc, book, &id, row)?;
