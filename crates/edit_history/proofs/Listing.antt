@@ -103,3 +103,9 @@ one_more field f xs i x h is =
     ap (λ l. first_of_each field (map f l)) (take_more xs i x h ∙ ap (λ u. take i xs ++ u ∷ []) (sym is))
     ∙ ap (first_of_each field) (map_plus f (take i xs) (x ∷ []))
     ∙ first_snoc field (map f (take i xs)) (f x)
+
+-- a list of one element
+pub one_alone : {X : Type 0} (xs : List X) (x : X) → 1 ≤ length xs → length xs < 2 → x ≡ get_or xs 0 x → xs ≡ x ∷ []
+one_alone [] x some few is = absurd (omega (arith, some))
+one_alone (y ∷ []) x some few is = ap (λ z. z ∷ []) (sym is)
+one_alone (y ∷ z ∷ zs) x some few is = absurd (omega (arith, few))

@@ -91,6 +91,22 @@ fn push_before(
     Ok(())
 }
 
+/// What a single message writes over. One field needs no set of those that were added.
+fn single_entry(
+    alloc: Global,
+    log: &Log,
+    book: &Book,
+    field: &Field,
+) -> Result<Items<Before>, NoMemory>
+    requires live { log.now.spent ≡ false }
+    requires rows { AreRowsOf (value_in log.now.messages) book.now.rows }
+    ensures { IfOk result (λ entry. entry ≡ entry_over (value_in log.now.messages) (field.now ∷ [])) }
+{
+    let mut found = Vec::with_capacity(alloc, 1)?;
+    found.push(before_of(alloc, log, book, field)?)?;
+    Ok(Items::new(found))
+}
+
 /// What messages write over that are to join a log, whose values make the rows of a book: each field once, in the order of the messages.
 pub fn entry_over(
     alloc: Global,
@@ -107,6 +123,9 @@ pub fn entry_over(
     ensures entry { IfOk result (λ entry. entry ≡ entry_over (value_in log.now.messages) (map (λ m. m.field) messages.now)) }
     ensures valid { IfOk result IsEntry }
 {
+    if let [single] = messages {
+        return single_entry(alloc, log, book, &single.field);
+    }
     let mut seen = BTreeSet::new(alloc);
     let mut found = Vec::with_capacity(alloc, messages.len())?;
     for message in messages {
