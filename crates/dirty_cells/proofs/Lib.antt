@@ -24,6 +24,7 @@ pub mod Months
 pub mod LeftBefore
 pub mod Gathered
 pub mod Noted
+pub mod Lone
 pub mod Following
 pub mod Covered
 pub mod Renewed

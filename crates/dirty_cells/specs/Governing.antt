@@ -68,6 +68,14 @@ parents_by r c = of_change (parent_set r) c
 abbrev pub mappings_by : Rows → Change → List Text
 mappings_by r c = of_change (mapping_set r) c
 
+-- ---- a change that touches no other transaction
+
+-- the column is one of a transaction, and neither deletes nor restores it
+abbrev pub is_plain : Dataset → Column → Bool
+is_plain Transactions Tombstone = false
+is_plain Transactions other = true
+is_plain other column = false
+
 -- ---- the transaction that was noted last
 
 -- it is the row's, and the column's value neither deletes nor restores it

@@ -6,9 +6,10 @@ ghost use Rattle.finite_sums.specs.Maps.{Text, text_cmp, is_among};
 ghost use Rattle.finite_sums.specs.Sums.{weight};
 ghost use Rattle.dirty_cells.specs.Changes.{account_governs, tx_governs, mapping_governs, same_text, AreDifferent, Within, Spares, with_fields};
 ghost use Rattle.dirty_cells.specs.Bound.{touched_txs, pairs};
-ghost use Rattle.dirty_cells.specs.Governing.{governed, only_where, tx_set, account_set, parent_set, mapping_set, is_last, KnowsLast, txs_by, accounts_by, parents_by, mappings_by, touched_list};
+ghost use Rattle.dirty_cells.specs.Governing.{governed, only_where, tx_set, account_set, parent_set, mapping_set, is_last, KnowsLast, txs_by, accounts_by, parents_by, mappings_by, touched_list, is_plain};
 ghost use Rattle.std.specs.List.Sorted.{IsStrictlySortedBy};
-ghost use Rattle.std.specs.Prelude.{IfOk};
+ghost use Rattle.std.specs.Prelude.{IfOk, IfSome};
+ghost use Rattle.field_values.specs.declared.value.Value.{Value as ValueIs};
 ghost use Rattle.book_rows.specs.Kinds.{text_of};
 
 use book_rows::{Book, Column, Dataset, column_of, dataset_kind, dataset_of, flag};
@@ -352,9 +353,47 @@ pub(crate) fn list_of(alloc: Global, ids: &BTreeSet<Txt>) -> Result<Items<Txt>, 
     Ok(Items::new(found))
 }
 
-/// The transactions that changes touch, each once: of all others the rows after the changes tell what they told. Each row that governs
-/// others is asked once, however many of its fields change.
-pub fn touched_ids<G: Ledger>(
+/// Whether a column of a dataset is one of a transaction, and neither deletes nor restores it.
+fn is_plain(dataset: Dataset, column: Column) -> bool
+    ensures { result ≡ is_plain dataset column }
+{
+    match dataset {
+        Dataset::Transactions => !matches!(column, Column::Tombstone),
+        _ => false,
+    }
+}
+
+/// The transaction of a field, where it has a row, and no value of the field touches another one. It takes no step.
+fn lone_tx(alloc: Global, book: &Book, field: &Field) -> Result<Option<Txt>, NoMemory>
+    ensures { IfOk result (λ found. IfSome found (λ id. (v : ValueIs) → touched_list book.now.rows ((field.now, v) ∷ []) ≡ id ∷ [])) }
+{
+    let Some(dataset) = dataset_of(field.dataset()) else {
+        return Ok(None);
+    };
+    let Some(column) = column_of(field.column()) else {
+        return Ok(None);
+    };
+    if dataset_kind(dataset, column).is_none() || !is_plain(dataset, column) {
+        return Ok(None);
+    }
+    let id = Txt::from_text(alloc, field.row())?;
+    if !book.has_tx(&id) {
+        return Ok(None);
+    }
+    Ok(Some(id))
+}
+
+/// A list of one text.
+fn list_of_one(alloc: Global, id: Txt) -> Result<Items<Txt>, NoMemory>
+    ensures { IfOk result (λ ids. ids ≡ id ∷ []) }
+{
+    let mut ids = Vec::with_capacity(alloc, 1)?;
+    ids.push(id)?;
+    Ok(Items::new(ids))
+}
+
+/// The transactions that changes touch, as `touched_ids` tells them, by sets of the rows that govern others.
+fn touched_by_sets<G: Ledger>(
     alloc: Global,
     book: &Book,
     changes: &[(Field, Value)],
@@ -393,4 +432,26 @@ pub fn touched_ids<G: Ledger>(
         steps,
     )?;
     list_of(alloc, &ids)
+}
+
+/// The transactions that changes touch, each once: of all others the rows after the changes tell what they told. Each row that governs
+/// others is asked once, however many of its fields change. A single change mostly touches the transaction of its row alone, and needs no set.
+pub fn touched_ids<G: Ledger>(
+    alloc: Global,
+    book: &Book,
+    changes: &[(Field, Value)],
+    steps: &mut Steps<G>,
+) -> Result<Items<Txt>, NoMemory>
+    requires { book.now.spent ≡ false }
+    ensures spares { IfOk result (λ ids. Spares book.now.rows (with_fields book.now.rows changes.now) ids) }
+    ensures all { IfOk result (λ ids. (q : Text) → is_among text_cmp ids q ≡ is_among text_cmp (touched_list book.now.rows changes.now) q) }
+    ensures within { IfOk result (λ ids. AreDifferent changes.now → Within ids (touched_txs book.now.rows (with_fields book.now.rows changes.now) changes.now)) }
+    ensures cost { OnOk result (AreDifferent changes.now → steps.new ≤ steps.old + (length changes.now + pairs book.now.rows (with_fields book.now.rows changes.now) changes.now)) }
+{
+    if let [(field, _)] = changes {
+        if let Some(id) = lone_tx(alloc, book, field)? {
+            return list_of_one(alloc, id);
+        }
+    }
+    touched_by_sets(alloc, book, changes, steps)
 }
