@@ -158,5 +158,31 @@ module _ (old new : List Message) where
       let same : m.value ≡ v = cc in
       subst IsValue same (all_of IsMessage new valid m (latest_there new f m e).0).value
 
-  pub changes_valid : AreMessages new → (fs : List FieldNames) → AreValues (changes fs)
-  changes_valid valid fs = all_changes (λ c. IsValue c.1) fs (all_from (λ (f : FieldNames). (v : Value) → value_in new f ≡ Some v → IsValue v) fs (λ f c v e. held valid f v (latest new f) refl e))
+  pub changes_valid : AreMessages new → (cs : List Change) → AllByRecursion (λ c. value_in new c.0 ≡ Some c.1) cs → AreValues cs
+  changes_valid valid cs valued =
+      all_from (λ (c : Change). IsValue c.1) cs (λ c there. held valid c.0 c.1 (latest new c.0) refl (all_of (λ (c : Change). value_in new c.0 ≡ Some c.1) cs valued c there))
+
+-- ---- the change that a single message makes
+
+alone : (b : Bool) → (b || false) ≡ false → b ≡ false
+alone true h = absurd (cc)
+alone false h = refl
+
+-- its field, where it is then the latest of it, and no other
+pub single_change : (old new : List Message) (m : Message) (w : Bool) → ((f : FieldNames) → latest new f ≡ cond (w && has_field f m) (Some m) (latest old f)) → (w ≡ true) ↔ (latest old m.field ≢ latest new m.field)
+    → AreChangesOf old new (cond w ((m.field, m.value) ∷ []) [])
+single_change old new m true now wins = record {
+  once = (refl, tt);
+  changed = (wins.0 refl, tt);
+  valued = (ap (option_map (λ (m : Message). m.value)) (now m.field ∙ ap (λ b. cond b (Some m) (latest old m.field)) own), tt);
+  others = λ f none. sym (now f ∙ ap (λ b. cond b (Some m) (latest old f)) (names_alike f m.field ∙ alone (names_eq f m.field) none));
+}
+  where
+    own : has_field m.field m ≡ true
+    own = ap is_eq (tied_itself names_total m.field)
+single_change old new m false now wins = record {
+  once = tt;
+  changed = tt;
+  valued = tt;
+  others = λ f none. sym (now f);
+}

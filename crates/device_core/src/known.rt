@@ -8,7 +8,7 @@ ghost use Rattle.minute_trie.specs.Trie.{is_spent, IsTrieOf};
 ghost use Rattle.kept_messages.specs.Pairs.{pairs_of};
 ghost use Rattle.dirty_cells.specs.Stands.{StandsFor, with_window};
 ghost use Rattle.device_core.specs.Books.{rows_of};
-ghost use Rattle.device_core.specs.Changes.{AreOthers, Marks, change_of};
+ghost use Rattle.device_core.specs.Changes.{AreChangesOf, AreOthers, Marks, change_of};
 ghost use Rattle.device_core.specs.Covering.{covered_by, IsWithin};
 ghost use Rattle.field_values.specs.Value.{IsValue};
 ghost use Rattle.field_merge.specs.Log.{join, join_one};
@@ -221,6 +221,73 @@ fn changes_of(
     Ok(changes)
 }
 
+/// Puts the field of a message with its value behind others, if it is told to.
+fn push_if(
+    is_latest: bool,
+    changes: &mut Vec<(Field, Value)>,
+    message: &Message,
+) -> Result<(), NoMemory>
+    ensures { OnOk result (changes.new.items ≡ changes.old.items ++ (if is_latest then (message.now.field, message.now.value) ∷ [] else [])) }
+{
+    if is_latest {
+        changes.push((message.field.copy()?, message.value.copy()?))?;
+    }
+    Ok(())
+}
+
+/// Joins a single message to a log and its trie, adds its record to a batch where it is new, and tells its field with its value where it
+/// is now the latest of it. No set of fields is needed.
+fn join_single(
+    alloc: Global,
+    log: &mut Log,
+    trie: &mut Trie,
+    message: &Message,
+    batch: &mut Vec<Record>,
+) -> Result<Vec<(Field, Value)>, NoMemory>
+    requires live { log.old.spent ≡ false }
+    requires trie_live { is_spent trie.old ≡ false }
+    requires right { IsTrieOf (pairs_of log.old.messages) trie.old }
+    requires valid { IsMessage message.now }
+    ensures live { OnOk result (log.new.spent ≡ false) }
+    ensures trie_live { OnOk result (is_spent trie.new ≡ false) }
+    ensures right { OnOk result (IsTrieOf (pairs_of log.new.messages) trie.new) }
+    ensures joined { OnOk result (log.new.messages ≡ join log.old.messages (message.now ∷ [])) }
+    ensures batch { OnOk result (batch.new.items ≡ batch.old.items ++ map record_of (new_in log.old.messages (message.now ∷ []))) }
+    ensures changed { IfOk result (λ changes. AreChangesOf log.old.messages log.new.messages changes.items) }
+{
+    let entered = join_message(alloc, log, trie, message, batch)?;
+    let mut changes = Vec::with_capacity(alloc, 1)?;
+    push_if(entered.latest, &mut changes, message)?;
+    Ok(changes)
+}
+
+/// Joins messages to a log and its trie, adds the records of the new ones to a batch, in the order in which they come, and tells the
+/// fields whose latest message is then another one, each with its value. After want of memory some of them may have joined.
+fn join_changes(
+    alloc: Global,
+    log: &mut Log,
+    trie: &mut Trie,
+    messages: &[Message],
+    batch: &mut Vec<Record>,
+) -> Result<Vec<(Field, Value)>, NoMemory>
+    requires live { log.old.spent ≡ false }
+    requires trie_live { is_spent trie.old ≡ false }
+    requires right { IsTrieOf (pairs_of log.old.messages) trie.old }
+    requires valid { AreMessages messages.now }
+    ensures live { OnOk result (log.new.spent ≡ false) }
+    ensures trie_live { OnOk result (is_spent trie.new ≡ false) }
+    ensures right { OnOk result (IsTrieOf (pairs_of log.new.messages) trie.new) }
+    ensures joined { OnOk result (log.new.messages ≡ join log.old.messages messages.now) }
+    ensures batch { OnOk result (batch.new.items ≡ batch.old.items ++ map record_of (new_in log.old.messages messages.now)) }
+    ensures changed { IfOk result (λ changes. AreChangesOf log.old.messages log.new.messages changes.items) }
+{
+    if let [message] = messages {
+        return join_single(alloc, log, trie, message, batch);
+    }
+    let fields = join_logged(alloc, log, trie, messages, batch)?;
+    changes_of(alloc, log, fields.as_slice())
+}
+
 /// Joins messages, and adds the records of the new ones to a batch, in the order in which they come. The fields whose latest message is
 /// then another one get their values in the book and in the cells at once. After want of memory some of them may have joined.
 pub(crate) fn join_all<G: Ledger>(
@@ -243,8 +310,7 @@ pub(crate) fn join_all<G: Ledger>(
     ensures batch { OnOk result (batch.new.items ≡ batch.old.items ++ map record_of (new_in known.old.log.messages messages.now)) }
     ensures cost { OnOk result (IsWithin known.old.log.messages known.new.log.messages (grid.old.first, grid.old.end) (grid.new.first, grid.new.end) steps.old steps.new) }
 {
-    let fields = join_logged(alloc, &mut known.log, &mut known.trie, messages, batch)?;
-    let changes = changes_of(alloc, &known.log, fields.as_slice())?;
+    let changes = join_changes(alloc, &mut known.log, &mut known.trie, messages, batch)?;
     grid.apply(&mut known.book, changes.as_slice(), steps)?;
     Ok(())
 }

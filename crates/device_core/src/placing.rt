@@ -2,7 +2,7 @@
 ghost use Rattle.std.specs.Prelude.{◌≡◌, ◌+◌, ◌-◌, ◌<◌, ◌≤◌, ◌++◌, ◌∷◌, [], length, if◌then◌else◌, IfOk, OnOk};
 ghost use Rattle.field_values.specs.Names.{field_of, AreNames};
 ghost use Rattle.hybrid_clock.specs.Stamp.{IsStamp};
-ghost use Rattle.book_rows.specs.Writes.{IsRowName, IsWrite, IsWriteValue, AreWrites};
+ghost use Rattle.book_rows.specs.Writes.{IsWrite, IsWriteValue, AreWrites};
 ghost use Rattle.device_core.specs.Placing.{stamp_at, id_at, row_of, value_of, message_at, stamped, makes_row, made_ids};
 
 use book_rows::{RowName, Write, WriteValue};
@@ -34,18 +34,6 @@ fn id_at(alloc: Global, first: &Stamp, at: usize) -> Result<Txt, NoMemory>
     stamp_text(alloc, &stamp_at(first, at))
 }
 
-/// The id of the row of a write.
-fn row_of(alloc: Global, first: &Stamp, row: &RowName) -> Result<Txt, NoMemory>
-    requires stamp { IsStamp first.now }
-    requires valid { IsRowName (65_536 - first.now.counter) row.now }
-    ensures { IfOk result (λ id. id ≡ row_of first.now row.now) }
-{
-    match row {
-        RowName::Given(id) => id.copy(),
-        RowName::Made(at) => id_at(alloc, first, *at as usize),
-    }
-}
-
 /// The value of a write.
 fn value_of(alloc: Global, first: &Stamp, value: &WriteValue) -> Result<Value, NoMemory>
     requires stamp { IsStamp first.now }
@@ -73,6 +61,21 @@ fn field_of(alloc: Global, dataset: &Txt, row: &Txt, column: &Txt) -> Result<Fie
     }
 }
 
+/// The field of a write.
+fn field_at(alloc: Global, first: &Stamp, write: &Write) -> Result<Field, NoMemory>
+    requires stamp { IsStamp first.now }
+    requires valid { IsWrite (65_536 - first.now.counter) write.now }
+    ensures { IfOk result (λ f. f ≡ field_of write.now.dataset (row_of first.now write.now.row) write.now.column) }
+{
+    match &write.row {
+        RowName::Given(id) => field_of(alloc, &write.dataset, id, &write.column),
+        RowName::Made(at) => {
+            let id = id_at(alloc, first, *at as usize)?;
+            field_of(alloc, &write.dataset, &id, &write.column)
+        }
+    }
+}
+
 /// The message of the write at a place.
 fn message_at(alloc: Global, first: &Stamp, at: usize, write: &Write) -> Result<Message, NoMemory>
     requires stamp { IsStamp first.now }
@@ -80,10 +83,9 @@ fn message_at(alloc: Global, first: &Stamp, at: usize, write: &Write) -> Result<
     requires valid { IsWrite (65_536 - first.now.counter) write.now }
     ensures { IfOk result (λ m. m ≡ message_at first.now at write.now) }
 {
-    let row = row_of(alloc, first, &write.row)?;
     Ok(Message {
         stamp: stamp_at(first, at),
-        field: field_of(alloc, &write.dataset, &row, &write.column)?,
+        field: field_at(alloc, first, write)?,
         value: value_of(alloc, first, &write.value)?,
     })
 }
@@ -95,7 +97,7 @@ fn stamp_writes(alloc: Global, first: &Stamp, writes: &[Write]) -> Result<Vec<Me
     requires valid { AreWrites writes.now }
     ensures { IfOk result (λ ms. ms.items ≡ stamped first.now writes.now) }
 {
-    let mut messages = Vec::new(alloc);
+    let mut messages = Vec::with_capacity(alloc, writes.len())?;
     for (at, write) in writes.iter().enumerate() {
         messages.push(message_at(alloc, first, at, write)?)?;
     }
