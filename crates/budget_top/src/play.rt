@@ -9,7 +9,7 @@ use crate::answer::{Answer, is_refusal};
 use crate::begun::Begun;
 use crate::input::line_length;
 use crate::stop::Stop;
-use crate::write::write_and_flush;
+use crate::write::write_reply;
 use budget_ports::Sink;
 use command_lines::{Reply, faulty_reply, reply_text};
 use field_values::{NoMemory, Steps, Txt, TxtFault};
@@ -79,12 +79,13 @@ impl Play {
         }
     }
 
-    /// Ends the line that has begun: writes its reply, and hands it on.
+    /// Ends the line that has begun: writes its reply, and hands it on with those before it where no other whole line was read.
     fn end_line<W: Sink, G: Ledger>(
         &mut self,
         alloc: Global,
         sink: &mut W,
         steps: &mut Steps<G>,
+        is_last: bool,
     ) -> Result<(), Stop>
         requires live { self.old.session.spent ≡ false }
         ensures ok { OnOk result ((entry : Option (List ℕ)) (read : List ℕ) → Stands entry (W.taken sink.old) read self.old → Stands entry (W.taken sink.new) (read ++ 10 ∷ []) self.new) }
@@ -93,13 +94,14 @@ impl Play {
         ensures count { W.faults sink.new ≡ count_after (step_status stop_status result == 5) (W.faults sink.old) }
     {
         let answer = answer_line(alloc, &mut self.session, steps, &self.line)?;
-        write_and_flush(sink, answer.text.bytes())?;
+        write_reply(sink, answer.text.bytes(), is_last)?;
         self.line.clear();
         self.bad |= answer.refused;
         Ok(())
     }
 
-    /// Deals with the bytes that come next: answers each line that ends in them.
+    /// Deals with the bytes that come next: answers each line that ends in them, and hands the replies on behind the last of them, so
+    /// before more bytes are read.
     ///
     /// # Errors
     ///
@@ -120,7 +122,8 @@ impl Play {
         let mut at = 0;
         'lines: while let Some(length) = line_length(&bytes[at..]) {
             self.line.push(&bytes[at..at + length])?;
-            self.end_line(alloc, sink, steps)?;
+            let is_last = line_length(&bytes[at + length + 1..]).is_none();
+            self.end_line(alloc, sink, steps, is_last)?;
             at += length + 1;
         }
         self.line.push(&bytes[at..])?;
@@ -146,6 +149,6 @@ impl Play {
         if self.line.is_empty() {
             return Ok(());
         }
-        self.end_line(alloc, sink, steps)
+        self.end_line(alloc, sink, steps, true)
     }
 }

@@ -3,7 +3,7 @@ use crate::answer::handle_line;
 use crate::begun::Begun;
 use crate::input::line_length;
 use crate::stop::DeviceStop;
-use crate::write::write_and_flush;
+use crate::write::write_reply;
 use budget_ports::{Keeper, Link, Sink, WallClock};
 use device_core::Device;
 use device_sync::Target;
@@ -33,7 +33,8 @@ impl Session {
     ghost use Rattle.budget_top.specs.Standing.{Entry};
     ghost use Rattle.budget_top.specs.DeviceSteps.{IsReady, Stands, Ended, BreaksAs};
 
-    /// Handles the line that has begun, and begins the next one.
+    /// Handles the line that has begun, and begins the next one. Its reply is handed on with those before it where no other whole line
+    /// was read.
     fn end_line<W: Sink, K: Keeper, L: Link, C: WallClock, G: Ledger>(
         &mut self,
         alloc: Global,
@@ -42,6 +43,7 @@ impl Session {
         link: &mut L,
         clock: &mut C,
         steps: &mut Steps<G>,
+        is_last: bool,
     ) -> Result<(), DeviceStop>
         requires { IsReady self.old }
         ensures ok { OnOk result ((e : Entry) (read : List ℕ) → Stands e read self.old (seen (W.taken sink.old) (C.readings clock.old) (L.exchanges link.old) (L.faults link.old) (K.tells keeper.old) (K.contents keeper.old) (K.left keeper.old)) → Stands e (read ++ 10 ∷ []) self.new (seen (W.taken sink.new) (C.readings clock.new) (L.exchanges link.new) (L.faults link.new) (K.tells keeper.new) (K.contents keeper.new) (K.left keeper.new))) }
@@ -65,13 +67,14 @@ impl Session {
             reading,
             &self.line,
         )?;
-        write_and_flush(sink, answer.text.bytes())?;
+        write_reply(sink, answer.text.bytes(), is_last)?;
         self.line.clear();
         self.bad |= answer.refused;
         Ok(())
     }
 
-    /// Deals with the bytes that come next: answers each line that ends in them.
+    /// Deals with the bytes that come next: answers each line that ends in them, and hands the replies on behind the last of them, so
+    /// before more bytes are read.
     ///
     /// # Errors
     ///
@@ -100,7 +103,8 @@ impl Session {
         let mut at = 0;
         'lines: while let Some(length) = line_length(&bytes[at..]) {
             self.line.push(&bytes[at..at + length])?;
-            self.end_line(alloc, sink, keeper, link, clock, steps)?;
+            let is_last = line_length(&bytes[at + length + 1..]).is_none();
+            self.end_line(alloc, sink, keeper, link, clock, steps, is_last)?;
             at += length + 1;
         }
         self.line.push(&bytes[at..])?;
@@ -133,6 +137,6 @@ impl Session {
         if self.line.is_empty() {
             return Ok(());
         }
-        self.end_line(alloc, sink, keeper, link, clock, steps)
+        self.end_line(alloc, sink, keeper, link, clock, steps, true)
     }
 }

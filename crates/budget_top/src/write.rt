@@ -28,6 +28,19 @@ pub fn write_and_flush<W: Sink>(sink: &mut W, bytes: &[u8]) -> Result<(), Failed
     ensures front { OnErr result (AppendsFront (W.taken sink.old) (W.taken sink.new) bytes.now) }
     ensures count { W.faults sink.new ≡ count_after (is_err result) (W.faults sink.old) }
 {
+    write_reply(sink, bytes, true)
+}
+
+/// Writes all of the bytes of a reply, and hands on what was written where no other reply stands ready. Where the sink fails at
+/// that, all of them may have been written.
+pub fn write_reply<W: Sink>(sink: &mut W, bytes: &[u8], is_last: bool) -> Result<(), Failed>
+    ensures all { OnOk result (Appends (W.taken sink.old) (W.taken sink.new) bytes.now) }
+    ensures front { OnErr result (AppendsFront (W.taken sink.old) (W.taken sink.new) bytes.now) }
+    ensures count { W.faults sink.new ≡ count_after (is_err result) (W.faults sink.old) }
+{
     write_all(sink, bytes)?;
-    sink.flush()
+    if is_last {
+        return sink.flush();
+    }
+    Ok(())
 }

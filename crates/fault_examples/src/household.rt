@@ -89,31 +89,21 @@ const KEPT: &str = r"2024-01-05T10:00:00.000Z-0000-00000000000000aa>accounts>ban
 /// The call of the source that fails, the status, how many bytes of the replies are written, how many records are kept.
 const SOURCE: [(u64, u8, usize, usize); 3] = [(0, 4, 0, 0), (1, 4, 304, 32), (2, 0, 304, 32)];
 
-/// The same of the sink.
-const SINK: [(u64, u8, usize, usize); 23] = [
+/// The same of the sink, which takes the reply to each line in a call of its own, and hands all on in one behind the last.
+const SINK: [(u64, u8, usize, usize); 13] = [
     (0, 5, 0, 4),
-    (1, 5, 66, 4),
-    (2, 5, 66, 6),
-    (3, 5, 80, 6),
-    (4, 5, 80, 9),
-    (5, 5, 94, 9),
-    (6, 5, 94, 11),
-    (7, 5, 108, 11),
-    (8, 5, 108, 14),
-    (9, 5, 122, 14),
-    (10, 5, 122, 20),
-    (11, 5, 188, 20),
-    (12, 5, 188, 26),
-    (13, 5, 254, 26),
-    (14, 5, 254, 29),
-    (15, 5, 268, 29),
-    (16, 5, 268, 32),
-    (17, 5, 282, 32),
-    (18, 5, 282, 32),
-    (19, 5, 293, 32),
-    (20, 5, 293, 32),
-    (21, 5, 304, 32),
-    (22, 0, 304, 32),
+    (1, 5, 66, 6),
+    (2, 5, 80, 9),
+    (3, 5, 94, 11),
+    (4, 5, 108, 14),
+    (5, 5, 122, 20),
+    (6, 5, 188, 26),
+    (7, 5, 254, 29),
+    (8, 5, 268, 32),
+    (9, 5, 282, 32),
+    (10, 5, 293, 32),
+    (11, 5, 304, 32),
+    (12, 0, 304, 32),
 ];
 
 /// The same of the keeper.

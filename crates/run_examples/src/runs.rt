@@ -148,10 +148,10 @@ const FAILING_DEVICES: [Failing; 7] = [
     // the first read, and the second one after all bytes
     (&[0], &[], &[], 4, ""),
     (&[1], &[], &[], 4, "ok 1\nwrites 1\nok 1\nwrites 1\n"),
-    // the first write, the first flush, the second write
+    // the first write, the second one, and the flush behind both
     (&[], &[0], &[], 5, ""),
     (&[], &[1], &[], 5, "ok 1\nwrites 1\n"),
-    (&[], &[2], &[], 5, "ok 1\nwrites 1\n"),
+    (&[], &[2], &[], 5, "ok 1\nwrites 1\nok 1\nwrites 1\n"),
     // the opening, and the second append
     (&[], &[], &[0], 6, ""),
     (&[], &[], &[2], 6, "ok 1\nwrites 1\n"),
