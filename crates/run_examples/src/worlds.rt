@@ -91,11 +91,11 @@ const FAILING_WORLDS: [Failing; 7] = [
     // the first read, and the second one after all bytes
     (&[0], &[], &[], 4, ""),
     (&[1], &[], &[], 4, "ok 0\nok 1\nrequest 0\n"),
-    // the first write, the first flush, the second write, the second flush
+    // the first write, the second one, the flush behind both, and a fourth call, which isn't made
     (&[], &[0], &[], 5, ""),
     (&[], &[1], &[], 5, "ok 0\n"),
-    (&[], &[2], &[], 5, "ok 0\n"),
-    (&[], &[3], &[], 5, "ok 0\nok 1\nrequest 0\n"),
+    (&[], &[2], &[], 5, "ok 0\nok 1\nrequest 0\n"),
+    (&[], &[3], &[], 0, "ok 0\nok 1\nrequest 0\n"),
     // the keeper is not asked
     (&[], &[], &[0], 0, "ok 0\nok 1\nrequest 0\n"),
 ];
