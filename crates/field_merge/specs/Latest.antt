@@ -5,11 +5,10 @@ use Rattle.std.proofs.lemmas.Cmp.{back_total, nat_cmp_total, nat_list_cmp_total,
 use Rattle.std.specs.List.{Contains, list_any}
 use Rattle.std.specs.Ordering.{is_eq, is_lt, ordering_then}
 use Rattle.std.specs.declared.cmp.Ordering.{Ordering}
-use Rattle.field_values.specs.Names.{FieldNames, names_cmp}
+use Rattle.field_values.specs.Names.{names_cmp}
 use Rattle.hybrid_clock.specs.declared.stamp.Stamp.{Stamp}
 use Rattle.hybrid_clock.specs.Order.{stamp_cmp}
 use Rattle.field_merge.specs.declared.message.Message.{Message}
-use Rattle.field_merge.specs.Messages.{IsMessage}
 use Rattle.field_merge.specs.Log.{IsByField, fields, has_stamp, join, latest}
 
 -- the timestamps that came, messages among which are the latest ones, how many of these there are when older ones go, and whether a want of memory has spoilt them
@@ -64,11 +63,6 @@ pub record KeepsLatest (old new : List Message) : Type 0 where
 -- the later of two messages
 abbrev pub later : Message → Message → Message
 later m n = if is_lt (stamp_cmp m.stamp n.stamp) then n else m
-
--- a valid message, and the names of its field
-pub record IsArrival (key : FieldNames) (m : Message) : Type 0 where
-  pub own : key ≡ m.field
-  pub valid : IsMessage m
 
 -- `latest_first` is an order
 pub latest_first_total : IsTotalOrder latest_first

@@ -5,6 +5,8 @@ pub mod Log
 pub mod Joining
 pub mod Stored
 pub mod Latest
+pub mod Padded
+pub mod Short
 pub mod Stamps
 pub mod Pieces
 pub mod Laws

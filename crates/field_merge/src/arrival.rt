@@ -1,72 +1,80 @@
 //! A message that came, as it is sorted.
-ghost use Rattle.std.specs.Prelude.{◌≡◌, IfOk, IfSome, OnErr};
+ghost use Rattle.std.specs.Prelude.{◌≡◌};
 ghost use Rattle.std.specs.Ordering.{as_partial_cmp, is_eq};
 ghost use Rattle.std.proofs.Common.{rules};
 ghost use Rattle.std.specs.Cmp.Rules.{comparing};
 ghost use Rattle.std.specs.Cmp.{eq_by_cmp_equiv, partial_equiv_from_equiv, partial_order_from_own_ties, partial_order_from_total};
-ghost use Rattle.field_values.specs.Names.{field_of, names_eq, AreNames};
+ghost use Rattle.field_values.specs.Names.{names_eq};
+ghost use Rattle.field_values.specs.Value.{IsValue};
+ghost use Rattle.hybrid_clock.specs.Stamp.{IsStamp};
 ghost use Rattle.field_merge.specs.Messages.{IsMessage};
 ghost use Rattle.field_merge.specs.Latest.{latest_first, latest_first_total};
 
 use crate::message::Message;
-use field_values::{Field, FieldKey, NoMemory};
+use crate::short::Names;
+use field_values::{Field, Value};
+use hybrid_clock::Stamp;
 use std::cmp::Ordering;
 use std::marker::Model;
 
-/// A valid message beside the key of its field. Messages are ordered by field, and those of one field from the latest on. A
-/// contract sees the message.
+/// A valid message whose names stand in place where they are short. Messages are ordered by field, and those of one field from the
+/// latest on. A contract sees the message.
 #[derive(Debug, Drop)]
 pub(crate) struct Arrival {
-    key: FieldKey,
-    message: Message,
+    names: Names,
+    stamp: Stamp,
+    value: Value,
 }
 
 impl Model for Arrival {
-    ghost use Rattle.std.specs.Prelude.{◌≡◌};
     ghost use Rattle.field_merge.specs.declared.message.Message.{Message};
     ghost use Rattle.field_merge.specs.Messages.{IsMessage};
-    ghost use Rattle.field_merge.specs.Latest.{IsArrival};
 
     ghost Value = { Message };
 
-    ghost view = { λ a. a.message };
+    ghost view = { λ a. record { stamp = a.stamp; field = a.names; value = a.value } };
 
-    ghost invariant = { λ a. IsArrival a.key a.message };
+    ghost invariant = { λ a. IsMessage (record { stamp = a.stamp; field = a.names; value = a.value }) };
 }
 
 impl Arrival {
-    pub(crate) fn new(message: Message) -> Result<Arrival, NoMemory>
+    pub(crate) fn new(message: Message) -> Arrival
         requires { IsMessage message }
-        ensures { IfOk result (λ a. a ≡ message) }
+        ensures { result ≡ message }
     {
-        let key = FieldKey::of(&message.field)?;
-        Ok(Arrival { key, message })
-    }
-
-    pub(crate) fn message(&self) -> &Message
-        ensures same { result.now ≡ self.now }
-        ensures valid { IsMessage self.now }
-    {
-        &self.message
-    }
-
-    /// Its field, in the same memory, where it has these names.
-    pub(crate) fn field_named(
-        &self,
-        dataset: &str,
-        row: &str,
-        column: &str,
-    ) -> Result<Option<Field>, NoMemory>
-        ensures field { IfOk result (λ found. IfSome found (λ f. f ≡ field_of dataset.now row.now column.now)) }
-        ensures valid { IfOk result (λ found. IfSome found AreNames) }
-        ensures memory { OnErr result (AreNames (field_of dataset.now row.now column.now)) }
-    {
-        let field = &self.message.field;
-        if field.row() != row || field.column() != column || field.dataset() != dataset {
-            return Ok(None);
+        let Message {
+            stamp,
+            field,
+            value,
+        } = message;
+        Arrival {
+            names: Names::of(field),
+            stamp,
+            value,
         }
-        let field = field.copy()?;
-        Ok(Some(field))
+    }
+
+    /// When it was written.
+    pub(crate) fn stamp(&self) -> Stamp
+        ensures value { result ≡ self.now.stamp }
+        ensures valid { IsStamp result }
+    {
+        self.stamp
+    }
+
+    /// The names of its field.
+    pub(crate) fn names(&self) -> &Names
+        ensures { result.now ≡ self.now.field }
+    {
+        &self.names
+    }
+
+    /// What it writes.
+    pub(crate) fn value(&self) -> &Value
+        ensures value { result.now ≡ self.now.value }
+        ensures valid { IsValue result.now }
+    {
+        &self.value
     }
 
     /// Puts another message of the field in its place.
@@ -75,14 +83,16 @@ impl Arrival {
         requires field { self.old.field ≡ message.field }
         ensures { self.new ≡ message }
     {
-        self.message = message;
+        let Message { stamp, value, .. } = message;
+        self.stamp = stamp;
+        self.value = value;
     }
 
     /// Whether two messages are of one field.
     pub(crate) fn is_of_field_of(&self, other: &Arrival) -> bool
         ensures { result ≡ names_eq self.now.field other.now.field }
     {
-        self.key == other.key
+        self.names.cmp(&other.names).is_eq()
     }
 }
 
@@ -110,9 +120,9 @@ impl Ord for Arrival {
     ghost matches_eq = { Prim.search (comparing, rules) };
 
     fn cmp(&self, other: &Arrival) -> Ordering {
-        self.key
-            .cmp(&other.key)
-            .then_with(|| other.message.stamp.cmp(&self.message.stamp))
+        self.names
+            .cmp(&other.names)
+            .then_with(|| other.stamp.cmp(&self.stamp))
     }
 }
 

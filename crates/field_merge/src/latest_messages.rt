@@ -51,10 +51,12 @@ impl Model for LatestMessages {
 }
 
 /// Where the last message stands that was put behind the others by a number that is made of a field's names.
-#[derive(Clone, Copy)]
+#[derive(Drop)]
 struct Place {
     hash: u64,
     at: usize,
+    /// The field.
+    field: Option<Field>,
 }
 
 /// A number that is made of the names of a field. What is found by it is looked at before it is believed, so any number would do.
@@ -79,27 +81,22 @@ fn is_of_field_at(came: &[Arrival], place: usize, field: &Field) -> bool
     ensures field { result ≡ true → (m : Message) → (slice_index_or came.now place m).field ≡ field.now }
 {
     match came.get(place) {
-        Some(arrival) => arrival.message().field == *field,
+        Some(arrival) => arrival.names().are_of(field),
         None => false,
     }
 }
 
-/// The field of these names, in the same memory, where a message of it stands at a place.
-fn field_at(
-    came: &[Arrival],
-    place: usize,
-    dataset: &str,
-    row: &str,
-    column: &str,
-) -> Result<Option<Field>, NoMemory>
+/// A field, in the same memory, where it has these names.
+fn named(field: &Field, dataset: &str, row: &str, column: &str) -> Result<Option<Field>, NoMemory>
     ensures field { IfOk result (λ found. IfSome found (λ f. f ≡ field_of dataset.now row.now column.now)) }
     ensures valid { IfOk result (λ found. IfSome found AreNames) }
     ensures memory { OnErr result (AreNames (field_of dataset.now row.now column.now)) }
 {
-    match came.get(place) {
-        Some(arrival) => arrival.field_named(dataset, row, column),
-        None => Ok(None),
+    if field.row() != row || field.column() != column || field.dataset() != dataset {
+        return Ok(None);
     }
+    let field = field.copy()?;
+    Ok(Some(field))
 }
 
 /// Keeps the later of two messages of a field.
@@ -108,7 +105,7 @@ fn keep_later(kept: &mut Arrival, message: Message)
     requires field { kept.old.field ≡ message.field }
     ensures { kept.new ≡ later kept.old message }
 {
-    if kept.message().stamp < message.stamp {
+    if kept.stamp() < message.stamp {
         kept.renew(message);
     }
 }
@@ -121,16 +118,18 @@ fn take_in(came: &mut Vec<Arrival>, places: &mut [Place], message: Message) -> R
 {
     let hash = hash_of(message.field.row(), message.field.column());
     let slot = slot_of(hash, places.len());
-    let place = places[slot];
-    if place.hash == hash && is_of_field_at(came.as_slice(), place.at, &message.field) {
-        keep_later(&mut came[place.at], message);
+    let place = &places[slot];
+    let at = place.at;
+    if place.hash == hash && is_of_field_at(came.as_slice(), at, &message.field) {
+        keep_later(&mut came[at], message);
         return Ok(());
     }
     places[slot] = Place {
         hash,
         at: came.len(),
+        field: Some(message.field.copy()?),
     };
-    came.push(Arrival::new(message)?)?;
+    came.push(Arrival::new(message))?;
     Ok(())
 }
 
@@ -139,7 +138,14 @@ fn make_places(places: &mut Vec<Place>) -> Result<(), NoMemory>
     ensures { OnOk result (0 < length places.new.items) }
 {
     if places.is_empty() {
-        places.resize(PLACES, Place { hash: 0, at: 0 })?;
+        places.resize_with(
+            PLACES,
+            || Place {
+                hash: 0,
+                at: 0,
+                field: None,
+            },
+        )?;
     }
     Ok(())
 }
@@ -220,11 +226,11 @@ impl LatestMessages {
             return Ok(None);
         }
         let hash = hash_of(row, column);
-        let place = self.places[slot_of(hash, self.places.len())];
-        if place.hash != hash {
-            return Ok(None);
+        let place = &self.places[slot_of(hash, self.places.len())];
+        match &place.field {
+            Some(field) if place.hash == hash => named(field, dataset, row, column),
+            _ => Ok(None),
         }
-        field_at(self.came.as_slice(), place.at, dataset, row, column)
     }
 
     /// Takes one message more, and sorts none.

@@ -12,6 +12,7 @@ mod log;
 mod message;
 mod pieces;
 mod shared;
+mod short;
 mod stamps;
 
 pub use escape::{bad_escape, push_escaped, unescape};

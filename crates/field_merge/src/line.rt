@@ -10,9 +10,10 @@ ghost use Rattle.field_merge.specs.Escapes.{escaped, unescaped, has_backslash, B
 ghost use Rattle.std.specs.Result.{is_ok};
 ghost use Rattle.field_merge.specs.Escapes.{ArePlain};
 ghost use Rattle.field_merge.specs.Lines.{reading, parts, of_parts, IsLineFault, TakesMemory};
-ghost use Rattle.field_merge.specs.Messages.{IsMessage, message_line, message_body};
+ghost use Rattle.field_merge.specs.Messages.{IsMessage, line_of_texts, message_line, message_body};
 ghost use Rattle.field_merge.specs.declared.line.LineFault.TheVariants.{NoMemory as OutOfMemory};
 
+use crate::arrival::Arrival;
 use crate::escape::{bad_escape, is_plain, is_plain_part, push_escaped, push_name, unescape};
 use crate::latest_messages::LatestMessages;
 use crate::message::Message;
@@ -342,19 +343,44 @@ fn push_value(line: &mut String, value: &Value) -> Result<(), NoMemory>
     }
 }
 
+/// Puts the names of a field and a value at the end of a line, each escaped, with a TAB between them.
+#[tactic(auto, using(crate::proofs::LineLemmas::body_pushed))]
+fn push_texts(
+    line: &mut String,
+    dataset: &str,
+    row: &str,
+    column: &str,
+    value: &Value,
+) -> Result<(), NoMemory>
+    requires dataset { IsName dataset.now }
+    requires row { IsName row.now }
+    requires column { IsName column.now }
+    requires value { IsValue value.now }
+    ensures line { OnOk result (string_bytes line.new ≡ string_bytes line.old ++ line_of_texts (dataset.now ∷ row.now ∷ column.now ∷ value_text value.now ∷ [])) }
+    ensures front { OnErr result (BeginsWith (string_bytes line.old) (string_bytes line.new)) }
+{
+    push_name(line, dataset)?;
+    push_part(line, row)?;
+    push_part(line, column)?;
+    line.push('\t')?;
+    push_value(line, value)
+}
+
 /// Puts a message's line without its timestamp at the end of a text: names and value, each escaped, with a TAB between them.
 /// After `NoMemory` the text may have got a part of it.
-#[tactic(auto, using(crate::proofs::LineLemmas::body_pushed))]
 pub fn push_body(line: &mut String, message: &Message) -> Result<(), NoMemory>
     requires { IsMessage message.now }
     ensures line { OnOk result (string_bytes line.new ≡ string_bytes line.old ++ message_body message.now) }
     ensures front { OnErr result (BeginsWith (string_bytes line.old) (string_bytes line.new)) }
 {
-    push_name(line, message.field.dataset())?;
-    push_part(line, message.field.row())?;
-    push_part(line, message.field.column())?;
-    line.push('\t')?;
-    push_value(line, &message.value)
+    let field = &message.field;
+    push_texts(
+        line,
+        field.dataset(),
+        field.row(),
+        field.column(),
+        &message.value,
+    )
 }
 
 /// Puts a message's line at the end of a text. After `NoMemory` the text may have got a part of it.
@@ -367,6 +393,23 @@ pub(crate) fn push_line(line: &mut String, message: &Message) -> Result<(), NoMe
     push_stamp(line, &message.stamp)?;
     line.push('\t')?;
     push_body(line, message)
+}
+
+/// Puts the line of a message that came at the end of a text.
+#[tactic(auto, using(crate::proofs::LineLemmas::line_pushed))]
+pub(crate) fn push_arrival(line: &mut String, arrival: &Arrival) -> Result<(), NoMemory>
+    ensures line { OnOk result (string_bytes line.new ≡ string_bytes line.old ++ message_line arrival.now) }
+{
+    push_stamp(line, &arrival.stamp())?;
+    line.push('\t')?;
+    let names = arrival.names();
+    push_texts(
+        line,
+        names.dataset(),
+        names.row(),
+        names.column(),
+        arrival.value(),
+    )
 }
 
 /// The line of a message, without its end. It has no LF, and reads as the message again.

@@ -7,7 +7,7 @@ ghost use Rattle.field_merge.specs.Log.{ended_line};
 ghost use Rattle.field_merge.specs.Pieces.{IsPiece};
 
 use crate::arrival::Arrival;
-use crate::line::push_line;
+use crate::line::{push_arrival, push_line};
 use crate::message::Message;
 use field_values::{NoMemory, Txt};
 use std::alloc::Global;
@@ -54,10 +54,11 @@ fn push_first(text: &mut String, left: &mut Iter<'_, Arrival>) -> Result<bool, N
     ensures some { IfOk result (λ some. MatchBool some (length (iter_rest left.new) < length (iter_rest left.old)) ((iter_rest left.old ≡ []) × (iter_rest left.new ≡ []))) }
     ensures one { IfOk result (λ some. MatchBool some ((m : Message) × (string_bytes text.new ≡ string_bytes text.old ++ ended_line m)) (string_bytes text.new ≡ string_bytes text.old)) }
 {
-    let Some(message) = left.next() else {
+    let Some(arrival) = left.next() else {
         return Ok(false);
     };
-    push_ended_line(text, message.message())?;
+    push_arrival(text, arrival)?;
+    text.push_str("\n")?;
     Ok(true)
 }
 

@@ -1,0 +1,9 @@
+use Rattle.std.proofs.Common.{◌++◌, ◌∙◌, ℕ, List, ap, arith, drop, length, replicate}
+use Rattle.field_merge.proofs.ShortLemmas.{padded_of}
+use Rattle.field_merge.proofs.short.Short.of.Goals as goal
+
+pub invariant_of-result : goal.invariant_of-result
+invariant_of-result c =
+    padded_of 16 c.args.text.now _
+    (ap (λ (ts : List ℕ). ts ++ drop (length c.args.text.now) (replicate 16 0)) (c.copy_from_slice.ensures.after ∙ c.as_bytes.ensures.value))
+    c.requires c.utf8.text (λ k. omega (arith, c.type_inv.text k))
