@@ -1,5 +1,5 @@
-use Rattle.std.proofs.Common.{◌≡◌, Result, Ok, Err, OnErr, IfSome, None, subst}
-use Rattle.field_values.specs.Names.{FieldNames, field_of, names_fault, AreNames}
+use Rattle.std.proofs.Common.{◌≡◌, Result, Ok, Err, OnErr, IfSome, subst}
+use Rattle.field_values.specs.Names.{field_of, AreNames}
 use Rattle.field_values.proofs.NameLemmas.{names_fault-none}
 use Rattle.field_merge.proofs.line.field_of_names.Goals as goal
 
