@@ -6,6 +6,7 @@ mod ShortLemmas
 pub mod StampLemmas
 pub mod Orders
 pub mod Members
+pub mod Hashing
 mod Noting
 mod Links
 pub mod Ordered

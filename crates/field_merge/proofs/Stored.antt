@@ -21,6 +21,7 @@ use Rattle.field_merge.specs.Log.{IsRising, at_stamp, by_stamp, has_field, has_s
 use Rattle.field_merge.specs.Joining.{AreChanged}
 use Rattle.field_merge.specs.Stored.{AreEntries, IsIndex, MarksChanged, Notes, is_newer}
 use Rattle.field_merge.proofs.Orders.{stamps_total, names_alike, names_exact, names_total}
+use Rattle.field_merge.proofs.Hashing.{same_place}
 use Rattle.field_merge.proofs.Joining.{stamp_of}
 use Rattle.field_merge.proofs.Latest.{latest_there}
 use Rattle.field_merge.proofs.Members.{is_some-find, missed, some_passes}
@@ -114,7 +115,7 @@ wins_by_index ms n index new_index w right note = note.is_later ∙ ap (λ o. is
 pub index-placed : (ms : List Message) (n : Message) (index new_index : List (FieldNames × Message)) (w : Bool) → IsRising ms → at_stamp ms n.stamp ≡ None → IsIndex ms index → Notes index new_index n w → IsIndex (placed by_stamp ms n) new_index
 index-placed ms n index new_index w s new right note f =
     note.now f
-    ∙ (λ i. cond (wins_by_index ms n index new_index w right note i && names_flip n.field f i) (Some n) (right f i))
+    ∙ (λ i. cond (wins_by_index ms n index new_index w right note i && (same_place n.field f ∙ names_flip n.field f) i) (Some n) (right f i))
     ∙ sym (latest-placed ms n s new f)
 
 -- ---- what enters

@@ -2,6 +2,7 @@ pub mod Escapes
 pub mod Messages
 pub mod Lines
 pub mod Log
+pub mod Hashed
 pub mod Joining
 pub mod Stored
 pub mod Latest

@@ -10,6 +10,7 @@ use Rattle.field_values.specs.Names.{FieldNames, names_cmp}
 use Rattle.hybrid_clock.specs.declared.stamp.Stamp.{Stamp}
 use Rattle.hybrid_clock.specs.Order.{stamp_cmp}
 use Rattle.field_merge.specs.declared.message.Message.{Message}
+use Rattle.field_merge.specs.Hashed.{hashed_cmp}
 use Rattle.field_merge.specs.Messages.{AreMessages}
 use Rattle.field_merge.specs.Log.{at_stamp, latest}
 
@@ -21,7 +22,7 @@ pub record AreEntries (entries : List (Stamp × Message)) : Type 0 where
 
 -- the index has the fields of the messages and no other, each with its latest message
 abbrev pub IsIndex : List Message → List (FieldNames × Message) → Type 0
-IsIndex ms index = (f : FieldNames) → lookup (is_at (names_cmp f)) index ≡ latest ms f
+IsIndex ms index = (f : FieldNames) → lookup (is_at (hashed_cmp f)) index ≡ latest ms f
 
 -- the messages always stand; the index is right unless a want of memory has spoilt it
 pub record IsStored (entries : List (Stamp × Message)) (index : List (FieldNames × Message)) (spent : Bool) : Type 0 where
@@ -35,8 +36,8 @@ is_newer (Some m) s = is_lt (stamp_cmp m.stamp s)
 
 -- `wins` says whether m is later than the message of its field in the index, or there is none; the index then has m there, and is otherwise as before
 pub record Notes (index new_index : List (FieldNames × Message)) (m : Message) (wins : Bool) : Type 0 where
-  pub is_later : wins ≡ is_newer (lookup (is_at (names_cmp m.field)) index) m.stamp
-  pub now : (f : FieldNames) → lookup (is_at (names_cmp f)) new_index ≡ cond (wins && is_at (names_cmp m.field) f) (Some m) (lookup (is_at (names_cmp f)) index)
+  pub is_later : wins ≡ is_newer (lookup (is_at (hashed_cmp m.field)) index) m.stamp
+  pub now : (f : FieldNames) → lookup (is_at (hashed_cmp f)) new_index ≡ cond (wins && is_at (hashed_cmp m.field) f) (Some m) (lookup (is_at (hashed_cmp f)) index)
 
 -- on the way from the messages `before` to ms, the marked fields are those whose latest message is now another one
 pub record MarksChanged (before ms : List Message) (marked : BTreeSet FieldNames) : Type 0 where

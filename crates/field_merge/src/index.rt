@@ -8,13 +8,18 @@ ghost use Rattle.std.specs.BTreeSet.{contains};
 ghost use Rattle.field_values.specs.Names.{FieldNames, names_cmp};
 ghost use Rattle.hybrid_clock.specs.Order.{stamp_cmp};
 ghost use Rattle.field_merge.specs.declared.message.Message.{Message};
-ghost use Rattle.field_merge.specs.Messages.{IsMessage};
+ghost use Rattle.field_merge.specs.Hashed.{hashed_cmp};
+ghost use Rattle.field_merge.specs.Latest.{KeepsLatest};
+ghost use Rattle.field_merge.specs.Messages.{AreMessages, IsMessage};
 ghost use Rattle.field_merge.specs.Log.{by_stamp, has_field, has_stamp, join_one, latest, placed};
 ghost use Rattle.field_merge.specs.Stored.{AreEntries, IsIndex, MarksChanged, Notes};
 
+use crate::arrival::Arrival;
+use crate::hashed::HashedField;
+use crate::latest_messages::keep_latest;
 use crate::message::Message;
 use crate::shared::Shared;
-use field_values::{Field, FieldKey, NoMemory};
+use field_values::{Field, NoMemory};
 use hybrid_clock::Stamp;
 use std::alloc::Global;
 use std::collections::btree_map::Entry;
@@ -23,8 +28,8 @@ use std::collections::{BTreeMap, BTreeSet};
 /// The messages of a log, each under its own timestamp.
 pub(crate) type Messages = BTreeMap<Stamp, Shared>;
 
-/// The latest message of each field.
-pub(crate) type Index = BTreeMap<FieldKey, Shared>;
+/// The latest message of each field, by the numbers that are made of the fields.
+pub(crate) type Index = BTreeMap<HashedField, Shared>;
 
 /// The message with the names of an equal field, so that its own are not kept.
 fn with_names_of(message: Message, field: &Field) -> Result<Message, NoMemory>
@@ -44,7 +49,7 @@ fn with_names_of(message: Message, field: &Field) -> Result<Message, NoMemory>
 fn note(alloc: Global, index: &mut Index, message: Message) -> Result<(Shared, bool), NoMemory>
     ensures { IfOk result (λ r. (r.0 ≡ message) × Notes index.old.entries index.new.entries message r.1) }
 {
-    let key = FieldKey::of(&message.field)?;
+    let key = HashedField::of(&message.field)?;
     match index.entry(key)? {
         Entry::Vacant(place) => {
             let message = Shared::new(alloc, message)?;
@@ -146,7 +151,7 @@ pub(crate) fn take_in(
 /// The latest message of a field, found by going through the index.
 pub(crate) fn winner_among<'a>(index: &'a Index, field: &Field) -> Option<&'a Message>
     ensures found { option_copied result ≡ find (has_field field.now) (values index.now) }
-    ensures ordered { IsOrdered names_cmp index.now }
+    ensures ordered { IsOrdered hashed_cmp index.now }
 {
     for message in index.values() {
         if *field == message.message().field {
@@ -154,4 +159,18 @@ pub(crate) fn winner_among<'a>(index: &'a Index, field: &Field) -> Option<&'a Me
         }
     }
     None
+}
+
+/// Copies of the messages of the index, by dataset, row and column.
+pub(crate) fn latest_by_field(alloc: Global, index: &Index) -> Result<Vec<Arrival>, NoMemory>
+    requires { IsOrdered hashed_cmp index.now → AreMessages (values index.now) }
+    ensures latest { IfOk result (λ found. KeepsLatest (values index.now) found.items) }
+    ensures ordered { OnOk result (IsOrdered hashed_cmp index.now) }
+{
+    let mut found = Vec::with_capacity(alloc, index.len())?;
+    for message in index.values() {
+        found.push(Arrival::new(message.own()?))?;
+    }
+    keep_latest(&mut found)?;
+    Ok(found)
 }

@@ -151,7 +151,7 @@ fn make_places(places: &mut Vec<Place>) -> Result<(), NoMemory>
 }
 
 /// Sorts messages by field, and keeps the latest of each field.
-fn keep_latest(came: &mut Vec<Arrival>) -> Result<(), NoMemory>
+pub(crate) fn keep_latest(came: &mut Vec<Arrival>) -> Result<(), NoMemory>
     ensures { OnOk result (KeepsLatest came.old.items came.new.items) }
 {
     came.sort()?;

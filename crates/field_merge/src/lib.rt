@@ -3,6 +3,7 @@
 
 mod arrival;
 mod escape;
+mod hashed;
 mod index;
 mod later;
 mod latest_messages;

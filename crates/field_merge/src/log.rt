@@ -9,11 +9,12 @@ ghost use Rattle.field_merge.specs.Log.{IsRising, at_stamp, field_text, has_fiel
 ghost use Rattle.field_merge.specs.Joining.{AreChanged, HasOneEach, HaveSame};
 ghost use Rattle.field_merge.specs.declared.message.Message.{Message};
 
-use crate::index::{Index, Messages, enter, is_known, take_in, winner_among};
+use crate::hashed::HashedField;
+use crate::index::{Index, Messages, enter, is_known, latest_by_field, take_in, winner_among};
 use crate::later::copies_after;
 use crate::message::Message;
 use crate::pieces::push_ended_line;
-use field_values::{Field, FieldKey, Items, NoMemory, Txt, Value};
+use field_values::{Field, Items, NoMemory, Txt, Value};
 use hybrid_clock::Stamp;
 use std::alloc::Global;
 use std::collections::{BTreeMap, BTreeSet};
@@ -190,7 +191,7 @@ impl Log {
         requires { self.now.spent ≡ false }
         ensures { option_copied result ≡ latest self.now.messages field.now }
     {
-        let Ok(key) = FieldKey::of(field) else {
+        let Ok(key) = HashedField::of(field) else {
             // the field has more copies than can be counted
             return winner_among(&self.index, field);
         };
@@ -246,9 +247,10 @@ impl Log {
         requires { self.now.spent ≡ false }
         ensures { IfOk result (λ t. t ≡ field_text self.now.messages) }
     {
+        let latest = latest_by_field(self.alloc, &self.index)?;
         let mut text = String::new(self.alloc);
-        for message in self.index.values() {
-            push_ended_line(&mut text, message.message())?;
+        for arrival in &latest {
+            push_ended_line(&mut text, arrival)?;
         }
         Ok(Txt::new(text))
     }

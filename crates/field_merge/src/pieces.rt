@@ -2,13 +2,12 @@
 ghost use Rattle.std.specs.Prelude.{◌≡◌, ◌++◌, ◌<◌, ◌≤◌, List, [], length, IfOk, OnOk, MatchBool, MatchOption, string_bytes};
 ghost use Rattle.std.specs.List.{flat_map};
 ghost use Rattle.std.specs.Slice.Iter.{iter_rest};
-ghost use Rattle.field_merge.specs.Messages.{IsMessage};
+ghost use Rattle.field_merge.specs.declared.message.Message.{Message};
 ghost use Rattle.field_merge.specs.Log.{ended_line};
 ghost use Rattle.field_merge.specs.Pieces.{IsPiece};
 
 use crate::arrival::Arrival;
-use crate::line::{push_arrival, push_line};
-use crate::message::Message;
+use crate::line::push_arrival;
 use field_values::{NoMemory, Txt};
 use std::alloc::Global;
 use std::marker::Model;
@@ -37,12 +36,11 @@ impl<'a> Model for FieldLines<'a> {
     ghost view = { λ l. iter_rest l.left };
 }
 
-/// Writes the line of a message and a line feed after a text.
-pub(crate) fn push_ended_line(text: &mut String, message: &Message) -> Result<(), NoMemory>
-    requires { IsMessage message.now }
-    ensures { OnOk result (string_bytes text.new ≡ string_bytes text.old ++ ended_line message.now) }
+/// Writes the line of a message that came and a line feed after a text.
+pub(crate) fn push_ended_line(text: &mut String, arrival: &Arrival) -> Result<(), NoMemory>
+    ensures { OnOk result (string_bytes text.new ≡ string_bytes text.old ++ ended_line arrival.now) }
 {
-    push_line(text, message)?;
+    push_arrival(text, arrival)?;
     text.push_str("\n")?;
     Ok(())
 }
@@ -57,8 +55,7 @@ fn push_first(text: &mut String, left: &mut Iter<'_, Arrival>) -> Result<bool, N
     let Some(arrival) = left.next() else {
         return Ok(false);
     };
-    push_arrival(text, arrival)?;
-    text.push_str("\n")?;
+    push_ended_line(text, arrival)?;
     Ok(true)
 }
 

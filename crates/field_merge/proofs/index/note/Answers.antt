@@ -1,12 +1,12 @@
 use Rattle.std.proofs.Common.{rules, Some, ◌∙◌, ap, sym}
-use Rattle.field_merge.proofs.Orders.{names_exact}
+use Rattle.field_merge.proofs.Hashing.{hashed_exact}
 use Rattle.field_merge.proofs.Noting.{notes-first, notes-later, notes-older}
 use Rattle.field_merge.proofs.index.note.Goals.{then-is_later+in_ok-copy-in-Occupied, else-is_later}
 use Rattle.field_merge.proofs.index.note.Goals as goal
 
 pub with_names_of-requires : goal.with_names_of-requires
 with_names_of-requires c =
-    c.field.ensures ∙ c.key.ensures ∙ sym (names_exact _ _ (rw c.in-Occupied.is at c.in_ok-place.ensures.same_key)) ∙ c.in_ok-key.ensures
+    c.field.ensures ∙ c.key.ensures ∙ sym (hashed_exact _ _ (rw c.in-Occupied.is at c.in_ok-place.ensures.same_key)) ∙ c.in_ok-key.ensures
 
 pub returns-in_ok-copy-in-Vacant : goal.returns-in_ok-copy-in-Vacant
 returns-in_ok-copy-in-Vacant c =
