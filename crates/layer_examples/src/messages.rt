@@ -407,6 +407,51 @@ fn lets_go(rt: HostRuntime) -> Result<(), Fail> {
     Ok(())
 }
 
+/// Lines by field, by bytes. Their names have as many bytes as a merge keeps beside a message, one less and one more: 16 of a dataset and a
+/// column, 48 of a row.
+const BY_FIELD: [&str; 14] = [
+    "2024-01-05T10:00:00.000Z-0000-00000000000000aa\tnnnnnnnnnnnnnnn\tr\tnote\tN:0",
+    "2024-01-05T10:00:00.001Z-0000-00000000000000aa\tnnnnnnnnnnnnnnnn\tr\tnote\tN:1",
+    "2024-01-05T10:00:00.002Z-0000-00000000000000aa\tnnnnnnnnnnnnnnnnn\tr\tnote\tN:2",
+    "2024-01-05T10:00:00.003Z-0000-00000000000000aa\tnnnnnnnnnnnnnnnn\u{e9}\tr\tnote\tN:3",
+    "2024-01-05T10:00:00.004Z-0000-00000000000000aa\tnnnnnnnnnnnnnnn\u{e9}\tr\tnote\tN:4",
+    "2024-01-05T10:00:00.005Z-0000-00000000000000aa\tnotes\tr\tnote\tN:5",
+    "2024-01-05T10:00:00.006Z-0000-00000000000000aa\tnotes\trrrrrrrrrrrrrrrr\tnote\tN:6",
+    "2024-01-05T10:00:00.007Z-0000-00000000000000aa\tnotes\trrrrrrrrrrrrrrrrr\tnote\tN:7",
+    "2024-01-05T10:00:00.008Z-0000-00000000000000aa\tnotes\trrrrrrrrrrrrrrrrrrrrrrrrrrrrrrrrrrrrrrrrrrrrrrr\tnote\tN:8",
+    "2024-01-05T10:00:00.009Z-0000-00000000000000aa\tnotes\trrrrrrrrrrrrrrrrrrrrrrrrrrrrrrrrrrrrrrrrrrrrrrrr\tcccccccccccccccc\tN:9",
+    "2024-01-05T10:00:00.010Z-0000-00000000000000aa\tnotes\trrrrrrrrrrrrrrrrrrrrrrrrrrrrrrrrrrrrrrrrrrrrrrrr\tccccccccccccccccc\tN:10",
+    "2024-01-05T10:00:00.011Z-0000-00000000000000aa\tnotes\trrrrrrrrrrrrrrrrrrrrrrrrrrrrrrrrrrrrrrrrrrrrrrrr\tnote\tN:11",
+    "2024-01-05T10:00:00.012Z-0000-00000000000000aa\tnotes\trrrrrrrrrrrrrrrrrrrrrrrrrrrrrrrrrrrrrrrrrrrrrrrrr\tnote\tN:12",
+    "2024-01-05T10:00:00.013Z-0000-00000000000000aa\tnotes\trrrrrrrrrrrrrrrrrrrrrrrrrrrrrrrrrrrrrrrrrrrrrrr\u{e9}\tnote\tN:13",
+];
+
+/// Adds the message of a line to the latest ones.
+fn adds_line(latest: &mut LatestMessages, line: &str) -> Result<(), Fail>
+    requires { latest.old.spent ≡ false }
+    ensures { OnOk result (latest.new.spent ≡ false) }
+{
+    let message = latest.read_text(line)?;
+    latest.add(message)?;
+    Ok(())
+}
+
+/// Lines that come from the last to the first, half of them again, are given by field.
+#[test]
+fn orders_names_of_each_length(rt: HostRuntime) -> Result<(), Fail> {
+    let alloc = rt.alloc();
+    let mut latest = LatestMessages::new(alloc);
+    let mut lines = String::new(alloc);
+    for place in 0..BY_FIELD.len() {
+        adds_line(&mut latest, BY_FIELD[BY_FIELD.len() - 1 - place])?;
+        adds_line(&mut latest, BY_FIELD[BY_FIELD.len() - 1 - place / 2])?;
+        lines.push_str(BY_FIELD[place])?;
+        lines.push_str("\n")?;
+    }
+    assert!(rt; gives(&mut latest, lines.as_str())?);
+    Ok(())
+}
+
 /// Whether a message that enters is new, and whether it is then the latest of its field.
 fn enters(alloc: Global, log: &mut Log, one: Told) -> Result<(bool, bool), Fail>
     requires { log.old.spent ≡ false }
