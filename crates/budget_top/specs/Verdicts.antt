@@ -1,5 +1,5 @@
 -- What merging makes of each line, and what it writes.
-use Rattle.std.specs.Prelude.{ℕ, ◌+◌, Bool, if◌then◌else◌, List, [], ◌∷◌, ◌++◌, Result, Ok, Err, codes}
+use Rattle.std.specs.Prelude.{◌≡◌, ℕ, ◌+◌, Bool, false, if◌then◌else◌, List, [], ◌∷◌, ◌++◌, Result, Ok, Err, codes}
 use Rattle.std.specs.List.{list_any, flat_map}
 use Rattle.std.specs.Result.{is_err}
 use Rattle.std.specs.Str.{is_utf8}
@@ -7,6 +7,7 @@ use Rattle.std.specs.Fmt.{decimal}
 use Rattle.field_merge.specs.declared.message.Message.{Message}
 use Rattle.field_merge.specs.declared.line.LineFault.{LineFault}
 use Rattle.field_merge.specs.declared.line.LineFault.TheVariants.{Columns as BadColumns, Escape as BadEscape, Stamp as BadStamp, Name as BadName, NoMemory}
+use Rattle.field_merge.specs.Latest.{CameFrom, LatestState}
 use Rattle.field_merge.specs.Lines.{reading}
 use Rattle.field_merge.specs.Log.{join, field_text}
 use Rattle.command_lines.specs.Commands.{is_too_long}
@@ -38,6 +39,11 @@ judged_short line = if is_utf8 line then worded (reading line) else Err Utf8
 -- the verdict on a line: it is too long, or no UTF-8, or what it reads as
 abbrev pub judged : List ℕ → Verdict
 judged line = if is_too_long line then Err Long else judged_short line
+
+-- what is done with a line of a verdict: the message has come, or the word is told and all stays as it was
+abbrev pub Takes : Verdict → Result Unit Word → LatestState → LatestState → Type 0
+Takes (Ok m) told old new = (told ≡ Ok tt) × (new.spent ≡ false) × ((ms : List Message) → CameFrom ms old → CameFrom (ms ++ m ∷ []) new)
+Takes (Err word) told old new = (told ≡ Err word) × (new ≡ old)
 
 -- the text of a word
 abbrev pub word_text : Word → List ℕ

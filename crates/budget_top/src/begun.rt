@@ -1,12 +1,12 @@
 //! The line that has begun.
-ghost use Rattle.std.specs.Prelude.{◌≡◌, ◌↔◌, IfOk, IfSome, OnOk, OnErr, IsErr, IsSome, IsTrue, IsUtf8, MatchOption, None, Some, []};
+ghost use Rattle.std.specs.Prelude.{◌≡◌, ◌↔◌, IfOk, IfSome, OnOk, OnErr, IsErr, IsSome, IsTrue, IsUtf8, MatchOption, None, Some, false, []};
 ghost use Rattle.field_merge.specs.Lines.{TakesMemory};
-ghost use Rattle.field_merge.specs.Messages.{IsMessage};
 ghost use Rattle.budget_top.specs.KeptLine.{judged_kept_line, kept_line_with};
+ghost use Rattle.budget_top.specs.Verdicts.{Takes};
 
-use crate::verdict::{Word, judge};
+use crate::verdict::{Word, take_line};
 use command_lines::LONGEST_LINE;
-use field_merge::{LatestMessages, Message};
+use field_merge::LatestMessages;
 use field_values::NoMemory;
 use std::alloc::Global;
 use std::marker::Model;
@@ -79,20 +79,20 @@ impl Begun {
         Some(self.bytes.as_slice())
     }
 
-    /// The message of the line, which comes to those that came before it, or the word for what is wrong with it.
+    /// Takes the message of the line among the latest ones, or tells the word for what is wrong with it.
     ///
     /// # Errors
     ///
-    /// `NoMemory`. The line stays as it is.
-    pub fn judge(&self, latest: &LatestMessages) -> Result<Result<Message, Word>, NoMemory>
-        ensures verdict { IfOk result (λ verdict. verdict ≡ judged_kept_line self.now) }
-        ensures valid { IfOk result (λ verdict. IfOk verdict IsMessage) }
+    /// `NoMemory`; the latest messages are then spent. The line stays as it is.
+    pub fn take_in(&self, latest: &mut LatestMessages) -> Result<Result<(), Word>, NoMemory>
+        requires live { latest.old.spent ≡ false }
+        ensures taken { IfOk result (λ told. Takes (judged_kept_line self.now) told latest.old latest.new) }
         ensures memory { IsErr result → IsSome self.now × IfSome self.now (λ line. IsUtf8 line × TakesMemory line) }
     {
         if self.is_long {
             return Ok(Err(Word::Long));
         }
-        judge(latest, self.bytes.as_slice())
+        take_line(latest, self.bytes.as_slice())
     }
 
     /// Begins the next line.

@@ -15,10 +15,10 @@ use crate::begun::Begun;
 use crate::dispatch::{DONE, SOME_BAD, SOURCE_FAILED, TOO_MUCH};
 use crate::input::{End, PIECE, Piece, line_length, read_piece};
 use crate::stop::Stop;
-use crate::verdict::{Word, bad_line_text};
+use crate::verdict::bad_line_text;
 use crate::write::write_all;
 use budget_ports::{Sink, Source};
-use field_merge::{FieldLines, LatestMessages, Message};
+use field_merge::{FieldLines, LatestMessages};
 use field_values::NoMemory;
 use std::alloc::Global;
 use std::mem;
@@ -37,7 +37,7 @@ pub struct Merge {
 impl Merge {
     ghost use Rattle.std.specs.Prelude.{◌≡◌, ◌==◌, ◌+◌, ◌<◌, ◌≤◌, ◌^◌, ◌∷◌, [], ◌++◌, List, ℕ, Option, length, false, IfOk, OnOk, OnErr};
     ghost use Rattle.std.specs.Io.KnownBytes.{Appends};
-    ghost use Rattle.field_merge.specs.Messages.{IsMessage};
+    ghost use Rattle.budget_top.specs.KeptLine.{judged_kept_line};
     ghost use Rattle.budget_ports.specs.Faults.{count_after};
     ghost use Rattle.budget_top.specs.Stops.{step_status, stop_status};
     ghost use Rattle.budget_top.specs.Lines.{IsWithinLine, whole_lines, all_lines};
@@ -57,32 +57,20 @@ impl Merge {
         }
     }
 
-    /// Joins the message of a line, or writes that the line is bad.
-    fn settle<W: Sink>(
-        &mut self,
-        alloc: Global,
-        sink: &mut W,
-        verdict: Result<Message, Word>,
-    ) -> Result<(), Stop>
+    /// Joins the message of the line that has begun, or writes that the line is bad.
+    fn settle<W: Sink>(&mut self, alloc: Global, sink: &mut W) -> Result<(), Stop>
         requires live { self.old.latest.spent ≡ false }
         requires few { self.old.number < 2 ^ 60 }
-        requires valid { IfOk verdict IsMessage }
-        ensures ok { OnOk result (Settles self.old self.new (W.taken sink.old) (W.taken sink.new) verdict) }
-        ensures err { OnErr result (AppendsFront (W.taken sink.old) (W.taken sink.new) (bad_line (self.old.number + 1) verdict)) }
+        ensures ok { OnOk result (Settles self.old self.new (W.taken sink.old) (W.taken sink.new) (judged_kept_line self.old.line)) }
+        ensures err { OnErr result (AppendsFront (W.taken sink.old) (W.taken sink.new) (bad_line (self.old.number + 1) (judged_kept_line self.old.line))) }
         ensures count { W.faults sink.new ≡ count_after (step_status stop_status result == 5) (W.faults sink.old) }
     {
-        match verdict {
-            Ok(message) => {
-                self.latest.add(message)?;
-                Ok(())
-            }
-            Err(word) => {
-                let text = bad_line_text(alloc, self.number + 1, word)?;
-                self.has_bad = true;
-                write_all(sink, text.as_str().as_bytes())?;
-                Ok(())
-            }
+        if let Err(word) = self.line.take_in(&mut self.latest)? {
+            let text = bad_line_text(alloc, self.number + 1, word)?;
+            self.has_bad = true;
+            write_all(sink, text.as_str().as_bytes())?;
         }
+        Ok(())
     }
 
     /// Ends the line that has begun.
@@ -95,8 +83,7 @@ impl Merge {
         ensures few { OnOk result (self.new.number ≡ self.old.number + 1) }
         ensures count { W.faults sink.new ≡ count_after (step_status stop_status result == 5) (W.faults sink.old) }
     {
-        let verdict = self.line.judge(&self.latest)?;
-        self.settle(alloc, sink, verdict)?;
+        self.settle(alloc, sink)?;
         self.number += 1;
         self.line.clear();
         Ok(())

@@ -1,10 +1,9 @@
 //! What merging makes of a line.
-ghost use Rattle.std.specs.Prelude.{◌≡◌, IfOk, IsErr, IsUtf8, Err, string_bytes};
+ghost use Rattle.std.specs.Prelude.{◌≡◌, IfOk, IsErr, IsUtf8, Err, false, string_bytes};
 ghost use Rattle.field_merge.specs.Lines.{TakesMemory};
-ghost use Rattle.field_merge.specs.Messages.{IsMessage};
-ghost use Rattle.budget_top.specs.Verdicts.{bad_line, judged_short, word_text};
+ghost use Rattle.budget_top.specs.Verdicts.{bad_line, judged_short, word_text, Takes};
 
-use field_merge::{LatestMessages, LineFault, Message};
+use field_merge::{LatestMessages, LineFault};
 use field_values::NoMemory;
 use std::alloc::Global;
 use std::str;
@@ -42,23 +41,22 @@ impl Word {
     }
 }
 
-/// The message of a line that is short enough, or the word for what is wrong with it. It may have its names in the memory of one that
-/// came before.
+/// Takes the message of a line that is short enough among the latest ones, or tells the word for what is wrong with it.
 ///
 /// # Errors
 ///
-/// `NoMemory`.
+/// `NoMemory`; the latest messages are then spent.
 #[tactic(auto, unfolding(crate::specs::Verdicts::judged_short))]
-pub fn judge(latest: &LatestMessages, line: &[u8]) -> Result<Result<Message, Word>, NoMemory>
-    ensures verdict { IfOk result (λ verdict. verdict ≡ judged_short line.now) }
-    ensures valid { IfOk result (λ verdict. IfOk verdict IsMessage) }
+pub fn take_line(latest: &mut LatestMessages, line: &[u8]) -> Result<Result<(), Word>, NoMemory>
+    requires live { latest.old.spent ≡ false }
+    ensures taken { IfOk result (λ told. Takes (judged_short line.now) told latest.old latest.new) }
     ensures memory { IsErr result → IsUtf8 line.now × TakesMemory line.now }
 {
     let Ok(text) = str::from_utf8(line) else {
         return Ok(Err(Word::Utf8));
     };
-    match latest.read_text(text) {
-        Ok(message) => Ok(Ok(message)),
+    match latest.add_line(text) {
+        Ok(()) => Ok(Ok(())),
         Err(LineFault::Columns { .. }) => Ok(Err(Word::Columns)),
         Err(LineFault::Escape { .. }) => Ok(Err(Word::Escape)),
         Err(LineFault::Stamp(_)) => Ok(Err(Word::Stamp)),

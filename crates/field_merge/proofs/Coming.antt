@@ -1,5 +1,5 @@
 -- What one message more makes of what is kept of those that came.
-use Rattle.std.proofs.Common.{◌≡◌, ◌≤◌, length, arith, List, [], ◌∷◌, ◌++◌, Bool, true, false, ◌||◌, ◌&&◌, inl, inr, cond, Option, None, Some, refl, sym, ap, ◌∙◌, subst}
+use Rattle.std.proofs.Common.{◌≡◌, ◌≤◌, length, arith, List, [], ◌∷◌, ◌++◌, Bool, true, false, not, ◌||◌, ◌&&◌, inl, inr, cond, Option, None, Some, refl, sym, ap, ◌∙◌, subst}
 use Rattle.std.specs.Ordering.{is_eq, is_gt, is_lt}
 use Rattle.std.specs.Option.{is_some, option_or}
 use Rattle.std.specs.Cmp.{tied_itself}
@@ -74,6 +74,12 @@ more_kept ms n = let longer = fields_more (join [] ms) (join [] (ms ++ n ∷ [])
 
 still_few : (ms : List Message) (n : Message) (l m : LatestState) → CameFrom ms l → m.most ≡ l.most → m.most ≤ most_kept (ms ++ n ∷ [])
 still_few ms n l m came same_most = omega (arith, came.most, same_most, more_kept ms n)
+
+pub not_back : (b c : Bool) → b ≡ not c → c ≡ not b
+not_back true true h = h
+not_back true false h = refl
+not_back false true h = refl
+not_back false false h = h
 
 -- ---- one message more
 pub came_new : (ms : List Message) (n : Message) (l m : LatestState) → CameFrom ms l → is_among n.stamp l.stamps ≡ false → ((s : Stamp) → is_among s m.stamps ≡ (has_stamp s n || is_among s l.stamps)) → m.messages ≡ l.messages ++ n ∷ [] → m.most ≡ l.most → CameFrom (ms ++ n ∷ []) m

@@ -22,11 +22,11 @@ use Rattle.hybrid_clock.proofs.Writing.{text_reads}
 use Rattle.memchr.specs.Find.{IsFirstByte, is_byte}
 use Rattle.field_merge.specs.declared.message.Message.{Message}
 use Rattle.field_merge.specs.declared.line.LineFault.{LineFault}
-use Rattle.field_merge.specs.declared.line.LineFault.TheVariants.{Columns, NoMemory as OutOfMemory}
+use Rattle.field_merge.specs.declared.line.LineFault.TheVariants.{Columns, Stamp as BadStamp, Name as BadName, NoMemory as OutOfMemory}
 use Rattle.field_merge.specs.Escapes.{escaped, unescaped, bad_escape, has_backslash, ArePlain}
-use Rattle.field_merge.specs.Messages.{IsMessage, message_line}
-use Rattle.field_merge.specs.Lines.{parts, with_names, with_stamp, of_parts, reading, TakesMemory}
-use Rattle.field_merge.proofs.EscapeLemmas.{Lacks, Lacks-from_reads, lacks_byte, Fails-append, unescaped-escaped, escaped-no_tab, escaped-no_feed, bad_escape-escaped, bad_escape-tab}
+use Rattle.field_merge.specs.Messages.{IsMessage, message_line, message_of}
+use Rattle.field_merge.specs.Lines.{parts, message_of_texts, with_names, with_stamp, of_parts, reading, TakesMemory}
+use Rattle.field_merge.proofs.EscapeLemmas.{known_whole, Lacks, Lacks-from_reads, lacks_byte, Fails-append, unescaped-escaped, escaped-no_tab, escaped-no_feed, bad_escape-escaped, bad_escape-tab}
 
 pub parts-none : (xs : List ℕ) → Lacks 9 xs → parts xs ≡ xs ∷ []
 parts-none [] h = refl
@@ -206,6 +206,41 @@ takes_memory line a b c d e cut good read = record {
   plain = λ h. rw (cut, good) (read (parts_plain line a b c d e cut h));
 }
 
-pub memory_of_parts : (r : Result Message LineFault) (line a b c d e : List ℕ) → parts line ≡ a ∷ b ∷ c ∷ d ∷ e ∷ [] → bad_escape line ≡ None → IfErr r (λ fault. fault ≡ OutOfMemory → ArePlain a b c d e → is_ok (of_parts (a ∷ b ∷ c ∷ d ∷ e ∷ []) None) ≡ true) → IfErr r (λ fault. fault ≡ OutOfMemory → TakesMemory line)
+pub memory_of_parts : {A : Type 0} (r : Result A LineFault) (line a b c d e : List ℕ) → parts line ≡ a ∷ b ∷ c ∷ d ∷ e ∷ [] → bad_escape line ≡ None → IfErr r (λ fault. fault ≡ OutOfMemory → ArePlain a b c d e → is_ok (of_parts (a ∷ b ∷ c ∷ d ∷ e ∷ []) None) ≡ true) → IfErr r (λ fault. fault ≡ OutOfMemory → TakesMemory line)
 memory_of_parts (Ok m) line a b c d e cut good h = tt
 memory_of_parts (Err fault) line a b c d e cut good h = λ is. takes_memory line a b c d e cut good (h is)
+
+-- what holds of each fault
+pub each_fault : {A E : Type 0} (r : Result A E) (P : E → Type 0) → ((e : E) → P e) → IfErr r P
+each_fault (Ok x) P p = tt
+each_fault (Err e) P p = p e
+
+-- what five texts read as, by their timestamp and their names
+pub texts_read : (stamp value : List ℕ) (names : FieldNames) (s : Stamp) → read_stamp stamp ≡ Ok s → names_fault names ≡ None → message_of_texts stamp names value ≡ Ok (message_of s names value)
+texts_read stamp value names s read good = rw (read, good) refl
+
+pub bad_stamp_read : (stamp value : List ℕ) (names : FieldNames) (fault : StampFault) → read_stamp stamp ≡ Err fault → message_of_texts stamp names value ≡ Err (BadStamp fault)
+bad_stamp_read stamp value names fault read = rw read refl
+
+pub bad_name_read : (stamp value : List ℕ) (names : FieldNames) (s : Stamp) (fault : NameFault) → read_stamp stamp ≡ Ok s → names_fault names ≡ Some fault → message_of_texts stamp names value ≡ Err (BadName fault)
+bad_name_read stamp value names s fault read bad = rw (read, bad) refl
+
+whole : (part : List ℕ) → has_backslash part ≡ false → unescaped part ≡ part
+whole part h = known_whole true part (λ known. h)
+
+-- a line without a backslash reads as its texts
+pub line_as_texts : (line a b c d e : List ℕ) (names : FieldNames) → parts line ≡ a ∷ b ∷ c ∷ d ∷ e ∷ [] → bad_escape line ≡ None → has_backslash line ≡ false → names ≡ field_of b c d → reading line ≡ message_of_texts a names e
+line_as_texts line a b c d e names cut good plain named =
+    let all = parts_plain line a b c d e cut plain in
+    ap (λ ps. of_parts ps (bad_escape line)) cut ∙ ap (λ bad. of_parts (a ∷ b ∷ c ∷ d ∷ e ∷ []) bad) good
+    ∙ rw (whole a all.first, whole b all.second, whole c all.third, whole d all.fourth, whole e all.fifth, named) refl
+
+-- where memory is taken, from where it is taken for the texts
+pub memory_of_texts : {A : Type 0} (r : Result A LineFault) (line a b c d e : List ℕ) (names : FieldNames) → parts line ≡ a ∷ b ∷ c ∷ d ∷ e ∷ [] → bad_escape line ≡ None → reading line ≡ message_of_texts a names e
+    → IfErr r (λ fault. fault ≡ OutOfMemory → is_ok (message_of_texts a names e) ≡ true) → IfErr r (λ fault. fault ≡ OutOfMemory → TakesMemory line)
+memory_of_texts (Ok m) line a b c d e names cut good read h = tt
+memory_of_texts (Err fault) line a b c d e names cut good read h = λ is. record {
+  five = ap length cut;
+  good = good;
+  plain = λ plain. ap is_ok read ∙ h is;
+}

@@ -1,5 +1,5 @@
 -- What is kept of messages whose older writes are forgotten.
-use Rattle.std.specs.Prelude.{◌≡◌, ◌≤◌, ◌*◌, ℕ, List, [], length, max, Bool, false, Some, if◌then◌else◌}
+use Rattle.std.specs.Prelude.{◌≡◌, ◌≤◌, ◌*◌, ℕ, List, [], ◌∷◌, ◌++◌, length, max, Bool, false, Some, Result, Ok, if◌then◌else◌}
 use Rattle.std.specs.Cmp.{IsTotalOrder}
 use Rattle.std.proofs.lemmas.Cmp.{back_total, nat_cmp_total, nat_list_cmp_total, on_total, then_total}
 use Rattle.std.specs.List.{Contains, list_any}
@@ -8,6 +8,7 @@ use Rattle.std.specs.declared.cmp.Ordering.{Ordering}
 use Rattle.field_values.specs.Names.{names_cmp}
 use Rattle.hybrid_clock.specs.declared.stamp.Stamp.{Stamp}
 use Rattle.hybrid_clock.specs.Order.{stamp_cmp}
+use Rattle.field_merge.specs.declared.line.LineFault.{LineFault}
 use Rattle.field_merge.specs.declared.message.Message.{Message}
 use Rattle.field_merge.specs.Log.{IsByField, fields, has_stamp, join, latest}
 
@@ -45,6 +46,11 @@ pub record CameFrom (ms : List Message) (l : LatestState) : Type 0 where
   pub latest : (m : Message) → latest (join [] ms) m.field ≡ Some m → Contains l.messages m
   pub least : few_messages ≤ l.most
   pub most : l.most ≤ most_kept ms
+
+-- a line that reads as this came, and is a message's: with its message the same came as before, and no more are kept than may be
+abbrev pub AddsRead : Result Message LineFault → LatestState → LatestState → Type 0
+AddsRead read old new =
+    (m : Message) × (read ≡ Ok m) × ((ms : List Message) → CameFrom ms old → CameFrom (ms ++ m ∷ []) new × IsFew (ms ++ m ∷ []) new)
 
 -- messages by field, those of one field from the latest on
 abbrev pub latest_first : Message → Message → Ordering

@@ -4,14 +4,14 @@ ghost use Rattle.std.specs.Ordering.{as_partial_cmp, is_eq};
 ghost use Rattle.std.proofs.Common.{rules};
 ghost use Rattle.std.specs.Cmp.Rules.{comparing};
 ghost use Rattle.std.specs.Cmp.{eq_by_cmp_equiv, partial_equiv_from_equiv, partial_order_from_own_ties, partial_order_from_total};
-ghost use Rattle.field_values.specs.Names.{names_eq};
+ghost use Rattle.field_values.specs.Names.{names_eq, AreNames};
 ghost use Rattle.field_values.specs.Value.{IsValue};
 ghost use Rattle.hybrid_clock.specs.Stamp.{IsStamp};
 ghost use Rattle.field_merge.specs.Messages.{IsMessage};
 ghost use Rattle.field_merge.specs.Latest.{latest_first, latest_first_total};
 
 use crate::message::Message;
-use crate::short::Names;
+use crate::short::{Names, ShortNames};
 use field_values::{Field, Value};
 use hybrid_clock::Stamp;
 use std::cmp::Ordering;
@@ -54,6 +54,20 @@ impl Arrival {
         }
     }
 
+    /// A message of short names.
+    pub(crate) fn of(stamp: Stamp, names: ShortNames, value: Value) -> Arrival
+        requires stamp { IsStamp stamp }
+        requires names { AreNames names }
+        requires value { IsValue value }
+        ensures { result ≡ record { stamp = stamp; field = names; value = value } }
+    {
+        Arrival {
+            names: Names::short(names),
+            stamp,
+            value,
+        }
+    }
+
     /// When it was written.
     pub(crate) fn stamp(&self) -> Stamp
         ensures value { result ≡ self.now.stamp }
@@ -78,12 +92,11 @@ impl Arrival {
     }
 
     /// Puts another message of the field in its place.
-    pub(crate) fn renew(&mut self, message: Message)
-        requires valid { IsMessage message }
-        requires field { self.old.field ≡ message.field }
-        ensures { self.new ≡ message }
+    pub(crate) fn renew(&mut self, stamp: Stamp, value: Value)
+        requires stamp { IsStamp stamp }
+        requires value { IsValue value }
+        ensures { self.new ≡ record { stamp = stamp; field = self.old.field; value = value } }
     {
-        let Message { stamp, value, .. } = message;
         self.stamp = stamp;
         self.value = value;
     }

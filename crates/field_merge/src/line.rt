@@ -1,5 +1,5 @@
 //! The line of a message, read and written.
-ghost use Rattle.std.specs.Prelude.{◌≡◌, ◌≢◌, ◌==◌, ◌≤◌, ◌∷◌, ◌++◌, [], length, count_by, IfOk, IfErr, OnErr, OnOk, MatchOption, MatchResult, IsUtf8, Ok, Some, None, true, false, string_bytes};
+ghost use Rattle.std.specs.Prelude.{◌≡◌, ◌≢◌, ◌==◌, ◌≤◌, ◌∷◌, ◌++◌, [], length, count_by, IfOk, IfErr, OnErr, OnOk, MatchOption, MatchResult, IsUtf8, Ok, Err, Some, None, true, false, string_bytes};
 ghost use Rattle.field_values.specs.Names.{field_of, names_fault, AreNames, IsName};
 ghost use Rattle.field_values.specs.Value.{value_of, value_text, HoldsNumber, IsValue};
 ghost use Rattle.field_values.specs.declared.value.Value.TheVariants.{Number};
@@ -15,7 +15,6 @@ ghost use Rattle.field_merge.specs.declared.line.LineFault.TheVariants.{NoMemory
 
 use crate::arrival::Arrival;
 use crate::escape::{bad_escape, is_plain, is_plain_part, push_escaped, push_name, unescape};
-use crate::latest_messages::LatestMessages;
 use crate::message::Message;
 use field_values::{Field, NameFault, NoMemory, Txt, Value};
 use hybrid_clock::{Stamp, StampFault};
@@ -53,12 +52,20 @@ impl From<NoMemory> for LineFault {
 
 /// The five parts of a line, still with their escapes.
 #[derive(Drop)]
-struct Parts<'a> {
-    stamp: &'a str,
-    dataset: &'a str,
-    row: &'a str,
-    column: &'a str,
-    value: &'a str,
+pub(crate) struct Parts<'a> {
+    pub stamp: &'a str,
+    pub dataset: &'a str,
+    pub row: &'a str,
+    pub column: &'a str,
+    pub value: &'a str,
+}
+
+/// A line that has five parts and no bad escape.
+#[derive(Drop)]
+pub(crate) struct CutLine<'a> {
+    pub parts: Parts<'a>,
+    /// Where it is set, the line has no backslash.
+    pub is_plain: bool,
 }
 
 /// Cuts a line at its first TAB, which belongs to neither side: before it stands the first part, and
@@ -126,10 +133,9 @@ fn stamp_in(
     Ok(Stamp::parse(text.as_bytes()))
 }
 
-/// The field of three names. Where one of them is known already, the names are those in its memory.
+/// The field of three names.
 fn field_of_names(
     alloc: Global,
-    known: Option<&LatestMessages>,
     dataset: &str,
     row: &str,
     column: &str,
@@ -140,11 +146,6 @@ fn field_of_names(
         (λ fault. names_fault names ≡ Some fault)) }
     ensures memory { OnErr result (names_fault (field_of dataset.now row.now column.now) ≡ None) }
 {
-    if let Some(latest) = known {
-        if let Some(field) = latest.known_field(dataset, row, column)? {
-            return Ok(Ok(field));
-        }
-    }
     match Field::make(alloc, dataset, row, column) {
         Ok(field) => Ok(Ok(field)),
         Err(NameFault::NoMemory) => Err(NoMemory),
@@ -155,7 +156,6 @@ fn field_of_names(
 /// The field that three parts stand for. Where none has a backslash they are not copied first.
 fn field_in(
     alloc: Global,
-    known: Option<&LatestMessages>,
     parts: &Parts<'_>,
     is_plain: bool,
 ) -> Result<Result<Field, NameFault>, NoMemory>
@@ -173,18 +173,12 @@ fn field_in(
         && is_plain_part(is_plain, parts.row)
         && is_plain_part(is_plain, parts.column)
     {
-        return field_of_names(alloc, known, parts.dataset, parts.row, parts.column);
+        return field_of_names(alloc, parts.dataset, parts.row, parts.column);
     }
     let dataset = unescape(alloc, parts.dataset)?;
     let row = unescape(alloc, parts.row)?;
     let column = unescape(alloc, parts.column)?;
-    field_of_names(
-        alloc,
-        known,
-        dataset.as_str(),
-        row.as_str(),
-        column.as_str(),
-    )
+    field_of_names(alloc, dataset.as_str(), row.as_str(), column.as_str())
 }
 
 /// The value that a part stands for.
@@ -202,9 +196,8 @@ fn value_in(alloc: Global, part: &str, is_plain: bool) -> Result<Value, NoMemory
 
 /// The message that five parts stand for.
 #[tactic(auto, using(crate::proofs::LineLemmas::reads_well))]
-fn message_in(
+pub(crate) fn message_in(
     alloc: Global,
-    known: Option<&LatestMessages>,
     parts: &Parts<'_>,
     is_plain: bool,
 ) -> Result<Message, LineFault>
@@ -221,7 +214,7 @@ fn message_in(
         Ok(stamp) => stamp,
         Err(fault) => return Err(LineFault::Stamp(fault)),
     };
-    let field = match field_in(alloc, known, parts, is_plain)? {
+    let field = match field_in(alloc, parts, is_plain)? {
         Ok(field) => field,
         Err(fault) => return Err(LineFault::Name(fault)),
     };
@@ -245,27 +238,15 @@ fn bad_escape_in(line: &str, is_plain: bool) -> Option<usize>
     }
 }
 
-/// The message of a line. The line stands without its end: a LF in it is read as any other byte.
-pub fn read_line(alloc: Global, line: &Txt) -> Result<Message, LineFault>
-    ensures ok { IfOk result (λ m. reading line.now ≡ Ok m) }
-    ensures valid { IfOk result IsMessage }
-    ensures err { IfErr result (IsLineFault (reading line.now)) }
-    ensures memory { IfErr result (λ fault. fault ≡ OutOfMemory → TakesMemory line.now) }
-{
-    read_beside(alloc, None, line.as_str())
-}
-
-/// The message of a line that is lent, beside messages whose fields may be known already.
+/// Cuts a line, where it has five parts and no bad escape.
 #[tactic(auto, using(crate::proofs::LineLemmas::reading_of_others))]
-pub(crate) fn read_beside(
-    alloc: Global,
-    known: Option<&LatestMessages>,
-    line: &str,
-) -> Result<Message, LineFault>
-    ensures ok { IfOk result (λ m. reading line.now ≡ Ok m) }
-    ensures valid { IfOk result IsMessage }
-    ensures err { IfErr result (IsLineFault (reading line.now)) }
-    ensures memory { IfErr result (λ fault. fault ≡ OutOfMemory → TakesMemory line.now) }
+pub(crate) fn cut_line(line: &str) -> Result<CutLine<'_>, LineFault>
+    ensures cut { IfOk result (λ cut. parts line.now ≡ cut.parts.stamp.now ∷ cut.parts.dataset.now ∷ cut.parts.row.now
+        ∷ cut.parts.column.now ∷ cut.parts.value.now ∷ []) }
+    ensures good { OnOk result (spec.bad_escape line.now ≡ None) }
+    ensures plain { IfOk result (λ cut. cut.is_plain ≡ true → has_backslash line.now ≡ false) }
+    ensures bad { IfErr result (λ fault. reading line.now ≡ Err fault) }
+    ensures memory { IfErr result (λ fault. fault ≢ OutOfMemory) }
 {
     let Some(parts) = five_parts(line) else {
         return Err(LineFault::Columns {
@@ -276,7 +257,18 @@ pub(crate) fn read_beside(
     if let Some(at) = bad_escape_in(line, is_plain) {
         return Err(LineFault::Escape { at });
     }
-    message_in(alloc, known, &parts, is_plain)
+    Ok(CutLine { parts, is_plain })
+}
+
+/// The message of a line. The line stands without its end: a LF in it is read as any other byte.
+pub fn read_line(alloc: Global, line: &Txt) -> Result<Message, LineFault>
+    ensures ok { IfOk result (λ m. reading line.now ≡ Ok m) }
+    ensures valid { IfOk result IsMessage }
+    ensures err { IfErr result (IsLineFault (reading line.now)) }
+    ensures memory { IfErr result (λ fault. fault ≡ OutOfMemory → TakesMemory line.now) }
+{
+    let cut = cut_line(line.as_str())?;
+    message_in(alloc, &cut.parts, cut.is_plain)
 }
 
 /// Bytes that are UTF-8, as a text.

@@ -1,12 +1,13 @@
 //! The names of a field, in place where they are short.
-ghost use Rattle.std.specs.Prelude.{◌≡◌, ◌≤◌, ◌+◌, length, drop, true};
+ghost use Rattle.std.specs.Prelude.{◌≡◌, ◌≤◌, ◌+◌, length, drop, true, IfSome};
 ghost use Rattle.std.specs.Ordering.{nat_cmp};
 ghost use Rattle.std.specs.Cmp.Lexicographic.{slice_cmp};
 ghost use Rattle.field_values.specs.Heads.{head_of};
-ghost use Rattle.field_values.specs.Names.{names_cmp, AreNames, IsName};
+ghost use Rattle.field_values.specs.Names.{field_of, names_cmp, AreNames, IsName};
 
 use field_values::Field;
 use std::cmp::Ordering;
+use std::hash::{FoldHasher, Hasher};
 use std::marker::Model;
 use std::str;
 
@@ -159,6 +160,48 @@ pub(crate) struct ShortNames {
     column: Short,
 }
 
+impl Model for ShortNames {
+    ghost use Rattle.field_values.specs.Names.{FieldNames, field_of};
+
+    ghost Value = { FieldNames };
+
+    ghost view = { λ n. field_of n.dataset n.row n.column };
+}
+
+impl ShortNames {
+    /// Three texts, where each is short enough.
+    pub(crate) fn of(dataset: &str, row: &str, column: &str) -> Option<ShortNames>
+        ensures { IfSome result (λ names. names ≡ field_of dataset.now row.now column.now) }
+    {
+        if dataset.len() > SHORT || row.len() > LONG || column.len() > SHORT {
+            return None;
+        }
+        Some(ShortNames {
+            dataset: Short::of(dataset),
+            row: Long::of(row),
+            column: Short::of(column),
+        })
+    }
+
+    /// A number that is made of the names. What is found by it is looked at before it is believed, so any number would do.
+    pub(crate) fn number(&self) -> u64 {
+        let mut hasher = FoldHasher::default();
+        hasher.write(&self.row.bytes);
+        hasher.write(&self.column.bytes);
+        hasher.finish()
+    }
+
+    /// How the names are ordered.
+    fn cmp(&self, other: &ShortNames) -> Ordering
+        ensures { result ≡ names_cmp self.now other.now }
+    {
+        self.dataset
+            .cmp(&other.dataset)
+            .then_with(|| self.row.cmp(&other.row))
+            .then_with(|| self.column.cmp(&other.column))
+    }
+}
+
 /// The names of a field: in place where they are short, else in the memory that the field's copies share.
 #[derive(Debug, Drop)]
 pub(crate) enum Held {
@@ -189,21 +232,34 @@ impl Names {
         requires { AreNames field }
         ensures { result ≡ field }
     {
-        if field.dataset().len() > SHORT
-            || field.row().len() > LONG
-            || field.column().len() > SHORT
-        {
-            return Names {
+        match ShortNames::of(field.dataset(), field.row(), field.column()) {
+            Some(names) => Names {
+                held: Held::Here(names),
+            },
+            None => Names {
                 held: Held::There(field),
-            };
+            },
         }
-        let names = ShortNames {
-            dataset: Short::of(field.dataset()),
-            row: Long::of(field.row()),
-            column: Short::of(field.column()),
-        };
+    }
+
+    /// Names that are short.
+    pub(crate) fn short(names: ShortNames) -> Names
+        requires { AreNames names }
+        ensures { result ≡ names }
+    {
         Names {
             held: Held::Here(names),
+        }
+    }
+
+    /// Whether they are these short ones.
+    pub(crate) fn are(&self, names: &ShortNames) -> bool
+        ensures same { result ≡ true → self.now ≡ names.now }
+        ensures valid { result ≡ true → AreNames names.now }
+    {
+        match &self.held {
+            Held::Here(own) => own.cmp(names).is_eq(),
+            Held::There(_) => false,
         }
     }
 
@@ -237,25 +293,12 @@ impl Names {
         }
     }
 
-    /// Whether they are the names of a field.
-    pub(crate) fn are_of(&self, field: &Field) -> bool
-        ensures { result ≡ true → self.now ≡ field.now }
-    {
-        self.row() == field.row()
-            && self.column() == field.column()
-            && self.dataset() == field.dataset()
-    }
-
     /// How the names are ordered. Short ones are ordered without a look at their texts.
     pub(crate) fn cmp(&self, other: &Names) -> Ordering
         ensures { result ≡ names_cmp self.now other.now }
     {
         if let (Held::Here(own), Held::Here(others)) = (&self.held, &other.held) {
-            return own
-                .dataset
-                .cmp(&others.dataset)
-                .then_with(|| own.row.cmp(&others.row))
-                .then_with(|| own.column.cmp(&others.column));
+            return own.cmp(others);
         }
         self.dataset()
             .cmp(other.dataset())

@@ -1,11 +1,15 @@
-use Rattle.std.proofs.Common.{◌∙◌, ap, refl, ◌∷◌, ◌++◌, []}
+use Rattle.std.proofs.Common.{◌≡◌, ◌<◌, IfSome, length, refl, slice_index_or}
+use Rattle.std.proofs.lemmas.Result.{on_ok_weaker}
 use Rattle.field_merge.specs.declared.message.Message.{Message}
 use Rattle.field_merge.proofs.Taking.{put_behind, put_over_there}
 use Rattle.field_merge.proofs.latest_messages.take_in.Goals as goal
 
-pub returns-then-is_of_field_at : goal.returns-then-is_of_field_at
-returns-then-is_of_field_at c =
-    put_over_there c.args.message c.as_slice.ensures.value (c.if-is_of_field_at.ensures.there refl) (c.if-is_of_field_at.ensures.field refl) c.index_mut.ensures.value c.keep_later.ensures
+pub returns-in-Some : goal.returns-in-Some
+returns-in-Some c =
+    let old = c.args.came.now.items in
+    let there : c.in-Some.at < length old = rw c.in-Some.is at c.requires.there in
+    let field : (m : Message) → (slice_index_or old c.in-Some.at m).field ≡ c.args.draft.names = rw c.in-Some.is at c.requires.field in
+    on_ok_weaker c.keep_later.result (λ is. put_over_there _ refl there field c.index_mut.ensures.value is) c.keep_later.ensures
 
 pub returns : goal.returns
-returns c = put_behind c.args.came.now.items _ c.args.message (c.in_ok-push.ensures.items ∙ ap (λ (m : Message). c.args.came.now.items ++ m ∷ []) c.new.ensures)
+returns c = on_ok_weaker c.put_behind.result (λ is. put_behind c.args.came.now.items _ _ is) c.put_behind.ensures

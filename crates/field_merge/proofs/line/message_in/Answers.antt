@@ -1,11 +1,6 @@
-use Rattle.std.proofs.Common.{Result, Ok, Err, IfErr, sym, ◌∙◌}
-use Rattle.field_merge.proofs.LineLemmas.{reads_well}
+use Rattle.std.proofs.Common.{sym, ◌∙◌}
+use Rattle.field_merge.proofs.LineLemmas.{each_fault, reads_well}
 use Rattle.field_merge.proofs.line.message_in.Goals as goal
-
--- what holds of each fault
-each_fault : {A E : Type 0} (r : Result A E) (P : E → Type 0) → ((e : E) → P e) → IfErr r P
-each_fault (Ok x) P p = tt
-each_fault (Err e) P p = p e
 
 pub returns-in_err-field-clause-memory : goal.returns-in_err-field-clause-memory
 returns-in_err-field-clause-memory c =
