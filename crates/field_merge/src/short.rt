@@ -1,9 +1,9 @@
-//! The names of a field, in place where they are short.
-ghost use Rattle.std.specs.Prelude.{◌≡◌, ◌≤◌, ◌+◌, length, drop, true};
-ghost use Rattle.std.specs.Ordering.{nat_cmp};
-ghost use Rattle.std.specs.Cmp.Lexicographic.{slice_cmp};
+//! The names of a field, in place as numbers where they are short.
+ghost use Rattle.std.specs.Prelude.{◌≡◌, ◌≤◌, ◌+◌, ◌++◌, length, take, drop, true};
 ghost use Rattle.field_values.specs.Heads.{head_of};
 ghost use Rattle.field_values.specs.Names.{names_cmp, AreNames, IsName};
+ghost use Rattle.field_merge.specs.Padded.{bytes_of, bytes_of_three};
+ghost use Rattle.field_merge.specs.Short.{names_of_texts};
 
 use field_values::Field;
 use std::cmp::Ordering;
@@ -71,6 +71,33 @@ fn front_at(bytes: &[u8], at: usize) -> u128
     front(&bytes[at..])
 }
 
+/// The 16 bytes of a number.
+#[inline]
+fn bytes_of(number: u128) -> [u8; SHORT]
+    ensures { result ≡ bytes_of number }
+{
+    number.to_be_bytes()
+}
+
+/// Puts the 16 bytes of a number at a place.
+fn put_at(bytes: &mut [u8; LONG], at: usize, number: u128)
+    requires { at ≤ 32 }
+    ensures { bytes.new ≡ take at bytes.old ++ (bytes_of number ++ drop (at + 16) bytes.old) }
+{
+    bytes[at..at + SHORT].copy_from_slice(&bytes_of(number));
+}
+
+/// The 48 bytes of three numbers.
+fn bytes_of_three(first: u128, second: u128, third: u128) -> [u8; LONG]
+    ensures { result ≡ bytes_of_three first second third }
+{
+    let mut bytes = [0u8; LONG];
+    put_at(&mut bytes, 0, first);
+    put_at(&mut bytes, SHORT, second);
+    put_at(&mut bytes, 2 * SHORT, third);
+    bytes
+}
+
 impl Short {
     fn of(text: &str) -> Short
         requires { length text.now ≤ 16 }
@@ -88,21 +115,6 @@ impl Short {
         ensures { result.now ≡ self.now }
     {
         str::from_utf8(&self.bytes[..self.len as usize]).unwrap()
-    }
-
-    /// How two texts are ordered. Where they differ, mostly their numbers do.
-    fn cmp(&self, other: &Short) -> Ordering
-        ensures { result ≡ slice_cmp nat_cmp self.now other.now }
-    {
-        let own = front(&self.bytes);
-        let others = front(&other.bytes);
-        if own != others {
-            return own.cmp(&others);
-        }
-        if self.len == other.len {
-            return Ordering::Equal;
-        }
-        self.text().cmp(other.text())
     }
 }
 
@@ -124,39 +136,179 @@ impl Long {
     {
         str::from_utf8(&self.bytes[..self.len as usize]).unwrap()
     }
-
-    /// How two texts are ordered. Where they differ, mostly one of their numbers does.
-    fn cmp(&self, other: &Long) -> Ordering
-        ensures { result ≡ slice_cmp nat_cmp self.now other.now }
-    {
-        let own = front(&self.bytes);
-        let others = front(&other.bytes);
-        if own != others {
-            return own.cmp(&others);
-        }
-        let own = front_at(&self.bytes, SHORT);
-        let others = front_at(&other.bytes, SHORT);
-        if own != others {
-            return own.cmp(&others);
-        }
-        let own = front_at(&self.bytes, 2 * SHORT);
-        let others = front_at(&other.bytes, 2 * SHORT);
-        if own != others {
-            return own.cmp(&others);
-        }
-        if self.len == other.len {
-            return Ordering::Equal;
-        }
-        self.text().cmp(other.text())
-    }
 }
 
-/// Three short names.
+/// Three short names as numbers: each spells 16 bytes, the greatest first, with zeros behind the name. A contract sees the names.
 #[derive(Debug, Drop)]
 pub(crate) struct ShortNames {
+    dataset: u128,
+    row: u128,
+    /// The row's bytes from 16 on.
+    row_second: u128,
+    /// The row's bytes from 32 on.
+    row_third: u128,
+    column: u128,
+    dataset_len: u8,
+    row_len: u8,
+    column_len: u8,
+}
+
+impl Model for ShortNames {
+    ghost use Rattle.field_values.specs.Names.{FieldNames};
+    ghost use Rattle.field_merge.specs.Padded.{kept_names, AreKept};
+
+    ghost Value = { FieldNames };
+
+    ghost view = { λ n. kept_names n.dataset n.dataset_len n.row n.row_second n.row_third n.row_len n.column n.column_len };
+
+    ghost invariant = { λ n. AreKept n.dataset n.dataset_len n.row n.row_second n.row_third n.row_len n.column n.column_len };
+}
+
+/// Three short names as texts.
+#[derive(Debug, Drop)]
+pub(crate) struct ShortTexts {
     dataset: Short,
     row: Long,
     column: Short,
+}
+
+impl ShortNames {
+    /// The names of a field where they are short.
+    fn of(field: &Field) -> ShortNames
+        requires names { AreNames field.now }
+        requires dataset { length field.now.dataset ≤ 16 }
+        requires row { length field.now.row ≤ 48 }
+        requires column { length field.now.column ≤ 16 }
+        ensures { result ≡ field.now }
+    {
+        let dataset = Short::of(field.dataset());
+        let row = Long::of(field.row());
+        let column = Short::of(field.column());
+        ShortNames {
+            dataset: front(&dataset.bytes),
+            row: front(&row.bytes),
+            row_second: front_at(&row.bytes, SHORT),
+            row_third: front_at(&row.bytes, 2 * SHORT),
+            column: front(&column.bytes),
+            dataset_len: dataset.len,
+            row_len: row.len,
+            column_len: column.len,
+        }
+    }
+
+    /// The names as texts.
+    fn texts(&self) -> ShortTexts
+        ensures { names_of_texts result ≡ self.now }
+    {
+        ShortTexts {
+            dataset: Short {
+                bytes: bytes_of(self.dataset),
+                len: self.dataset_len,
+            },
+            row: Long {
+                bytes: bytes_of_three(self.row, self.row_second, self.row_third),
+                len: self.row_len,
+            },
+            column: Short {
+                bytes: bytes_of(self.column),
+                len: self.column_len,
+            },
+        }
+    }
+
+    /// How the names are ordered: as their numbers are, since no name has a zero.
+    #[inline]
+    fn cmp(&self, other: &ShortNames) -> Ordering
+        ensures { result ≡ names_cmp self.now other.now }
+    {
+        if self.dataset != other.dataset {
+            return self.dataset.cmp(&other.dataset);
+        }
+        if self.row != other.row {
+            return self.row.cmp(&other.row);
+        }
+        if self.row_second != other.row_second {
+            return self.row_second.cmp(&other.row_second);
+        }
+        if self.row_third != other.row_third {
+            return self.row_third.cmp(&other.row_third);
+        }
+        if self.column != other.column {
+            return self.column.cmp(&other.column);
+        }
+        Ordering::Equal
+    }
+}
+
+/// The texts of a field's names: copies of those that stand in place, else those of the field.
+#[derive(Debug, Drop)]
+pub(crate) enum HeldTexts<'a> {
+    Here(ShortTexts),
+    There(&'a Field),
+}
+
+/// The texts of a field's names. A contract sees the names.
+#[derive(Debug, Drop)]
+pub(crate) struct NamesTexts<'a> {
+    held: HeldTexts<'a>,
+}
+
+impl<'a> Model for NamesTexts<'a> {
+    ghost use Rattle.field_values.specs.Names.{FieldNames, AreNames};
+    ghost use Rattle.field_merge.specs.Short.{texts_in};
+
+    ghost Value = { FieldNames };
+
+    ghost view = { λ n. texts_in n.held };
+
+    ghost invariant = { λ n. AreNames (texts_in n.held) };
+}
+
+impl<'a> NamesTexts<'a> {
+    pub(crate) fn dataset(&self) -> &str
+        ensures value { result.now ≡ self.now.dataset }
+        ensures name { IsName result.now }
+    {
+        match &self.held {
+            HeldTexts::Here(texts) => texts.dataset.text(),
+            HeldTexts::There(field) => field.dataset(),
+        }
+    }
+
+    pub(crate) fn row(&self) -> &str
+        ensures value { result.now ≡ self.now.row }
+        ensures name { IsName result.now }
+    {
+        match &self.held {
+            HeldTexts::Here(texts) => texts.row.text(),
+            HeldTexts::There(field) => field.row(),
+        }
+    }
+
+    pub(crate) fn column(&self) -> &str
+        ensures value { result.now ≡ self.now.column }
+        ensures name { IsName result.now }
+    {
+        match &self.held {
+            HeldTexts::Here(texts) => texts.column.text(),
+            HeldTexts::There(field) => field.column(),
+        }
+    }
+
+    /// How the names are ordered.
+    fn cmp(&self, other: &NamesTexts<'_>) -> Ordering
+        ensures { result ≡ names_cmp self.now other.now }
+    {
+        let datasets = self.dataset().cmp(other.dataset());
+        if datasets.is_ne() {
+            return datasets;
+        }
+        let rows = self.row().cmp(other.row());
+        if rows.is_ne() {
+            return rows;
+        }
+        self.column().cmp(other.column())
+    }
 }
 
 /// The names of a field: in place where they are short, else in the memory that the field's copies share.
@@ -197,43 +349,23 @@ impl Names {
                 held: Held::There(field),
             };
         }
-        let names = ShortNames {
-            dataset: Short::of(field.dataset()),
-            row: Long::of(field.row()),
-            column: Short::of(field.column()),
-        };
+        let names = ShortNames::of(&field);
         Names {
             held: Held::Here(names),
         }
     }
 
-    pub(crate) fn dataset(&self) -> &str
-        ensures value { result.now ≡ self.now.dataset }
-        ensures name { IsName result.now }
+    /// The names as texts.
+    pub(crate) fn texts(&self) -> NamesTexts<'_>
+        ensures { result ≡ self.now }
     {
         match &self.held {
-            Held::Here(names) => names.dataset.text(),
-            Held::There(field) => field.dataset(),
-        }
-    }
-
-    pub(crate) fn row(&self) -> &str
-        ensures value { result.now ≡ self.now.row }
-        ensures name { IsName result.now }
-    {
-        match &self.held {
-            Held::Here(names) => names.row.text(),
-            Held::There(field) => field.row(),
-        }
-    }
-
-    pub(crate) fn column(&self) -> &str
-        ensures value { result.now ≡ self.now.column }
-        ensures name { IsName result.now }
-    {
-        match &self.held {
-            Held::Here(names) => names.column.text(),
-            Held::There(field) => field.column(),
+            Held::Here(names) => NamesTexts {
+                held: HeldTexts::Here(names.texts()),
+            },
+            Held::There(field) => NamesTexts {
+                held: HeldTexts::There(field),
+            },
         }
     }
 
@@ -241,25 +373,20 @@ impl Names {
     pub(crate) fn are_of(&self, field: &Field) -> bool
         ensures { result ≡ true → self.now ≡ field.now }
     {
-        self.row() == field.row()
-            && self.column() == field.column()
-            && self.dataset() == field.dataset()
+        let names = self.texts();
+        names.row() == field.row()
+            && names.column() == field.column()
+            && names.dataset() == field.dataset()
     }
 
     /// How the names are ordered. Short ones are ordered without a look at their texts.
+    #[inline]
     pub(crate) fn cmp(&self, other: &Names) -> Ordering
         ensures { result ≡ names_cmp self.now other.now }
     {
         if let (Held::Here(own), Held::Here(others)) = (&self.held, &other.held) {
-            return own
-                .dataset
-                .cmp(&others.dataset)
-                .then_with(|| own.row.cmp(&others.row))
-                .then_with(|| own.column.cmp(&others.column));
+            return own.cmp(others);
         }
-        self.dataset()
-            .cmp(other.dataset())
-            .then_with(|| self.row().cmp(other.row()))
-            .then_with(|| self.column().cmp(other.column()))
+        self.texts().cmp(&other.texts())
     }
 }
