@@ -20,12 +20,14 @@ use std::test::Fail;
 /// 2024-01-05T10:00:00.000Z.
 const T0: u64 = 1_704_448_800_000;
 
-/// A message of another device.
+/// The line of a message of another device.
+const LINE: &str = "2024-01-05T10:00:00.000Z-0000-00000000000000bb\ttransactions\tt\tacct\tS:bank";
+
+/// The message of the line.
 fn message_of(alloc: Global) -> Result<Message, Fail>
     ensures { IfOk result IsMessage }
 {
-    let text = "2024-01-05T10:00:00.000Z-0000-00000000000000bb\ttransactions\tt\tacct\tS:bank";
-    let line = Txt::from_text(alloc, text)?;
+    let line = Txt::from_text(alloc, LINE)?;
     Ok(read_line(alloc, &line)?)
 }
 
@@ -88,9 +90,23 @@ fn latest_told(alloc: Global) -> Result<(bool, bool), Fail> {
     Ok((latest.is_spent(), wants))
 }
 
+/// The same of a line that is taken.
+fn line_told(alloc: Global) -> (bool, bool) {
+    let mut latest = LatestMessages::new(alloc);
+    let wants = latest.add_line(LINE).is_err();
+    (latest.is_spent(), wants)
+}
+
 #[test]
 fn latest_messages(rt: HostRuntime) -> Result<(), Fail> {
     let (spent, wants) = latest_told(rt.alloc())?;
+    assert_eq!(rt; spent, wants);
+    Ok(())
+}
+
+#[test]
+fn latest_messages_of_lines(rt: HostRuntime) -> Result<(), Fail> {
+    let (spent, wants) = line_told(rt.alloc());
     assert_eq!(rt; spent, wants);
     Ok(())
 }

@@ -2,6 +2,7 @@ pub mod EscapeLemmas
 mod BadEscapes
 pub mod LineLemmas
 pub mod RawLines
+mod Packing
 mod ShortLemmas
 pub mod StampLemmas
 pub mod Orders

@@ -92,12 +92,7 @@ fn is_at(came: &[Arrival], place: usize, names: &ShortNames) -> bool
 }
 
 /// The place of a message of these names, where it is known.
-fn known_place(
-    came: &[Arrival],
-    places: &[Place],
-    number: u64,
-    names: &ShortNames,
-) -> Option<usize>
+fn known_place(came: &[Arrival], places: &[Place], number: u64, names: &ShortNames) -> Option<usize>
     ensures there { IfSome result (λ at. at < length came.now) }
     ensures field { IfSome result (λ at. (m : Message) → (slice_index_or came.now at m).field ≡ names.now) }
     ensures valid { IfSome result (λ at. AreNames names.now) }

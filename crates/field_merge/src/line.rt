@@ -394,7 +394,7 @@ pub(crate) fn push_arrival(line: &mut String, arrival: &Arrival) -> Result<(), N
 {
     push_stamp(line, &arrival.stamp())?;
     line.push('\t')?;
-    let names = arrival.names();
+    let names = arrival.names().texts();
     push_texts(
         line,
         names.dataset(),

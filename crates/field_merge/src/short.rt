@@ -1,13 +1,13 @@
-//! The names of a field, in place where they are short.
-ghost use Rattle.std.specs.Prelude.{◌≡◌, ◌≤◌, ◌+◌, length, drop, true, IfSome};
-ghost use Rattle.std.specs.Ordering.{nat_cmp};
-ghost use Rattle.std.specs.Cmp.Lexicographic.{slice_cmp};
+//! The names of a field, in place as numbers where they are short.
+ghost use Rattle.std.specs.Prelude.{◌≡◌, ◌≤◌, ◌+◌, ◌++◌, length, take, drop, true, IfSome};
 ghost use Rattle.field_values.specs.Heads.{head_of};
 ghost use Rattle.field_values.specs.Names.{field_of, names_cmp, AreNames, IsName};
+ghost use Rattle.field_merge.specs.Padded.{bytes_of, bytes_of_three};
+ghost use Rattle.field_merge.specs.Short.{names_of_texts};
 
 use field_values::Field;
 use std::cmp::Ordering;
-use std::hash::{FoldHasher, Hasher};
+use std::hash::{FoldHasher, Hash, Hasher};
 use std::marker::Model;
 use std::str;
 
@@ -72,6 +72,33 @@ fn front_at(bytes: &[u8], at: usize) -> u128
     front(&bytes[at..])
 }
 
+/// The 16 bytes of a number.
+#[inline]
+fn bytes_of(number: u128) -> [u8; SHORT]
+    ensures { result ≡ bytes_of number }
+{
+    number.to_be_bytes()
+}
+
+/// Puts the 16 bytes of a number at a place.
+fn put_at(bytes: &mut [u8; LONG], at: usize, number: u128)
+    requires { at ≤ 32 }
+    ensures { bytes.new ≡ take at bytes.old ++ (bytes_of number ++ drop (at + 16) bytes.old) }
+{
+    bytes[at..at + SHORT].copy_from_slice(&bytes_of(number));
+}
+
+/// The 48 bytes of three numbers.
+fn bytes_of_three(first: u128, second: u128, third: u128) -> [u8; LONG]
+    ensures { result ≡ bytes_of_three first second third }
+{
+    let mut bytes = [0u8; LONG];
+    put_at(&mut bytes, 0, first);
+    put_at(&mut bytes, SHORT, second);
+    put_at(&mut bytes, 2 * SHORT, third);
+    bytes
+}
+
 impl Short {
     fn of(text: &str) -> Short
         requires { length text.now ≤ 16 }
@@ -89,21 +116,6 @@ impl Short {
         ensures { result.now ≡ self.now }
     {
         str::from_utf8(&self.bytes[..self.len as usize]).unwrap()
-    }
-
-    /// How two texts are ordered. Where they differ, mostly their numbers do.
-    fn cmp(&self, other: &Short) -> Ordering
-        ensures { result ≡ slice_cmp nat_cmp self.now other.now }
-    {
-        let own = front(&self.bytes);
-        let others = front(&other.bytes);
-        if own != others {
-            return own.cmp(&others);
-        }
-        if self.len == other.len {
-            return Ordering::Equal;
-        }
-        self.text().cmp(other.text())
     }
 }
 
@@ -125,80 +137,204 @@ impl Long {
     {
         str::from_utf8(&self.bytes[..self.len as usize]).unwrap()
     }
-
-    /// How two texts are ordered. Where they differ, mostly one of their numbers does.
-    fn cmp(&self, other: &Long) -> Ordering
-        ensures { result ≡ slice_cmp nat_cmp self.now other.now }
-    {
-        let own = front(&self.bytes);
-        let others = front(&other.bytes);
-        if own != others {
-            return own.cmp(&others);
-        }
-        let own = front_at(&self.bytes, SHORT);
-        let others = front_at(&other.bytes, SHORT);
-        if own != others {
-            return own.cmp(&others);
-        }
-        let own = front_at(&self.bytes, 2 * SHORT);
-        let others = front_at(&other.bytes, 2 * SHORT);
-        if own != others {
-            return own.cmp(&others);
-        }
-        if self.len == other.len {
-            return Ordering::Equal;
-        }
-        self.text().cmp(other.text())
-    }
 }
 
-/// Three short names.
+/// Three short texts as numbers: each spells 16 bytes, the greatest first, with zeros behind the text. A contract sees them as names.
 #[derive(Debug, Drop)]
 pub(crate) struct ShortNames {
+    dataset: u128,
+    row: u128,
+    /// The row's bytes from 16 on.
+    row_second: u128,
+    /// The row's bytes from 32 on.
+    row_third: u128,
+    column: u128,
+    dataset_len: u8,
+    row_len: u8,
+    column_len: u8,
+}
+
+impl Model for ShortNames {
+    ghost use Rattle.field_values.specs.Names.{FieldNames};
+    ghost use Rattle.field_merge.specs.Padded.{kept_names, AreKept};
+
+    ghost Value = { FieldNames };
+
+    ghost view = { λ n. kept_names n.dataset n.dataset_len n.row n.row_second n.row_third n.row_len n.column n.column_len };
+
+    ghost invariant = { λ n. AreKept n.dataset n.dataset_len n.row n.row_second n.row_third n.row_len n.column n.column_len };
+}
+
+/// Three short names as texts.
+#[derive(Debug, Drop)]
+pub(crate) struct ShortTexts {
     dataset: Short,
     row: Long,
     column: Short,
 }
 
-impl Model for ShortNames {
-    ghost use Rattle.field_values.specs.Names.{FieldNames, field_of};
-
-    ghost Value = { FieldNames };
-
-    ghost view = { λ n. field_of n.dataset n.row n.column };
-}
-
 impl ShortNames {
-    /// Three texts, where each is short enough.
+    /// Three texts, where each is short. Whether they are names is not tested.
     pub(crate) fn of(dataset: &str, row: &str, column: &str) -> Option<ShortNames>
         ensures { IfSome result (λ names. names ≡ field_of dataset.now row.now column.now) }
     {
         if dataset.len() > SHORT || row.len() > LONG || column.len() > SHORT {
             return None;
         }
+        let dataset = Short::of(dataset);
+        let row = Long::of(row);
+        let column = Short::of(column);
         Some(ShortNames {
-            dataset: Short::of(dataset),
-            row: Long::of(row),
-            column: Short::of(column),
+            dataset: front(&dataset.bytes),
+            row: front(&row.bytes),
+            row_second: front_at(&row.bytes, SHORT),
+            row_third: front_at(&row.bytes, 2 * SHORT),
+            column: front(&column.bytes),
+            dataset_len: dataset.len,
+            row_len: row.len,
+            column_len: column.len,
         })
     }
 
-    /// A number that is made of the names. What is found by it is looked at before it is believed, so any number would do.
+    /// A number that is made of them. What is found by it is looked at before it is believed, so any number would do.
     pub(crate) fn number(&self) -> u64 {
         let mut hasher = FoldHasher::default();
-        hasher.write(&self.row.bytes);
-        hasher.write(&self.column.bytes);
+        self.row.hash(&mut hasher);
+        self.row_second.hash(&mut hasher);
+        self.row_third.hash(&mut hasher);
+        self.column.hash(&mut hasher);
         hasher.finish()
     }
 
-    /// How the names are ordered.
+    /// Whether they are the same.
+    #[inline]
+    fn is(&self, other: &ShortNames) -> bool
+        ensures { result ≡ true → self.now ≡ other.now }
+    {
+        self.row == other.row
+            && self.row_second == other.row_second
+            && self.row_third == other.row_third
+            && self.column == other.column
+            && self.dataset == other.dataset
+            && self.row_len == other.row_len
+            && self.column_len == other.column_len
+            && self.dataset_len == other.dataset_len
+    }
+
+    /// The names as texts.
+    fn texts(&self) -> ShortTexts
+        ensures { names_of_texts result ≡ self.now }
+    {
+        ShortTexts {
+            dataset: Short {
+                bytes: bytes_of(self.dataset),
+                len: self.dataset_len,
+            },
+            row: Long {
+                bytes: bytes_of_three(self.row, self.row_second, self.row_third),
+                len: self.row_len,
+            },
+            column: Short {
+                bytes: bytes_of(self.column),
+                len: self.column_len,
+            },
+        }
+    }
+
+    /// How the names are ordered: as their numbers are, since no name has a zero.
+    #[inline]
     fn cmp(&self, other: &ShortNames) -> Ordering
+        requires own { AreNames self.now }
+        requires other { AreNames other.now }
         ensures { result ≡ names_cmp self.now other.now }
     {
-        self.dataset
-            .cmp(&other.dataset)
-            .then_with(|| self.row.cmp(&other.row))
-            .then_with(|| self.column.cmp(&other.column))
+        if self.dataset != other.dataset {
+            return self.dataset.cmp(&other.dataset);
+        }
+        if self.row != other.row {
+            return self.row.cmp(&other.row);
+        }
+        if self.row_second != other.row_second {
+            return self.row_second.cmp(&other.row_second);
+        }
+        if self.row_third != other.row_third {
+            return self.row_third.cmp(&other.row_third);
+        }
+        if self.column != other.column {
+            return self.column.cmp(&other.column);
+        }
+        Ordering::Equal
+    }
+}
+
+/// The texts of a field's names: copies of those that stand in place, else those of the field.
+#[derive(Debug, Drop)]
+pub(crate) enum HeldTexts<'a> {
+    Here(ShortTexts),
+    There(&'a Field),
+}
+
+/// The texts of a field's names. A contract sees the names.
+#[derive(Debug, Drop)]
+pub(crate) struct NamesTexts<'a> {
+    held: HeldTexts<'a>,
+}
+
+impl<'a> Model for NamesTexts<'a> {
+    ghost use Rattle.field_values.specs.Names.{FieldNames, AreNames};
+    ghost use Rattle.field_merge.specs.Short.{texts_in};
+
+    ghost Value = { FieldNames };
+
+    ghost view = { λ n. texts_in n.held };
+
+    ghost invariant = { λ n. AreNames (texts_in n.held) };
+}
+
+impl<'a> NamesTexts<'a> {
+    pub(crate) fn dataset(&self) -> &str
+        ensures value { result.now ≡ self.now.dataset }
+        ensures name { IsName result.now }
+    {
+        match &self.held {
+            HeldTexts::Here(texts) => texts.dataset.text(),
+            HeldTexts::There(field) => field.dataset(),
+        }
+    }
+
+    pub(crate) fn row(&self) -> &str
+        ensures value { result.now ≡ self.now.row }
+        ensures name { IsName result.now }
+    {
+        match &self.held {
+            HeldTexts::Here(texts) => texts.row.text(),
+            HeldTexts::There(field) => field.row(),
+        }
+    }
+
+    pub(crate) fn column(&self) -> &str
+        ensures value { result.now ≡ self.now.column }
+        ensures name { IsName result.now }
+    {
+        match &self.held {
+            HeldTexts::Here(texts) => texts.column.text(),
+            HeldTexts::There(field) => field.column(),
+        }
+    }
+
+    /// How the names are ordered.
+    fn cmp(&self, other: &NamesTexts<'_>) -> Ordering
+        ensures { result ≡ names_cmp self.now other.now }
+    {
+        let datasets = self.dataset().cmp(other.dataset());
+        if datasets.is_ne() {
+            return datasets;
+        }
+        let rows = self.row().cmp(other.row());
+        if rows.is_ne() {
+            return rows;
+        }
+        self.column().cmp(other.column())
     }
 }
 
@@ -258,51 +394,33 @@ impl Names {
         ensures valid { result ≡ true → AreNames names.now }
     {
         match &self.held {
-            Held::Here(own) => own.cmp(names).is_eq(),
+            Held::Here(own) => own.is(names),
             Held::There(_) => false,
         }
     }
 
-    pub(crate) fn dataset(&self) -> &str
-        ensures value { result.now ≡ self.now.dataset }
-        ensures name { IsName result.now }
+    /// The names as texts.
+    pub(crate) fn texts(&self) -> NamesTexts<'_>
+        ensures { result ≡ self.now }
     {
         match &self.held {
-            Held::Here(names) => names.dataset.text(),
-            Held::There(field) => field.dataset(),
-        }
-    }
-
-    pub(crate) fn row(&self) -> &str
-        ensures value { result.now ≡ self.now.row }
-        ensures name { IsName result.now }
-    {
-        match &self.held {
-            Held::Here(names) => names.row.text(),
-            Held::There(field) => field.row(),
-        }
-    }
-
-    pub(crate) fn column(&self) -> &str
-        ensures value { result.now ≡ self.now.column }
-        ensures name { IsName result.now }
-    {
-        match &self.held {
-            Held::Here(names) => names.column.text(),
-            Held::There(field) => field.column(),
+            Held::Here(names) => NamesTexts {
+                held: HeldTexts::Here(names.texts()),
+            },
+            Held::There(field) => NamesTexts {
+                held: HeldTexts::There(field),
+            },
         }
     }
 
     /// How the names are ordered. Short ones are ordered without a look at their texts.
+    #[inline]
     pub(crate) fn cmp(&self, other: &Names) -> Ordering
         ensures { result ≡ names_cmp self.now other.now }
     {
         if let (Held::Here(own), Held::Here(others)) = (&self.held, &other.held) {
             return own.cmp(others);
         }
-        self.dataset()
-            .cmp(other.dataset())
-            .then_with(|| self.row().cmp(other.row()))
-            .then_with(|| self.column().cmp(other.column()))
+        self.texts().cmp(&other.texts())
     }
 }

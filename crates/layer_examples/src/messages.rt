@@ -408,14 +408,15 @@ fn lets_go(rt: HostRuntime) -> Result<(), Fail> {
 }
 
 /// Lines by field, by bytes. Their names have as many bytes as a merge keeps beside a message, one less and one more: 16 of a dataset and a
-/// column, 48 of a row.
-const BY_FIELD: [&str; 14] = [
+/// column, 48 of a row. One has escapes.
+const BY_FIELD: [&str; 15] = [
     "2024-01-05T10:00:00.000Z-0000-00000000000000aa\tnnnnnnnnnnnnnnn\tr\tnote\tN:0",
     "2024-01-05T10:00:00.001Z-0000-00000000000000aa\tnnnnnnnnnnnnnnnn\tr\tnote\tN:1",
     "2024-01-05T10:00:00.002Z-0000-00000000000000aa\tnnnnnnnnnnnnnnnnn\tr\tnote\tN:2",
     "2024-01-05T10:00:00.003Z-0000-00000000000000aa\tnnnnnnnnnnnnnnnn\u{e9}\tr\tnote\tN:3",
     "2024-01-05T10:00:00.004Z-0000-00000000000000aa\tnnnnnnnnnnnnnnn\u{e9}\tr\tnote\tN:4",
     "2024-01-05T10:00:00.005Z-0000-00000000000000aa\tnotes\tr\tnote\tN:5",
+    "2024-01-05T10:00:00.014Z-0000-00000000000000aa\tnotes\tr\\\\s\tnote\tS:a\\tb",
     "2024-01-05T10:00:00.006Z-0000-00000000000000aa\tnotes\trrrrrrrrrrrrrrrr\tnote\tN:6",
     "2024-01-05T10:00:00.007Z-0000-00000000000000aa\tnotes\trrrrrrrrrrrrrrrrr\tnote\tN:7",
     "2024-01-05T10:00:00.008Z-0000-00000000000000aa\tnotes\trrrrrrrrrrrrrrrrrrrrrrrrrrrrrrrrrrrrrrrrrrrrrrr\tnote\tN:8",
@@ -431,8 +432,7 @@ fn adds_line(latest: &mut LatestMessages, line: &str) -> Result<(), Fail>
     requires { latest.old.spent ≡ false }
     ensures { OnOk result (latest.new.spent ≡ false) }
 {
-    let message = latest.read_text(line)?;
-    latest.add(message)?;
+    latest.add_line(line)?;
     Ok(())
 }
 
