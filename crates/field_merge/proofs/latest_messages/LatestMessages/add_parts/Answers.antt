@@ -17,11 +17,13 @@ returns-in-Err-place_of-clause-err c =
 pub returns-clause-ok : goal.returns-clause-ok
 returns-clause-ok c =
     let read = texts_read c.args.parts.now.stamp.now c.args.parts.now.value.now c.args.names c.in-Ok.stamp (ap read_stamp (sym c.as_bytes.ensures.value) ∙ sym c.parse.ensures.is ∙ c.in-Ok.is)
-    (names_fault-none c.args.names c.in-Ok-place_of.ensures.good) in
-    (message_of c.in-Ok.stamp c.args.names c.args.parts.now.value.now,
-    read, λ ms came.
-    let gathered = c.in_ok-gather_draft.ensures.came ms came in
-    (c.in_ok-tidy_when_many.ensures.came _ gathered, c.in_ok-tidy_when_many.ensures.few _ gathered))
+    (names_fault-none c.args.names c.in-Ok-place_of.ensures.good) in (
+      message_of c.in-Ok.stamp c.args.names c.args.parts.now.value.now,
+      read,
+      λ ms came.
+          let gathered = c.in_ok-gather_draft.ensures.came ms came in
+          (c.in_ok-tidy_when_many.ensures.came _ gathered, c.in_ok-tidy_when_many.ensures.few _ gathered),
+    )
 
 pub returns-in_err-gather_draft-clause-memory : goal.returns-in_err-gather_draft-clause-memory
 returns-in_err-gather_draft-clause-memory c =
