@@ -65,11 +65,12 @@ impl Merge {
         ensures err { OnErr result (AppendsFront (W.taken sink.old) (W.taken sink.new) (bad_line (self.old.number + 1) (judged_kept_line self.old.line))) }
         ensures count { W.faults sink.new ≡ count_after (step_status stop_status result == 5) (W.faults sink.old) }
     {
-        if let Err(word) = self.line.take_in(&mut self.latest)? {
-            let text = bad_line_text(alloc, self.number + 1, word)?;
-            self.has_bad = true;
-            write_all(sink, text.as_str().as_bytes())?;
-        }
+        let Err(word) = self.line.take_in(&mut self.latest)? else {
+            return Ok(());
+        };
+        let text = bad_line_text(alloc, self.number + 1, word)?;
+        self.has_bad = true;
+        write_all(sink, text.as_str().as_bytes())?;
         Ok(())
     }
 

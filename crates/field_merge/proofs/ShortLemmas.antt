@@ -184,3 +184,7 @@ module _ {d dl x y z l c cl d' dl' x' y' z' l' c' cl' : ℕ} (own : AreKept d dl
 
   pub by_none : d ≡ d' → x ≡ x' → y ≡ y' → z ≡ z' → c ≡ c' → Equal ≡ names_cmp (kept_names d dl x y z l c cl) (kept_names d' dl' x' y' z' l' c' cl')
   by_none e f g h k = passed (same_dataset e) (passed (same_row f g h) (same_column k))
+
+-- what holds of numbers holds of equal ones
+pub of_equal : {x y x' y' : ℕ} (P : ℕ → ℕ → Type 0) → x' ≡ x → y' ≡ y → P x' y' → P x y
+of_equal {x = x} {y' = y'} P e f h = subst (λ (b : ℕ). P x b) f (subst (λ (a : ℕ). P a y') e h)

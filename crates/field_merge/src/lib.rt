@@ -11,6 +11,7 @@ mod laws;
 mod line;
 mod log;
 mod message;
+mod number;
 mod pieces;
 mod shared;
 mod short;

@@ -5,6 +5,7 @@ ghost use Rattle.field_values.specs.Names.{field_of, names_cmp, AreNames, IsName
 ghost use Rattle.field_merge.specs.Padded.{bytes_of, bytes_of_three};
 ghost use Rattle.field_merge.specs.Short.{names_of_texts};
 
+use crate::number::Number;
 use field_values::Field;
 use std::cmp::Ordering;
 use std::hash::{FoldHasher, Hash, Hasher};
@@ -142,13 +143,13 @@ impl Long {
 /// Three short texts as numbers: each spells 16 bytes, the greatest first, with zeros behind the text. A contract sees them as names.
 #[derive(Debug, Drop)]
 pub(crate) struct ShortNames {
-    dataset: u128,
-    row: u128,
+    dataset: Number,
+    row: Number,
     /// The row's bytes from 16 on.
-    row_second: u128,
+    row_second: Number,
     /// The row's bytes from 32 on.
-    row_third: u128,
-    column: u128,
+    row_third: Number,
+    column: Number,
     dataset_len: u8,
     row_len: u8,
     column_len: u8,
@@ -185,11 +186,11 @@ impl ShortNames {
         let row = Long::of(row);
         let column = Short::of(column);
         Some(ShortNames {
-            dataset: front(&dataset.bytes),
-            row: front(&row.bytes),
-            row_second: front_at(&row.bytes, SHORT),
-            row_third: front_at(&row.bytes, 2 * SHORT),
-            column: front(&column.bytes),
+            dataset: Number::of(front(&dataset.bytes)),
+            row: Number::of(front(&row.bytes)),
+            row_second: Number::of(front_at(&row.bytes, SHORT)),
+            row_third: Number::of(front_at(&row.bytes, 2 * SHORT)),
+            column: Number::of(front(&column.bytes)),
             dataset_len: dataset.len,
             row_len: row.len,
             column_len: column.len,
@@ -199,10 +200,10 @@ impl ShortNames {
     /// A number that is made of them. What is found by it is looked at before it is believed, so any number would do.
     pub(crate) fn number(&self) -> u64 {
         let mut hasher = FoldHasher::default();
-        self.row.hash(&mut hasher);
-        self.row_second.hash(&mut hasher);
-        self.row_third.hash(&mut hasher);
-        self.column.hash(&mut hasher);
+        self.row.get().hash(&mut hasher);
+        self.row_second.get().hash(&mut hasher);
+        self.row_third.get().hash(&mut hasher);
+        self.column.get().hash(&mut hasher);
         hasher.finish()
     }
 
@@ -211,11 +212,11 @@ impl ShortNames {
     fn is(&self, other: &ShortNames) -> bool
         ensures { result ≡ true → self.now ≡ other.now }
     {
-        self.row == other.row
-            && self.row_second == other.row_second
-            && self.row_third == other.row_third
-            && self.column == other.column
-            && self.dataset == other.dataset
+        self.row.get() == other.row.get()
+            && self.row_second.get() == other.row_second.get()
+            && self.row_third.get() == other.row_third.get()
+            && self.column.get() == other.column.get()
+            && self.dataset.get() == other.dataset.get()
             && self.row_len == other.row_len
             && self.column_len == other.column_len
             && self.dataset_len == other.dataset_len
@@ -227,15 +228,15 @@ impl ShortNames {
     {
         ShortTexts {
             dataset: Short {
-                bytes: bytes_of(self.dataset),
+                bytes: bytes_of(self.dataset.get()),
                 len: self.dataset_len,
             },
             row: Long {
-                bytes: bytes_of_three(self.row, self.row_second, self.row_third),
+                bytes: bytes_of_three(self.row.get(), self.row_second.get(), self.row_third.get()),
                 len: self.row_len,
             },
             column: Short {
-                bytes: bytes_of(self.column),
+                bytes: bytes_of(self.column.get()),
                 len: self.column_len,
             },
         }
@@ -248,20 +249,30 @@ impl ShortNames {
         requires other { AreNames other.now }
         ensures { result ≡ names_cmp self.now other.now }
     {
-        if self.dataset != other.dataset {
-            return self.dataset.cmp(&other.dataset);
+        let own = self.dataset.get();
+        let others = other.dataset.get();
+        if own != others {
+            return own.cmp(&others);
         }
-        if self.row != other.row {
-            return self.row.cmp(&other.row);
+        let own = self.row.get();
+        let others = other.row.get();
+        if own != others {
+            return own.cmp(&others);
         }
-        if self.row_second != other.row_second {
-            return self.row_second.cmp(&other.row_second);
+        let own = self.row_second.get();
+        let others = other.row_second.get();
+        if own != others {
+            return own.cmp(&others);
         }
-        if self.row_third != other.row_third {
-            return self.row_third.cmp(&other.row_third);
+        let own = self.row_third.get();
+        let others = other.row_third.get();
+        if own != others {
+            return own.cmp(&others);
         }
-        if self.column != other.column {
-            return self.column.cmp(&other.column);
+        let own = self.column.get();
+        let others = other.column.get();
+        if own != others {
+            return own.cmp(&others);
         }
         Ordering::Equal
     }
