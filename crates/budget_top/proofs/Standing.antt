@@ -1,5 +1,5 @@
 -- Where merging stands after one more step.
-use Rattle.std.proofs.Common.{◌≡◌, ℕ, ◌+◌, List, [], ◌∷◌, ◌++◌, refl, ap, sym, ◌∙◌, subst, Bool, true, false, ◌||◌, cond, Ok, Err, Option, None, Some, length, length-append, arith, append_assoc, append-nil, nat_lt}
+use Rattle.std.proofs.Common.{◌≡◌, ℕ, ◌+◌, List, [], ◌∷◌, ◌++◌, refl, ap, sym, ◌∙◌, subst, Bool, true, false, ◌||◌, cond, Ok, Option, None, Some, length, length-append, arith, append_assoc, append-nil, nat_lt}
 use Rattle.std.proofs.lemmas.Bool.{ltb-true, lt-ltb, cond-true}
 use Rattle.std.proofs.KnownBytes.{Appends-trans, Appends-nil}
 use Rattle.std.specs.Io.KnownBytes.{Appends}
@@ -9,8 +9,7 @@ use Rattle.field_merge.specs.Latest.{CameFrom, LatestState}
 use Rattle.budget_top.specs.declared.merge.Merge.{Merge}
 use Rattle.budget_top.specs.Lines.{IsWithinLine, whole_lines, last_piece}
 use Rattle.command_lines.specs.Commands.{longest_line}
-use Rattle.budget_top.specs.declared.verdict.Word.{Word}
-use Rattle.budget_top.specs.Verdicts.{Takes, Verdict, judged, judged_short, bad_line, bad_lines, bad_lines_from, messages_of, message_in, some_bad}
+use Rattle.budget_top.specs.Verdicts.{Verdict, judged, judged_short, bad_line, bad_lines, bad_lines_from, messages_of, message_in, some_bad}
 use Rattle.budget_top.specs.KeptLine.{kept_line, kept_line_with, judged_kept_line}
 use Rattle.budget_top.specs.Fronts.{IsFront, AppendsFront}
 use Rattle.budget_top.specs.Steps.{Settles, Stands}
@@ -91,35 +90,6 @@ pub settles_good : (old new : Merge) (a : Option (List ℕ)) (verdict : Verdict)
 settles_good old new a verdict m is live came line number bad =
     subst (λ (v : Verdict). Settles old new a a v) (sym is)
     (record { live = live; messages = came; line = line; number = number; bad = bad ∙ or_false old.has_bad; written = Appends-nil a })
-
--- where the line's message was taken
-pub settles_taken : (old new : Merge) (a : Option (List ℕ)) (verdict : Verdict) → Takes verdict (Ok tt) old.latest new.latest → new.line ≡ old.line → new.number ≡ old.number → new.has_bad ≡ old.has_bad
-    → Settles old new a a verdict
-settles_taken old new a (Ok m) taken line number bad = settles_good old new a (Ok m) m refl taken.1 taken.2 line number bad
-settles_taken old new a (Err word) taken line number bad = absurd (cc)
-
--- where a word was told
-pub settles_bad : (old new : Merge) (a b : Option (List ℕ)) (verdict : Verdict) (word : Word) → Takes verdict (Err word) old.latest new.latest → old.latest.spent ≡ false
-    → new.line ≡ old.line → new.number ≡ old.number → new.has_bad ≡ true → Appends a b (bad_line (old.number + 1) (Err word)) → Settles old new a b verdict
-settles_bad old new a b (Ok m) word taken live line number bad written = absurd (cc)
-settles_bad old new a b (Err other) word taken live line number bad written =
-    let same : word ≡ other = cc in
-    record {
-      live = ap (λ (l : LatestState). l.spent) taken.1 ∙ live;
-      messages = λ ms came. subst (λ (ns : List Message). CameFrom ns new.latest) (sym (append-nil ms)) (subst (λ (l : LatestState). CameFrom ms l) (sym taken.1) came);
-      line = line;
-      number = number;
-      bad = bad ∙ sym (or_true old.has_bad);
-      written = subst (λ (w : Word). Appends a b (bad_line (old.number + 1) (Err w))) same written;
-    }
-
--- the bad line of a word that was told is that of the verdict
-pub bad_line_told : (number : ℕ) (verdict : Verdict) (word : Word) (old new : LatestState) → Takes verdict (Err word) old new → bad_line number (Err word) ≡ bad_line number verdict
-bad_line_told number (Ok m) word old new taken = absurd (cc)
-bad_line_told number (Err other) word old new taken = ap (λ (w : Word). bad_line number (Err w)) (told taken.0)
-  where
-    told : Err word ≡ Err other → word ≡ other
-    told e = cc
 
 pub stands_within : (entry now : Option (List ℕ)) (read bytes : List ℕ) (old new : Merge) → IsWithinLine bytes
     → new.latest ≡ old.latest → new.line ≡ kept_line_with old.line bytes → new.number ≡ old.number → new.has_bad ≡ old.has_bad
