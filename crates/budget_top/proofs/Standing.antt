@@ -1,5 +1,5 @@
 -- Where merging stands after one more step.
-use Rattle.std.proofs.Common.{◌≡◌, ℕ, ◌+◌, List, [], ◌∷◌, ◌++◌, refl, ap, sym, ◌∙◌, subst, Bool, true, false, ◌||◌, cond, Ok, Option, None, Some, length, length-append, arith, append_assoc, append-nil, nat_lt}
+use Rattle.std.proofs.Common.{◌≡◌, ℕ, ◌+◌, List, [], ◌∷◌, ◌++◌, refl, ap, sym, ◌∙◌, subst, Bool, true, false, ◌||◌, cond, Ok, Err, Result, Option, None, Some, length, length-append, arith, append_assoc, append-nil, nat_lt}
 use Rattle.std.proofs.lemmas.Bool.{ltb-true, lt-ltb, cond-true}
 use Rattle.std.proofs.KnownBytes.{Appends-trans, Appends-nil}
 use Rattle.std.specs.Io.KnownBytes.{Appends}
@@ -9,7 +9,8 @@ use Rattle.field_merge.specs.Latest.{CameFrom, LatestState}
 use Rattle.budget_top.specs.declared.merge.Merge.{Merge}
 use Rattle.budget_top.specs.Lines.{IsWithinLine, whole_lines, last_piece}
 use Rattle.command_lines.specs.Commands.{longest_line}
-use Rattle.budget_top.specs.Verdicts.{Verdict, judged, judged_short, bad_line, bad_lines, bad_lines_from, messages_of, message_in, some_bad}
+use Rattle.budget_top.specs.declared.verdict.Word.{Word}
+use Rattle.budget_top.specs.Verdicts.{Takes, Verdict, judged, judged_short, bad_line, bad_lines, bad_lines_from, messages_of, message_in, some_bad}
 use Rattle.budget_top.specs.KeptLine.{kept_line, kept_line_with, judged_kept_line}
 use Rattle.budget_top.specs.Fronts.{IsFront, AppendsFront}
 use Rattle.budget_top.specs.Steps.{Settles, Stands}
@@ -83,13 +84,26 @@ or_false : (b : Bool) → b ≡ (b || false)
 or_false true = refl
 or_false false = refl
 
--- the message of a line was taken
-pub settles_good : (old new : Merge) (a : Option (List ℕ)) (verdict : Verdict) (m : Message) → verdict ≡ Ok m → new.latest.spent ≡ false
-    → ((ms : List Message) → CameFrom ms old.latest → CameFrom (ms ++ m ∷ []) new.latest) → new.line ≡ old.line → new.number ≡ old.number → new.has_bad ≡ old.has_bad
-    → Settles old new a a verdict
-settles_good old new a verdict m is live came line number bad =
-    subst (λ (v : Verdict). Settles old new a a v) (sym is)
-    (record { live = live; messages = came; line = line; number = number; bad = bad ∙ or_false old.has_bad; written = Appends-nil a })
+or_true : (b : Bool) → true ≡ (b || true)
+or_true true = refl
+or_true false = refl
+
+verdict_told : (word other : Word) (told : Result Unit Word) → told ≡ Err word → told ≡ Err other → (v : Verdict) → v ≡ Err word → v ≡ Err other
+verdict_told word other told h k v is = cc
+
+-- a word was told of a line
+pub settles_bad : (old new : Merge) (latest : LatestState) (a b : Option (List ℕ)) (verdict : Verdict) (word : Word) → Takes verdict (Err word) old.latest latest → new.latest ≡ latest → old.latest.spent ≡ false
+    → new.number ≡ old.number → new.has_bad ≡ true → Appends a b (bad_line (old.number + 1) (Err word)) → Settles old new a b verdict
+settles_bad old new latest a b (Ok m) word taken same live number bad written = absurd (cc)
+settles_bad old new latest a b (Err other) word taken same live number bad written =
+    let stays : new.latest ≡ old.latest = same ∙ taken.1 in
+    record {
+      live = ap (λ (l : LatestState). l.spent) stays ∙ live;
+      messages = λ ms came. subst (λ (ns : List Message). CameFrom ns new.latest) (sym (append-nil ms)) (subst (λ (l : LatestState). CameFrom ms l) (sym stays) came);
+      number = number;
+      bad = bad ∙ or_true old.has_bad;
+      written = subst (λ (v : Verdict). Appends a b (bad_line (old.number + 1) v)) (verdict_told word other (Err word) refl taken.0 (Err word) refl) written;
+    }
 
 pub stands_within : (entry now : Option (List ℕ)) (read bytes : List ℕ) (old new : Merge) → IsWithinLine bytes
     → new.latest ≡ old.latest → new.line ≡ kept_line_with old.line bytes → new.number ≡ old.number → new.has_bad ≡ old.has_bad
@@ -113,7 +127,7 @@ stands_within entry now read bytes old new within latest line number bad h =
 due : (read : List ℕ) → bad_lines (whole_lines (read ++ 10 ∷ [])) ≡ bad_lines (whole_lines read) ++ bad_line (length (whole_lines read) + 1) (judged (last_piece read))
 due read = ap bad_lines (whole_lines-end read) ∙ bad_lines-push (whole_lines read) (last_piece read)
 
-pub stands_end : (entry now then : Option (List ℕ)) (read : List ℕ) (old mid new : Merge) (verdict : Verdict) → verdict ≡ judged_kept_line old.line → Settles old mid now then verdict
+stands_end : (entry now then : Option (List ℕ)) (read : List ℕ) (old mid new : Merge) (verdict : Verdict) → verdict ≡ judged_kept_line old.line → Settles old mid now then verdict
     → new.latest ≡ mid.latest → new.line ≡ Some [] → new.number ≡ mid.number + 1 → new.has_bad ≡ mid.has_bad
     → Stands entry now read old → Stands entry then (read ++ 10 ∷ []) new
 stands_end entry now then read old mid new verdict judges s latest line number bad h =
@@ -136,14 +150,34 @@ stands_end entry now then read old mid new verdict judges s latest line number b
           (Appends-trans entry now then (bad_lines (whole_lines read)) (bad_line (old.number + 1) verdict) h.written s.written);
     }
 
+-- the same of a line that ends with some bytes
+abbrev with_bytes : Merge → List ℕ → Merge
+with_bytes m bytes = record { latest = m.latest; line = kept_line_with m.line bytes; number = m.number; has_bad = m.has_bad }
+
+begun_with : (entry now : Option (List ℕ)) (read bytes : List ℕ) (m : Merge) → IsWithinLine bytes → Stands entry now read m → Stands entry now (read ++ bytes) (with_bytes m bytes)
+begun_with entry now read bytes m within h = stands_within entry now read bytes m (with_bytes m bytes) within refl refl refl refl h
+
+pub stands_end_with : (entry now then : Option (List ℕ)) (read bytes : List ℕ) (old mid new : Merge) → IsWithinLine bytes → Settles old mid now then (judged_kept_line (kept_line_with old.line bytes))
+    → new.latest ≡ mid.latest → new.line ≡ Some [] → new.number ≡ mid.number + 1 → new.has_bad ≡ mid.has_bad
+    → Stands entry now read old → Stands entry then (read ++ bytes ++ 10 ∷ []) new
+stands_end_with entry now then read bytes old mid new within s latest line number bad h =
+    stands_end entry now then (read ++ bytes) (with_bytes old bytes) mid new _ refl
+    (record { live = s.live; messages = s.messages; number = s.number; bad = s.bad; written = s.written })
+    latest line number bad (begun_with entry now read bytes old within h)
+
 -- the line that has begun was not written whole
-pub breaks_end : (entry now then : Option (List ℕ)) (read : List ℕ) (old : Merge) (verdict : Verdict) → verdict ≡ judged_kept_line old.line → AppendsFront now then (bad_line (old.number + 1) verdict)
+breaks_end : (entry now then : Option (List ℕ)) (read : List ℕ) (old : Merge) (verdict : Verdict) → verdict ≡ judged_kept_line old.line → AppendsFront now then (bad_line (old.number + 1) verdict)
     → Stands entry now read old → AppendsFront entry then (bad_lines (whole_lines (read ++ 10 ∷ [])))
 breaks_end entry now then read old verdict judges f h =
     let is : verdict ≡ judged (last_piece read) = judges ∙ ap judged_kept_line h.line ∙ judged-kept_line (last_piece read) in
     front_as entry then _ _
     (ap (λ n. bad_lines (whole_lines read) ++ bad_line (n + 1) verdict) h.number ∙ ap (λ v. bad_lines (whole_lines read) ++ bad_line (length (whole_lines read) + 1) v) is ∙ sym (due read))
     (front_then entry now then (bad_lines (whole_lines read)) (bad_line (old.number + 1) verdict) h.written f)
+
+pub breaks_end_with : (entry now then : Option (List ℕ)) (read bytes : List ℕ) (old : Merge) → IsWithinLine bytes → AppendsFront now then (bad_line (old.number + 1) (judged_kept_line (kept_line_with old.line bytes)))
+    → Stands entry now read old → AppendsFront entry then (bad_lines (whole_lines (read ++ bytes ++ 10 ∷ [])))
+breaks_end_with entry now then read bytes old within f h =
+    breaks_end entry now then (read ++ bytes) (with_bytes old bytes) _ refl f (begun_with entry now read bytes old within h)
 
 -- nothing more was written
 pub breaks_now : (entry now : Option (List ℕ)) (read more : List ℕ) (m : Merge) → Stands entry now read m → AppendsFront entry now (bad_lines (whole_lines (read ++ more)))

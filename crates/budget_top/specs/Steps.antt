@@ -18,7 +18,6 @@ use Rattle.budget_top.specs.Limits.{most_input}
 pub record Settles (old new : Merge) (a b : Option (List ℕ)) (verdict : Verdict) : Type 0 where
   pub live : new.latest.spent ≡ false
   pub messages : (ms : List Message) → CameFrom ms old.latest → CameFrom (ms ++ message_in verdict) new.latest
-  pub line : new.line ≡ old.line
   pub number : new.number ≡ old.number
   pub bad : new.has_bad ≡ (old.has_bad || is_err verdict)
   pub written : Appends a b (bad_line (old.number + 1) verdict)

@@ -15,9 +15,10 @@ use crate::begun::Begun;
 use crate::dispatch::{DONE, SOME_BAD, SOURCE_FAILED, TOO_MUCH};
 use crate::input::{End, PIECE, Piece, line_length, read_piece};
 use crate::stop::Stop;
-use crate::verdict::bad_line_text;
+use crate::verdict::{Word, bad_line_text, take_line};
 use crate::write::write_all;
 use budget_ports::{Sink, Source};
+use command_lines::LONGEST_LINE;
 use field_merge::{FieldLines, LatestMessages};
 use field_values::NoMemory;
 use std::alloc::Global;
@@ -37,11 +38,11 @@ pub struct Merge {
 impl Merge {
     ghost use Rattle.std.specs.Prelude.{◌≡◌, ◌==◌, ◌+◌, ◌<◌, ◌≤◌, ◌^◌, ◌∷◌, [], ◌++◌, List, ℕ, Option, length, false, IfOk, OnOk, OnErr};
     ghost use Rattle.std.specs.Io.KnownBytes.{Appends};
-    ghost use Rattle.budget_top.specs.KeptLine.{judged_kept_line};
+    ghost use Rattle.budget_top.specs.KeptLine.{judged_kept_line, kept_line_with};
     ghost use Rattle.budget_ports.specs.Faults.{count_after};
     ghost use Rattle.budget_top.specs.Stops.{step_status, stop_status};
     ghost use Rattle.budget_top.specs.Lines.{IsWithinLine, whole_lines, all_lines};
-    ghost use Rattle.budget_top.specs.Verdicts.{bad_line, bad_lines, merge_text, some_bad};
+    ghost use Rattle.budget_top.specs.Verdicts.{bad_line, bad_lines, merge_text, some_bad, Takes};
     ghost use Rattle.budget_top.specs.Fronts.{AppendsFront};
     ghost use Rattle.budget_top.specs.Steps.{Settles, Stands, Ended};
 
@@ -57,15 +58,29 @@ impl Merge {
         }
     }
 
-    /// Joins the message of the line that has begun, or writes that the line is bad.
-    fn settle<W: Sink>(&mut self, alloc: Global, sink: &mut W) -> Result<(), Stop>
+    /// Takes the message of the line that ends with these bytes, or tells the word for what is wrong with the line. Where none of it came
+    /// before they are not copied.
+    fn take(&mut self, bytes: &[u8]) -> Result<Result<(), Word>, NoMemory>
+        requires live { self.old.latest.spent ≡ false }
+        ensures taken { IfOk result (λ told. Takes (judged_kept_line (kept_line_with self.old.line bytes.now)) told self.old.latest self.new.latest) }
+        ensures same { OnOk result ((self.new.number ≡ self.old.number) × (self.new.has_bad ≡ self.old.has_bad)) }
+    {
+        if self.line.is_empty() && bytes.len() <= LONGEST_LINE {
+            return take_line(&mut self.latest, bytes);
+        }
+        self.line.push(bytes)?;
+        self.line.take_in(&mut self.latest)
+    }
+
+    /// Joins the message of the line that ends with these bytes, or writes that the line is bad.
+    fn settle<W: Sink>(&mut self, alloc: Global, sink: &mut W, bytes: &[u8]) -> Result<(), Stop>
         requires live { self.old.latest.spent ≡ false }
         requires few { self.old.number < 2 ^ 60 }
-        ensures ok { OnOk result (Settles self.old self.new (W.taken sink.old) (W.taken sink.new) (judged_kept_line self.old.line)) }
-        ensures err { OnErr result (AppendsFront (W.taken sink.old) (W.taken sink.new) (bad_line (self.old.number + 1) (judged_kept_line self.old.line))) }
+        ensures ok { OnOk result (Settles self.old self.new (W.taken sink.old) (W.taken sink.new) (judged_kept_line (kept_line_with self.old.line bytes.now))) }
+        ensures err { OnErr result (AppendsFront (W.taken sink.old) (W.taken sink.new) (bad_line (self.old.number + 1) (judged_kept_line (kept_line_with self.old.line bytes.now)))) }
         ensures count { W.faults sink.new ≡ count_after (step_status stop_status result == 5) (W.faults sink.old) }
     {
-        let Err(word) = self.line.take_in(&mut self.latest)? else {
+        let Err(word) = self.take(bytes)? else {
             return Ok(());
         };
         let text = bad_line_text(alloc, self.number + 1, word)?;
@@ -74,17 +89,18 @@ impl Merge {
         Ok(())
     }
 
-    /// Ends the line that has begun.
-    fn end_line<W: Sink>(&mut self, alloc: Global, sink: &mut W) -> Result<(), Stop>
+    /// Ends the line that has begun with these bytes.
+    fn end_line<W: Sink>(&mut self, alloc: Global, sink: &mut W, bytes: &[u8]) -> Result<(), Stop>
         requires live { self.old.latest.spent ≡ false }
         requires few { self.old.number < 2 ^ 60 }
-        ensures ok { OnOk result ((entry : Option (List ℕ)) (read : List ℕ) → Stands entry (W.taken sink.old) read self.old → Stands entry (W.taken sink.new) (read ++ 10 ∷ []) self.new) }
-        ensures err { OnErr result ((entry : Option (List ℕ)) (read : List ℕ) → Stands entry (W.taken sink.old) read self.old → AppendsFront entry (W.taken sink.new) (bad_lines (whole_lines (read ++ 10 ∷ [])))) }
+        requires within { IsWithinLine bytes.now }
+        ensures ok { OnOk result ((entry : Option (List ℕ)) (read : List ℕ) → Stands entry (W.taken sink.old) read self.old → Stands entry (W.taken sink.new) (read ++ bytes.now ++ 10 ∷ []) self.new) }
+        ensures err { OnErr result ((entry : Option (List ℕ)) (read : List ℕ) → Stands entry (W.taken sink.old) read self.old → AppendsFront entry (W.taken sink.new) (bad_lines (whole_lines (read ++ bytes.now ++ 10 ∷ [])))) }
         ensures live { OnOk result (self.new.latest.spent ≡ false) }
         ensures few { OnOk result (self.new.number ≡ self.old.number + 1) }
         ensures count { W.faults sink.new ≡ count_after (step_status stop_status result == 5) (W.faults sink.old) }
     {
-        self.settle(alloc, sink)?;
+        self.settle(alloc, sink, bytes)?;
         self.number += 1;
         self.line.clear();
         Ok(())
@@ -112,8 +128,7 @@ impl Merge {
     {
         let mut at = 0;
         'lines: while let Some(length) = line_length(&bytes[at..]) {
-            self.keep(&bytes[at..at + length])?;
-            self.end_line(alloc, sink)?;
+            self.end_line(alloc, sink, &bytes[at..at + length])?;
             at += length + 1;
         }
         self.keep(&bytes[at..])?;
@@ -132,7 +147,7 @@ impl Merge {
         if self.line.is_empty() {
             return Ok(());
         }
-        self.end_line(alloc, sink)
+        self.end_line(alloc, sink, &[])
     }
 
     /// Deals with the end of the input: writes the fields, and hands all on.
