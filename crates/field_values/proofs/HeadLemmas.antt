@@ -1,5 +1,5 @@
 -- Where the heads of two texts differ, they are ordered as the texts are.
-use Rattle.std.proofs.Common.{◌≡◌, ◌≢◌, ◌∙◌, ℕ, zero, suc, ◌+◌, ◌*◌, ◌-◌, ◌<◌, ◌≤◌, List, [], ◌∷◌, length, get_or, drop, arith, refl, ap, sym, subst}
+use Rattle.std.proofs.Common.{◌≡◌, ◌≢◌, ◌∙◌, ℕ, zero, suc, ◌+◌, ◌*◌, ◌-◌, ◌<◌, ◌≤◌, List, [], ◌∷◌, length, min, get_or, drop, arith, refl, ap, sym, subst}
 use Rattle.std.specs.Ordering.{nat_cmp, ordering_then, MatchOrdering}
 use Rattle.std.specs.Int.{from_be_bytes, w128}
 use Rattle.std.specs.Cmp.{nat_cmp_is, ranks}
@@ -125,9 +125,9 @@ shift (suc n) k (x ∷ xs) =
     let own = shift n (0 * 256 + x) xs in
     omega arith
 
--- m bytes and a head after them
-joined : (m : ℕ) (xs : List ℕ) → head_from (m + 16) 0 xs ≡ head_from m 0 xs * bound 16 + head_of (drop m xs)
-joined m xs = split m 16 0 xs ∙ shift 16 (head_from m 0 xs) (drop m xs)
+-- m bytes and n after them
+joined : (m n : ℕ) (xs : List ℕ) → head_from (m + n) 0 xs ≡ head_from m 0 xs * bound n + head_from n 0 (drop m xs)
+joined m n xs = split m n 0 xs ∙ shift n (head_from m 0 xs) (drop m xs)
 
 -- numbers that stand as far above two others are ordered as these
 moved : (c x y a b : ℕ) → x ≡ c + a → y ≡ c + b → (o : Ordering) → MatchOrdering o (a < b) (a ≡ b) (b < a) → nat_cmp x y ≡ o
@@ -135,27 +135,27 @@ moved c x y a b p q Less m = let under : a < b = m in less x y (omega arith)
 moved c x y a b p q Equal m = let as_high : a ≡ b = m in equal x y (omega arith)
 moved c x y a b p q Greater m = let over : b < a = m in greater x y (omega arith)
 
--- where the first m bytes are the same and the heads after them differ, these are ordered as the lists
-later : (m : ℕ) (xs ys : List ℕ) → AreBytes xs → AreBytes ys → head_from m 0 xs ≡ head_from m 0 ys → head_of (drop m xs) ≢ head_of (drop m ys)
-    → slice_cmp nat_cmp xs ys ≡ nat_cmp (head_of (drop m xs)) (head_of (drop m ys))
-later m xs ys b d e apart =
-    let left = joined m xs in
-    let right = joined m ys ∙ ap (λ (w : ℕ). w * bound 16 + head_of (drop m ys)) (sym e) in
-    let differ : head_from (m + 16) 0 xs ≢ head_from (m + 16) 0 ys = λ f. apart (omega (arith, f)) in
-    ordered (m + 16) 0 xs ys b d differ
-    ∙ moved (head_from m 0 xs * bound 16) _ _ (head_of (drop m xs)) (head_of (drop m ys)) left right (nat_cmp (head_of (drop m xs)) (head_of (drop m ys))) (ranks (head_of (drop m xs)) (head_of (drop m ys)))
+-- where the first m bytes are the same and the n after them differ, these are ordered as the lists
+later : (m n : ℕ) (xs ys : List ℕ) → AreBytes xs → AreBytes ys → head_from m 0 xs ≡ head_from m 0 ys → head_from n 0 (drop m xs) ≢ head_from n 0 (drop m ys)
+    → slice_cmp nat_cmp xs ys ≡ nat_cmp (head_from n 0 (drop m xs)) (head_from n 0 (drop m ys))
+later m n xs ys b d e apart =
+    let left = joined m n xs in
+    let right = joined m n ys ∙ ap (λ (w : ℕ). w * bound n + head_from n 0 (drop m ys)) (sym e) in
+    let differ : head_from (m + n) 0 xs ≢ head_from (m + n) 0 ys = λ f. apart (omega (arith, f)) in
+    ordered (m + n) 0 xs ys b d differ
+    ∙ moved (head_from m 0 xs * bound n) _ _ (head_from n 0 (drop m xs)) (head_from n 0 (drop m ys)) left right (nat_cmp (head_from n 0 (drop m xs)) (head_from n 0 (drop m ys))) (ranks (head_from n 0 (drop m xs)) (head_from n 0 (drop m ys)))
 
--- where the first m bytes are the same and the heads after them too, so are the first m + 16
-longer : (m : ℕ) (xs ys : List ℕ) → head_from m 0 xs ≡ head_from m 0 ys → head_of (drop m xs) ≡ head_of (drop m ys) → head_from (m + 16) 0 xs ≡ head_from (m + 16) 0 ys
-longer m xs ys e f =
-    joined m xs ∙ ap (λ (w : ℕ). w * bound 16 + head_of (drop m xs)) e ∙ ap (λ (w : ℕ). head_from m 0 ys * bound 16 + w) f ∙ sym (joined m ys)
+-- where the first m bytes are the same and the n after them too, so are the first m + n
+longer : (m n : ℕ) (xs ys : List ℕ) → head_from m 0 xs ≡ head_from m 0 ys → head_from n 0 (drop m xs) ≡ head_from n 0 (drop m ys) → head_from (m + n) 0 xs ≡ head_from (m + n) 0 ys
+longer m n xs ys e f =
+    joined m n xs ∙ ap (λ (w : ℕ). w * bound n + head_from n 0 (drop m xs)) e ∙ ap (λ (w : ℕ). head_from m 0 ys * bound n + w) f ∙ sym (joined m n ys)
 
--- the answer by heads that differ after m bytes that are the same
-by_later : (m x y : ℕ) (xs ys : List ℕ) (r : Ordering) → x ≡ head_of (drop m xs) → y ≡ head_of (drop m ys) → AreBytes xs → AreBytes ys → head_from m 0 xs ≡ head_from m 0 ys → x ≢ y → r ≡ nat_cmp x y
+-- the answer by n bytes that differ after m bytes that are the same
+by_later : (m n x y : ℕ) (xs ys : List ℕ) (r : Ordering) → x ≡ head_from n 0 (drop m xs) → y ≡ head_from n 0 (drop m ys) → AreBytes xs → AreBytes ys → head_from m 0 xs ≡ head_from m 0 ys → x ≢ y → r ≡ nat_cmp x y
     → r ≡ slice_cmp nat_cmp xs ys
-by_later m x y xs ys r p q b d same h e =
-    let apart : head_of (drop m xs) ≢ head_of (drop m ys) = λ f. h (p ∙ f ∙ sym q) in
-    e ∙ ap (λ (w : ℕ). nat_cmp w y) p ∙ ap (λ (w : ℕ). nat_cmp (head_of (drop m xs)) w) q ∙ sym (later m xs ys b d same apart)
+by_later m n x y xs ys r p q b d same h e =
+    let apart : head_from n 0 (drop m xs) ≢ head_from n 0 (drop m ys) = λ f. h (p ∙ f ∙ sym q) in
+    e ∙ ap (λ (w : ℕ). nat_cmp w y) p ∙ ap (λ (w : ℕ). nat_cmp (head_from n 0 (drop m xs)) w) q ∙ sym (later m n xs ys b d same apart)
 
 -- the answer where the first n bytes tell all
 in_first : (n l m : ℕ) (xs ys : List ℕ) → AreBytes xs → AreBytes ys → head_from n 0 xs ≡ head_from n 0 ys → IsShortLength l xs → IsShortLength m ys → l ≡ m → l ≤ n → n < 255
@@ -172,26 +172,26 @@ unfolding KeepsHeads
 opened h = h
 
 pub by_head : {x y l m : ℕ} {xs ys : List ℕ} {r : Ordering} → IsHead x l xs → IsHead y m ys → x ≢ y → r ≡ nat_cmp x y → r ≡ slice_cmp nat_cmp xs ys
-by_head h g apart e = by_later 0 _ _ _ _ _ h.head g.head h.bytes g.bytes refl apart e
+by_head h g apart e = by_later 0 16 _ _ _ _ _ h.head g.head h.bytes g.bytes refl apart e
 
 pub in_head : {x y l m : ℕ} {xs ys : List ℕ} → IsHead x l xs → IsHead y m ys → x ≡ y → l ≡ m → l ≤ 16 → Equal ≡ slice_cmp nat_cmp xs ys
 in_head h g e long short = in_first 16 _ _ _ _ h.bytes g.bytes (sym h.head ∙ e ∙ g.head) h.length g.length long short (omega arith)
 
 pub by_one : {x y z u v w l m : ℕ} {xs ys : List ℕ} {r : Ordering} → AreHeads x y z l xs → AreHeads u v w m ys → x ≢ u → r ≡ nat_cmp x u → r ≡ slice_cmp nat_cmp xs ys
-by_one h g apart e = by_later 0 _ _ _ _ _ h.first g.first h.bytes g.bytes refl apart e
+by_one h g apart e = by_later 0 16 _ _ _ _ _ h.first g.first h.bytes g.bytes refl apart e
 
 pub by_two : {x y z u v w l m : ℕ} {xs ys : List ℕ} {r : Ordering} → AreHeads x y z l xs → AreHeads u v w m ys → x ≡ u → y ≢ v → r ≡ nat_cmp y v → r ≡ slice_cmp nat_cmp xs ys
-by_two h g one apart e = by_later 16 _ _ _ _ _ h.second g.second h.bytes g.bytes (sym h.first ∙ one ∙ g.first) apart e
+by_two h g one apart e = by_later 16 16 _ _ _ _ _ h.second g.second h.bytes g.bytes (sym h.first ∙ one ∙ g.first) apart e
 
 two_same : {x y z u v w l m : ℕ} {xs ys : List ℕ} → AreHeads x y z l xs → AreHeads u v w m ys → x ≡ u → y ≡ v → head_from 32 0 xs ≡ head_from 32 0 ys
-two_same {xs = xs} {ys = ys} h g one two = longer 16 xs ys (sym h.first ∙ one ∙ g.first) (sym h.second ∙ two ∙ g.second)
+two_same {xs = xs} {ys = ys} h g one two = longer 16 16 xs ys (sym h.first ∙ one ∙ g.first) (sym h.second ∙ two ∙ g.second)
 
 pub by_three : {x y z u v w l m : ℕ} {xs ys : List ℕ} {r : Ordering} → AreHeads x y z l xs → AreHeads u v w m ys → x ≡ u → y ≡ v → z ≢ w → r ≡ nat_cmp z w → r ≡ slice_cmp nat_cmp xs ys
-by_three h g one two apart e = by_later 32 _ _ _ _ _ h.third g.third h.bytes g.bytes (two_same h g one two) apart e
+by_three h g one two apart e = by_later 32 16 _ _ _ _ _ h.third g.third h.bytes g.bytes (two_same h g one two) apart e
 
 pub in_three : {x y z u v w l m : ℕ} {xs ys : List ℕ} → AreHeads x y z l xs → AreHeads u v w m ys → x ≡ u → y ≡ v → z ≡ w → l ≡ m → l ≤ 48 → Equal ≡ slice_cmp nat_cmp xs ys
 in_three {xs = xs} {ys = ys} h g one two three long short =
-    in_first 48 _ _ _ _ h.bytes g.bytes (longer 32 xs ys (two_same h g one two) (sym h.third ∙ three ∙ g.third)) h.length g.length long short (omega arith)
+    in_first 48 _ _ _ _ h.bytes g.bytes (longer 32 16 xs ys (two_same h g one two) (sym h.third ∙ three ∙ g.third)) h.length g.length long short (omega arith)
 
 -- the number that n bytes from place i on spell after k
 abbrev pub spelled : ℕ → ℕ → ℕ → List ℕ → ℕ
@@ -207,3 +207,58 @@ pub sixteen : (xs : List ℕ) → from_be_bytes w128 (get_or xs 0 0 ∷ get_or x
 sixteen xs =
     let all : head_of xs ≡ spelled 16 0 0 xs = spelled_is 16 0 0 xs in
     omega (arith, all)
+
+-- numbers that n bytes bring to one number were one before them
+one_start : (n k l : ℕ) (xs ys : List ℕ) → AreBytes xs → AreBytes ys → head_from n k xs ≡ head_from n l ys → (o : Ordering) → MatchOrdering o (k < l) (k ≡ l) (l < k) → k ≡ l
+one_start n k l xs ys b d e Less m = let low = lower n k l xs ys b d m in absurd (omega (arith, e))
+one_start n k l xs ys b d e Equal m = m
+one_start n k l xs ys b d e Greater m = let high = lower n l k ys xs d b m in absurd (omega (arith, e))
+
+dropped : (m : ℕ) (xs : List ℕ) → AreBytes xs → AreBytes (drop m xs)
+dropped zero xs b = b
+dropped (suc m) [] b = b
+dropped (suc m) (x ∷ xs) b = dropped m xs (rest x xs b)
+
+-- where the first n bytes are the same, so are the fewer first
+fewer : (m n : ℕ) (xs ys : List ℕ) → AreBytes xs → AreBytes ys → m ≤ n → head_from n 0 xs ≡ head_from n 0 ys → head_from m 0 xs ≡ head_from m 0 ys
+fewer m n xs ys b d few e =
+    let all : n ≡ m + (n - m) = omega arith in
+    let whole : head_from (m + (n - m)) 0 xs ≡ head_from (m + (n - m)) 0 ys = subst (λ (w : ℕ). head_from w 0 xs ≡ head_from w 0 ys) all e in
+    let parts = sym (split m (n - m) 0 xs) ∙ whole ∙ split m (n - m) 0 ys in
+    one_start (n - m) (head_from m 0 xs) (head_from m 0 ys) (drop m xs) (drop m ys) (dropped m xs b) (dropped m ys d) parts _ (ranks (head_from m 0 xs) (head_from m 0 ys))
+
+-- lists that are the same as far as the shorter one goes are ordered as their lengths
+tied : (n k l : ℕ) (xs ys : List ℕ) → AreBytes xs → AreBytes ys → n ≡ min (length xs) (length ys) → head_from n k xs ≡ head_from n l ys
+    → (k ≡ l) × (slice_cmp nat_cmp xs ys ≡ nat_cmp (length xs) (length ys))
+tied zero k l [] [] b d m e = (e, sym (equal 0 0 refl))
+tied zero k l [] (y ∷ ys) b d m e = (e, sym (less 0 (suc (length ys)) (omega arith)))
+tied zero k l (x ∷ xs) [] b d m e = (e, sym (greater (suc (length xs)) 0 (omega arith)))
+tied zero k l (x ∷ xs) (y ∷ ys) b d m e = absurd (omega (arith, m))
+tied (suc n) k l [] ys b d m e = absurd (omega (arith, m))
+tied (suc n) k l (x ∷ xs) [] b d m e = absurd (omega (arith, m))
+tied (suc n) k l (x ∷ xs) (y ∷ ys) b d m e =
+    let both = tied n (k * 256 + x) (l * 256 + y) xs ys (rest x xs b) (rest y ys d) (omega (arith, m)) e in
+    let level = both.0 in
+    let small = first x xs b in
+    let little = first y ys d in
+    let firsts : x ≡ y = omega arith in
+    let starts : k ≡ l = omega arith in
+    let raised = moved 1 (suc (length xs)) (suc (length ys)) (length xs) (length ys) (omega arith) (omega arith) (nat_cmp (length xs) (length ys)) (ranks (length xs) (length ys)) in
+    (starts, rw (equal x y firsts) (both.1 ∙ sym raised))
+
+-- the answer by the first n bytes
+pub by_front : (n : ℕ) (xs ys : List ℕ) {x y : ℕ} {r : Ordering} → x ≡ head_from n 0 xs → y ≡ head_from n 0 ys → AreBytes xs → AreBytes ys → x ≢ y → r ≡ nat_cmp x y → r ≡ slice_cmp nat_cmp xs ys
+by_front n xs ys p q b d apart e = by_later 0 n _ _ xs ys _ p q b d refl apart e
+
+-- the answer by n bytes from place m on, where the first n are the same
+pub by_next : (m n : ℕ) (xs ys : List ℕ) {x y u v : ℕ} {r : Ordering} → x ≡ head_from n 0 xs → y ≡ head_from n 0 ys → AreBytes xs → AreBytes ys → x ≡ y → m ≤ n
+    → u ≡ head_from n 0 (drop m xs) → v ≡ head_from n 0 (drop m ys) → u ≢ v → r ≡ nat_cmp u v → r ≡ slice_cmp nat_cmp xs ys
+by_next m n xs ys p q b d alike few f g apart e =
+    by_later m n _ _ xs ys _ f g b d (fewer m n xs ys b d few (sym p ∙ alike ∙ q)) apart e
+
+-- the answer by the lengths, where those n bytes are the same too and end the shorter list
+pub by_lengths : (m n : ℕ) (xs ys : List ℕ) {x y u v : ℕ} {r : Ordering} → x ≡ head_from n 0 xs → y ≡ head_from n 0 ys → AreBytes xs → AreBytes ys → x ≡ y → m ≤ n
+    → u ≡ head_from n 0 (drop m xs) → v ≡ head_from n 0 (drop m ys) → u ≡ v → m + n ≡ min (length xs) (length ys) → r ≡ nat_cmp (length xs) (length ys) → r ≡ slice_cmp nat_cmp xs ys
+by_lengths m n xs ys p q b d alike few f g alike_next short e =
+    let all = longer m n xs ys (fewer m n xs ys b d few (sym p ∙ alike ∙ q)) (sym f ∙ alike_next ∙ g) in
+    e ∙ sym (tied (m + n) 0 0 xs ys b d short all).1

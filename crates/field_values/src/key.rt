@@ -1,5 +1,5 @@
 //! A field as the key of a map.
-ghost use Rattle.std.specs.Prelude.{◌≡◌, ◌≤◌, length, drop, IfOk};
+ghost use Rattle.std.specs.Prelude.{◌≡◌, drop, IfOk};
 ghost use Rattle.std.specs.Ordering.{as_partial_cmp, nat_cmp};
 ghost use Rattle.std.specs.Cmp.Lexicographic.{slice_cmp};
 ghost use Rattle.field_values.specs.Heads.{head_of, AreBytes, IsShortLength};
@@ -10,6 +10,7 @@ ghost use Rattle.field_values.specs.Names.{names_eq, names_cmp};
 
 use crate::field::Field;
 use crate::memory::NoMemory;
+use crate::order::front;
 use std::cmp::Ordering;
 use std::marker::Model;
 
@@ -53,17 +54,6 @@ impl Model for FieldKey {
 
     ghost invariant = { λ k. KeepsHeads k.dataset_head k.dataset_len k.row_head k.row_second k.row_third k.row_len
         k.column_head k.column_len k.field };
-}
-
-/// The first 16 bytes as a number.
-fn front(bytes: &[u8]) -> u128
-    requires { 16 ≤ length bytes.now }
-    ensures { result ≡ head_of bytes.now }
-{
-    u128::from_be_bytes([
-        bytes[0], bytes[1], bytes[2], bytes[3], bytes[4], bytes[5], bytes[6], bytes[7], bytes[8],
-        bytes[9], bytes[10], bytes[11], bytes[12], bytes[13], bytes[14], bytes[15],
-    ])
 }
 
 /// The first 16 bytes as a number, with 0 for each that is not there. Where the heads of two texts differ, they are ordered as

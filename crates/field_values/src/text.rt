@@ -8,6 +8,7 @@ ghost use Rattle.field_values.specs.Text.{IsMadeOf};
 
 use crate::items::Copied;
 use crate::memory::NoMemory;
+use crate::order::order_of_fronts;
 use std::alloc::Global;
 use std::cmp::Ordering;
 use std::marker::Model;
@@ -130,7 +131,11 @@ impl Ord for Txt {
     ghost matches_eq = { Prim.search (comparing, rules) };
 
     fn cmp(&self, other: &Txt) -> Ordering {
-        self.text.as_str().cmp(other.text.as_str())
+        let (own, theirs) = (self.text.as_str(), other.text.as_str());
+        match order_of_fronts(own.as_bytes(), theirs.as_bytes()) {
+            Some(order) => order,
+            None => own.cmp(theirs),
+        }
     }
 }
 
