@@ -4,6 +4,7 @@ ghost use Rattle.field_values.specs.Value.{IsValue};
 
 use field_values::{Field, FieldKey, Items, NameFault, NamePart, Steps, Txt, TxtFault, Value};
 use std::alloc::Global;
+use std::cmp::Ordering;
 use std::marker::Brand;
 use std::mem::size_of;
 use std::sync::ledger::{Blank, Ledger};
@@ -80,6 +81,42 @@ fn place_of(alloc: Global, bytes: &[u8]) -> usize {
         Err(TxtFault::NotUtf8 { at }) => at,
         _ => 100,
     }
+}
+
+/// How two texts are ordered.
+fn order_of(alloc: Global, own: &str, other: &str) -> Result<Ordering, Fail> {
+    let own = Txt::from_text(alloc, own)?;
+    let other = Txt::from_text(alloc, other)?;
+    Ok(own.cmp(&other))
+}
+
+#[test]
+fn texts_are_ordered(rt: HostRuntime) -> Result<(), Fail> {
+    for (own, other) in [
+        ("", "a"),
+        ("abc", "abd"),
+        ("abc", "abcd"),
+        ("abcd", "abcde"),
+        ("abcdeg", "abce"),
+        ("abcdez", "abcdfa"),
+        ("abcdef", "abcdefgh"),
+        ("abcdefg", "abcdefz"),
+        ("abcdefgh", "abcdefghi"),
+        ("abcdefghij", "abcdefghz"),
+        ("abcdefghijklmnop", "abcdefghijklmnoq"),
+        ("abcdefghijklmnop", "abcdefghijklmnopq"),
+        ("abcdefghijklmnopqr", "abcdefghijklmnopqs"),
+        ("abcdefghijklmnopqrs", "abcdefghijklmnopqrst"),
+        ("z", "\u{e9}"),
+    ] {
+        let orders = (
+            order_of(rt.alloc(), own, other)?,
+            order_of(rt.alloc(), other, own)?,
+        );
+        assert_eq!(rt; orders, (Ordering::Less, Ordering::Greater));
+        assert_eq!(rt; order_of(rt.alloc(), other, other)?, Ordering::Equal);
+    }
+    Ok(())
 }
 
 /// A list of one text, which is a copy of another.
