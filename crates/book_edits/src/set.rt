@@ -5,8 +5,8 @@ ghost use Rattle.book_rows.specs.declared.fault.EditFault.TheVariants.{BadId as 
 ghost use Rattle.book_edits.specs.Faults.{IsEditFault};
 ghost use Rattle.book_edits.specs.Edits.{bad_id, set_writes};
 
-use crate::writing::push;
-use book_rows::{EditFault, RowName, Write};
+use crate::writing::one;
+use book_rows::{EditFault, Write};
 use field_values::{NameFault, NamePart, NoMemory, Txt, Value, check_name};
 use std::alloc::Global;
 
@@ -69,16 +69,7 @@ pub(crate) fn set_writes(
     if let Err(fault) = check_names(dataset, row, column) {
         return Err(bad_id(alloc, fault, dataset, row, column));
     }
-    let given = RowName::Given(row.copy()?);
-    let mut writes = Vec::new(alloc);
     let value = value.copy()?;
-    push(
-        alloc,
-        &mut writes,
-        dataset.as_str(),
-        &given,
-        column.as_str(),
-        value,
-    )?;
+    let writes = one(alloc, dataset.as_str(), row, column.as_str(), value)?;
     Ok(writes)
 }

@@ -70,6 +70,24 @@ pub fn place_behind(writes: &Vec<Write>) -> Result<u32, NoMemory>
     }
 }
 
+/// The write of a value into a row.
+pub(crate) fn write_of(
+    alloc: Global,
+    dataset: &str,
+    row: RowName,
+    column: &str,
+    value: Value,
+) -> Result<Write, NoMemory>
+    ensures { IfOk result (λ w. w ≡ write dataset.now row column.now value) }
+{
+    Ok(Write {
+        dataset: Txt::from_text(alloc, dataset)?,
+        row,
+        column: Txt::from_text(alloc, column)?,
+        value: WriteValue::Plain(value),
+    })
+}
+
 /// Puts the write of a value behind others.
 pub fn push(
     alloc: Global,
@@ -81,17 +99,12 @@ pub fn push(
 ) -> Result<(), NoMemory>
     ensures { OnOk result (writes.new.items ≡ writes.old.items ++ write dataset.now row.now column.now value ∷ []) }
 {
-    let write = Write {
-        dataset: Txt::from_text(alloc, dataset)?,
-        row: row.copy()?,
-        column: Txt::from_text(alloc, column)?,
-        value: WriteValue::Plain(value),
-    };
+    let write = write_of(alloc, dataset, row.copy()?, column, value)?;
     writes.push(write)?;
     Ok(())
 }
 
-/// The one write of a value into a row of this id.
+/// The one write of a value into a row of this id, in a list with room for no more.
 pub fn one(
     alloc: Global,
     dataset: &str,
@@ -101,8 +114,9 @@ pub fn one(
 ) -> Result<Vec<Write>, NoMemory>
     ensures { IfOk result (λ ws. ws.items ≡ write dataset.now (Given id.now) column.now value ∷ []) }
 {
-    let mut writes = Vec::new(alloc);
     let row = RowName::Given(id.copy()?);
-    push(alloc, &mut writes, dataset, &row, column, value)?;
+    let write = write_of(alloc, dataset, row, column, value)?;
+    let mut writes = Vec::with_capacity(alloc, 1)?;
+    writes.push(write)?;
     Ok(writes)
 }
