@@ -16,6 +16,7 @@ pub mod EditLines
 pub mod KnownLines
 pub mod Cutting
 pub mod WordLemmas
+pub mod PlainWords
 pub mod Shares
 pub mod Repeating
 pub mod LineLemmas

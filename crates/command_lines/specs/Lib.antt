@@ -2,6 +2,7 @@ pub mod Forms
 pub mod FormLaws
 pub mod Commands
 pub mod Unread
+pub mod Held
 pub mod Refusals
 pub mod Replies
 pub mod Register

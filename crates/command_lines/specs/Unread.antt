@@ -1,6 +1,7 @@
 -- The words of a line that are still to be read.
-use Rattle.std.specs.Prelude.{◌≡◌, ℕ, List, [], ◌∷◌, Option, None, Some, Result}
-use Rattle.field_merge.specs.Escapes.{bad_escape}
+use Rattle.std.specs.Prelude.{◌≡◌, ℕ, List, [], ◌∷◌, Bool, true, false, Option, None, Some, Result}
+use Rattle.std.specs.List.{AllByRecursion}
+use Rattle.field_merge.specs.Escapes.{bad_escape, has_backslash}
 use Rattle.field_merge.specs.Lines.{parts}
 use Rattle.command_lines.specs.declared.command.Command.{Command}
 use Rattle.command_lines.specs.declared.command.CommandFault.{CommandFault}
@@ -17,6 +18,10 @@ pub record UnreadWords : Type 0 where
 abbrev pub words_of : Option (List ℕ) → List (List ℕ)
 words_of None = []
 words_of (Some text) = parts text
+
+-- where words are plain, none of them has a backslash
+abbrev pub ArePlainWords : Bool → List (List ℕ) → Type 0
+ArePlainWords is_plain words = is_plain ≡ true → AllByRecursion (λ w. has_backslash w ≡ false) words
 
 -- the command of the words that are still to be read, where a line wants these
 abbrev pub command_of_unread : Wanted → UnreadWords → Result Command ℕ

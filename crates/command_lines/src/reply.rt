@@ -10,7 +10,11 @@ use device_core::LineRefusal;
 use field_merge::push_escaped;
 use field_values::{Items, NoMemory, Txt};
 use hybrid_clock::ClockFault;
+use itoa::Buffer;
 use std::alloc::Global;
+
+/// Room for most texts of a reply.
+const ROOM: usize = 32;
 
 /// What is replied to a line.
 #[derive(Debug, Drop)]
@@ -66,12 +70,23 @@ pub(crate) fn refusal(alloc: Global, number: u8, code: &str, detail: Txt) -> Res
     })
 }
 
+/// A text that ends with a count.
+fn counted(alloc: Global, before: &str, count: u64) -> Result<String, NoMemory>
+    ensures { IfOk result (λ t. string_bytes t ≡ before.now ++ decimal count) }
+{
+    let mut digits = Buffer::new();
+    let mut text = String::with_capacity(alloc, ROOM)?;
+    text.push_str(before)?;
+    text.push_str(digits.format(count))?;
+    Ok(text)
+}
+
 /// The text of a number.
 pub(crate) fn number_text(alloc: Global, number: u64) -> Result<Txt, NoMemory>
     ensures { IfOk result (λ t. t ≡ decimal number) }
 {
-    let text = number.to_string(alloc)?;
-    Ok(Txt::new(text))
+    let mut digits = Buffer::new();
+    Txt::from_text(alloc, digits.format(number))
 }
 
 /// The reply to an edit that made so many writes: `writes N`, then `made ID` for each row that it
@@ -80,7 +95,7 @@ pub fn wrote_reply(alloc: Global, writes: u32, made: &Items<Txt>) -> Result<Repl
     ensures { IfOk result (λ r. r ≡ wrote writes made.now) }
 {
     let mut lines = Vec::new(alloc);
-    lines.push(Txt::new(format!(in alloc; "writes {writes}")?))?;
+    lines.push(Txt::new(counted(alloc, "writes ", writes as u64)?))?;
     for id in made.as_slice() {
         lines.push(made_line(alloc, id)?)?;
     }
@@ -102,7 +117,7 @@ fn made_line(alloc: Global, id: &Txt) -> Result<Txt, NoMemory>
 pub fn added_reply(alloc: Global, count: u64) -> Result<Reply, NoMemory>
     ensures { IfOk result (λ r. r ≡ added count) }
 {
-    let text = format!(in alloc; "added {count}")?;
+    let text = counted(alloc, "added ", count)?;
     one_line(alloc, Txt::new(text))
 }
 
@@ -162,8 +177,8 @@ fn push_ended(text: &mut String, line: &str) -> Result<(), NoMemory>
 fn done_text(alloc: Global, lines: &[Txt]) -> Result<String, NoMemory>
     ensures { IfOk result (λ t. string_bytes t ≡ reply_text_of (Done lines.now)) }
 {
-    let count = lines.len();
-    let mut text = format!(in alloc; "ok {count}\n")?;
+    let mut text = counted(alloc, "ok ", lines.len() as u64)?;
+    text.push('\n')?;
     for line in lines {
         push_ended(&mut text, line.as_str())?;
     }

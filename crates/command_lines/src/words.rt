@@ -10,16 +10,61 @@ ghost use Rattle.rule_engine.specs.declared.rule.RuleOp.{RuleOp};
 ghost use Rattle.command_lines.specs.declared.command.Command.{Command};
 ghost use Rattle.command_lines.specs.Commands.{IsCommandFault};
 ghost use Rattle.command_lines.specs.Forms.{Wanted, word, no_more, stamp_word, name_word, amount_word, flag_word, date_word, month_word, id_word, stage_word, op_word};
-ghost use Rattle.command_lines.specs.Unread.{words_of, command_of_unread, HasText};
+ghost use Rattle.command_lines.specs.Unread.{words_of, command_of_unread, HasText, ArePlainWords};
 
 use crate::command::CommandFault;
 use crate::forms::{amount_in, date_in, flag_in, month_in, op_in, stage_in};
 use device_core::{RuleOp, Stage};
 use field_merge::{bad_escape, cut_part, unescape};
-use field_values::{NamePart, Txt, check_name};
+use field_values::{NamePart, NoMemory, Txt, check_name};
 use hybrid_clock::Stamp;
+use memchr::memchr;
 use std::alloc::Global;
 use std::marker::Model;
+
+/// Where the text of a word stands: in the line, or in memory of its own where it had to be unescaped.
+#[derive(Drop)]
+enum Held<'a> {
+    Lent(&'a str),
+    Owned(Txt),
+}
+
+/// A word of a line, without its escapes. A contract sees its text.
+#[derive(Drop)]
+struct Word<'a> {
+    held: Held<'a>,
+}
+
+impl<'a> Model for Word<'a> {
+    ghost use Rattle.std.specs.Prelude.{List, ℕ};
+    ghost use Rattle.command_lines.specs.Held.{text_in};
+
+    ghost Value = { List ℕ };
+
+    ghost view = { λ w. text_in w.held };
+}
+
+impl<'a> Word<'a> {
+    /// The text of the word.
+    fn as_str(&self) -> &str
+        ensures { result.now ≡ self.now }
+    {
+        match &self.held {
+            Held::Lent(text) => text,
+            Held::Owned(text) => text.as_str(),
+        }
+    }
+
+    /// The text of the word in memory of its own.
+    fn into_text(self, alloc: Global) -> Result<Txt, NoMemory>
+        ensures { IfOk result (λ text. text ≡ self.entry) }
+    {
+        match self.held {
+            Held::Lent(text) => Txt::from_text(alloc, text),
+            Held::Owned(text) => Ok(text),
+        }
+    }
+}
 
 /// The words of a line that are still to be read.
 #[derive(Drop)]
@@ -28,18 +73,20 @@ pub(crate) struct Words<'a> {
     rest: Option<&'a str>,
     /// The index of the word that was read last.
     last: u32,
+    /// Where it is set, no backslash stands in the rest.
+    is_plain: bool,
 }
 
 impl<'a> Model for Words<'a> {
     ghost use Rattle.std.specs.Prelude.{◌+◌, ◌<◌, ◌^◌, length};
     ghost use Rattle.std.specs.Option.{option_copied};
-    ghost use Rattle.command_lines.specs.Unread.{UnreadWords, words_of};
+    ghost use Rattle.command_lines.specs.Unread.{UnreadWords, words_of, ArePlainWords};
 
     ghost Value = { UnreadWords };
 
     ghost view = { λ w. record { last = w.last; words = words_of (option_copied w.rest) } };
 
-    ghost invariant = { λ w. w.last + 1 + length (words_of (option_copied w.rest)) < 2 ^ 32 };
+    ghost invariant = { λ w. (w.last + 1 + length (words_of (option_copied w.rest)) < 2 ^ 32) × ArePlainWords w.is_plain (words_of (option_copied w.rest)) };
 }
 
 /// Cuts the first word off a line, and what stands behind its TAB where it has one.
@@ -52,6 +99,16 @@ pub(crate) fn cut_word(line: &str) -> (&str, Option<&str>)
     }
 }
 
+/// Whether no backslash stands in what is left of a line.
+fn lacks_backslash(rest: Option<&str>) -> bool
+    ensures { ArePlainWords result (words_of (option_copied rest.entry)) }
+{
+    match rest {
+        Some(rest) => memchr(b'\\', rest.as_bytes()).is_none(),
+        None => true,
+    }
+}
+
 impl<'a> Words<'a> {
     /// The words of what stands behind the first one.
     pub(crate) fn new(rest: Option<&'a str>) -> Words<'a>
@@ -59,7 +116,11 @@ impl<'a> Words<'a> {
         ensures last { result.last ≡ 0 }
         ensures words { result.words ≡ words_of (option_copied rest.entry) }
     {
-        Words { rest, last: 0 }
+        Words {
+            rest,
+            last: 0,
+            is_plain: lacks_backslash(rest),
+        }
     }
 
     /// The next word as it is written.
@@ -103,6 +164,33 @@ impl<'a> Words<'a> {
         CommandFault::BadCommand { word: self.last }
     }
 
+    /// The next word. It is at fault where it is missing or has a bad escape. It is lent from the line where nothing of the line is
+    /// written by an escape.
+    fn word(&mut self, alloc: Global) -> Result<Word<'a>, CommandFault>
+        ensures ok { IfOk result (λ text. (next : List ℕ → Wanted) → command_of_unread (word next) self.old ≡ command_of_unread (next text) self.new) }
+        ensures err { IfErr result (λ fault. (next : List ℕ → Wanted) → IsCommandFault (command_of_unread (word next) self.old) fault) }
+        ensures there { OnOk result (HasText self.old.words) }
+        ensures fewer { OnOk result (length self.new.words < length self.old.words) }
+        ensures memory { IfErr result (λ fault. fault ≡ CommandFault.NoMemory → HasText self.old.words) }
+    {
+        let is_plain = self.is_plain;
+        let Some(written) = self.next() else {
+            return Err(self.behind_last());
+        };
+        if is_plain {
+            return Ok(Word {
+                held: Held::Lent(written),
+            });
+        }
+        if bad_escape(written.as_bytes()).is_some() {
+            return Err(self.at_last());
+        }
+        let text = unescape(alloc, written)?;
+        Ok(Word {
+            held: Held::Owned(Txt::new(text)),
+        })
+    }
+
     /// The text of the next word. It is at fault where it is missing or has a bad escape.
     pub(crate) fn text(&mut self, alloc: Global) -> Result<Txt, CommandFault>
         ensures ok { IfOk result (λ text. (next : List ℕ → Wanted) → command_of_unread (word next) self.old ≡ command_of_unread (next text) self.new) }
@@ -111,14 +199,8 @@ impl<'a> Words<'a> {
         ensures fewer { OnOk result (length self.new.words < length self.old.words) }
         ensures memory { IfErr result (λ fault. fault ≡ CommandFault.NoMemory → HasText self.old.words) }
     {
-        let Some(written) = self.next() else {
-            return Err(self.behind_last());
-        };
-        if bad_escape(written.as_bytes()).is_some() {
-            return Err(self.at_last());
-        }
-        let text = unescape(alloc, written)?;
-        Ok(Txt::new(text))
+        let word = self.word(alloc)?;
+        Ok(word.into_text(alloc)?)
     }
 
     /// The timestamp whose text the next word is. The word is at fault where it is missing, has a bad
@@ -130,8 +212,8 @@ impl<'a> Words<'a> {
         ensures there { OnOk result (HasText self.old.words) }
         ensures memory { IfErr result (λ fault. fault ≡ CommandFault.NoMemory → HasText self.old.words) }
     {
-        let text = self.text(alloc)?;
-        match Stamp::parse(text.bytes()) {
+        let word = self.word(alloc)?;
+        match Stamp::parse(word.as_str().as_bytes()) {
             Ok(stamp) => Ok(stamp),
             Err(_) => Err(self.at_last()),
         }
@@ -145,10 +227,10 @@ impl<'a> Words<'a> {
         ensures err { IfErr result (λ fault. (next : List ℕ → Wanted) → IsCommandFault (command_of_unread (name_word next) self.old) fault) }
         ensures memory { IfErr result (λ fault. fault ≡ CommandFault.NoMemory → HasText self.old.words) }
     {
-        let name = self.text(alloc)?;
+        let word = self.word(alloc)?;
         // The part is told with a fault, and only whether there is one matters here.
-        match check_name(NamePart::Dataset, name.bytes()) {
-            Ok(()) => Ok(name),
+        match check_name(NamePart::Dataset, word.as_str().as_bytes()) {
+            Ok(()) => Ok(word.into_text(alloc)?),
             Err(_) => Err(self.at_last()),
         }
     }
@@ -162,8 +244,8 @@ impl<'a> Words<'a> {
         ensures fewer { OnOk result (length self.new.words < length self.old.words) }
         ensures memory { IfErr result (λ fault. fault ≡ CommandFault.NoMemory → HasText self.old.words) }
     {
-        let text = self.text(alloc)?;
-        match amount_in(text.as_str()) {
+        let word = self.word(alloc)?;
+        match amount_in(word.as_str()) {
             Some(read) => Ok(read),
             None => Err(self.at_last()),
         }
@@ -176,8 +258,8 @@ impl<'a> Words<'a> {
         ensures there { OnOk result (HasText self.old.words) }
         ensures memory { IfErr result (λ fault. fault ≡ CommandFault.NoMemory → HasText self.old.words) }
     {
-        let text = self.text(alloc)?;
-        match flag_in(text.as_str()) {
+        let word = self.word(alloc)?;
+        match flag_in(word.as_str()) {
             Some(read) => Ok(read),
             None => Err(self.at_last()),
         }
@@ -191,8 +273,8 @@ impl<'a> Words<'a> {
         ensures there { OnOk result (HasText self.old.words) }
         ensures memory { IfErr result (λ fault. fault ≡ CommandFault.NoMemory → HasText self.old.words) }
     {
-        let text = self.text(alloc)?;
-        match date_in(text.as_str()) {
+        let word = self.word(alloc)?;
+        match date_in(word.as_str()) {
             Some(read) => Ok(read),
             None => Err(self.at_last()),
         }
@@ -206,8 +288,8 @@ impl<'a> Words<'a> {
         ensures there { OnOk result (HasText self.old.words) }
         ensures memory { IfErr result (λ fault. fault ≡ CommandFault.NoMemory → HasText self.old.words) }
     {
-        let text = self.text(alloc)?;
-        match month_in(text.as_str()) {
+        let word = self.word(alloc)?;
+        match month_in(word.as_str()) {
             Some(read) => Ok(read),
             None => Err(self.at_last()),
         }
@@ -221,8 +303,8 @@ impl<'a> Words<'a> {
         ensures there { OnOk result (HasText self.old.words) }
         ensures memory { IfErr result (λ fault. fault ≡ CommandFault.NoMemory → HasText self.old.words) }
     {
-        let text = self.text(alloc)?;
-        match stage_in(text.as_str()) {
+        let word = self.word(alloc)?;
+        match stage_in(word.as_str()) {
             Some(read) => Ok(read),
             None => Err(self.at_last()),
         }
@@ -236,8 +318,8 @@ impl<'a> Words<'a> {
         ensures there { OnOk result (HasText self.old.words) }
         ensures memory { IfErr result (λ fault. fault ≡ CommandFault.NoMemory → HasText self.old.words) }
     {
-        let text = self.text(alloc)?;
-        match op_in(text.as_str()) {
+        let word = self.word(alloc)?;
+        match op_in(word.as_str()) {
             Some(read) => Ok(read),
             None => Err(self.at_last()),
         }
@@ -252,11 +334,11 @@ impl<'a> Words<'a> {
         ensures fewer { OnOk result (length self.new.words < length self.old.words) }
         ensures memory { IfErr result (λ fault. fault ≡ CommandFault.NoMemory → HasText self.old.words) }
     {
-        let text = self.text(alloc)?;
-        if text.as_str() == "-" {
+        let word = self.word(alloc)?;
+        if word.as_str() == "-" {
             return Ok(None);
         }
-        Ok(Some(text))
+        Ok(Some(word.into_text(alloc)?))
     }
 
     /// Nothing, where no word is left. The next word is one too many, and at fault.
