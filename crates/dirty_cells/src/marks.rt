@@ -9,15 +9,15 @@ ghost use Rattle.std.specs.Prelude.{◌<◌, ◌∷◌, if◌then◌else◌};
 ghost use Rattle.finite_sums.specs.Maps.{AreDistinct};
 ghost use Rattle.envelope_cells.specs.Parts.{AreSums};
 ghost use Rattle.envelope_cells.specs.BudgetOf.{budget_of, groups_of};
-ghost use Rattle.dirty_cells.specs.Bound.{pairs, different, touched_categories, touched_groups, first_touched};
-ghost use Rattle.dirty_cells.specs.Changes.{AreValues, AreDifferent, with_fields};
+ghost use Rattle.dirty_cells.specs.Bound.{pairs, different, touched_txs, touched_categories, touched_groups, first_touched};
+ghost use Rattle.dirty_cells.specs.Changes.{AreValues, AreDifferent, Spares, Within, with_fields};
 ghost use Rattle.dirty_cells.specs.Followed.{Follows};
 ghost use Rattle.dirty_cells.specs.Grid.{Marks, SameBefore};
 ghost use Rattle.dirty_cells.specs.Marking.{dataset_with, set_in, listed, budget_category, members, group_at, is_in_group, categories_in, groups_in, month_in, is_order, categories_by, groups_by, month_by, is_rearranged, earlier, earliest};
 
 use crate::passing::earlier;
 use crate::sums::change_sums;
-use crate::touching::{list_of, put_one, touched_ids};
+use crate::touching::{list_of, lone_tx, put_one, touched_ids};
 use book_rows::{
     Book, CategoryRow, Dataset, budget_month, column_of, dataset_kind, dataset_of, month_row_month,
 };
@@ -233,6 +233,21 @@ fn mark_change(alloc: Global, book: &Book, begun: &mut Begun, field: &Field) -> 
     Ok(())
 }
 
+/// What no change marks.
+fn none_begun(alloc: Global) -> Begun
+    ensures categories { (q : Text) → set.contains text_cmp result.categories q ≡ false }
+    ensures groups { (q : Text) → set.contains text_cmp result.groups q ≡ false }
+    ensures first { result.first ≡ 2760 }
+    ensures rearranged { result.rearranged ≡ false }
+{
+    Begun {
+        categories: BTreeSet::new(alloc),
+        groups: BTreeSet::new(alloc),
+        first: 2760,
+        rearranged: false,
+    }
+}
+
 /// What the rows of changes mark, by the book before them.
 fn mark_changes(alloc: Global, book: &Book, changes: &[(Field, Value)]) -> Result<Begun, NoMemory>
     ensures categories { IfOk result (λ m. (q : Text) → set.contains text_cmp m.categories q ≡ is_among text_cmp (flat_map (categories_by book.now.rows) changes.now) q) }
@@ -240,12 +255,7 @@ fn mark_changes(alloc: Global, book: &Book, changes: &[(Field, Value)]) -> Resul
     ensures first { IfOk result (λ m. m.first ≡ earliest 2760 (list_map month_by changes.now)) }
     ensures rearranged { IfOk result (λ m. m.rearranged ≡ is_rearranged changes.now) }
 {
-    let mut begun = Begun {
-        categories: BTreeSet::new(alloc),
-        groups: BTreeSet::new(alloc),
-        first: 2760,
-        rearranged: false,
-    };
+    let mut begun = none_begun(alloc);
     for (field, _) in changes {
         mark_change(alloc, book, &mut begun, field)?;
     }
@@ -274,7 +284,48 @@ fn marks_after(alloc: Global, book: &Book, begun: Begun) -> Result<Marked, NoMem
     })
 }
 
-/// Gives fields their values, keeps the sums those of the book, and tells what is marked. After an error no clause tells what the
+/// Gives fields their values, keeps the sums those of the book, and tells what is marked, where the transactions that are touched and
+/// what the rows of the changes mark are known. After an error no clause tells what the book and the sums are.
+fn set_known<G: Ledger>(
+    alloc: Global,
+    sums: &mut CellValues,
+    book: &mut Book,
+    changes: &[(Field, Value)],
+    ids: &[Txt],
+    begun: Begun,
+    steps: &mut Steps<G>,
+) -> Result<Marked, NoMemory>
+    requires live { book.old.spent ≡ false }
+    requires values { AreValues changes.now }
+    requires sums { AreSums sums.old book.old.rows }
+    requires spares { Spares book.old.rows (with_fields book.old.rows changes.now) ids.now }
+    requires within { AreDifferent changes.now → Within ids.now (touched_txs book.old.rows (with_fields book.old.rows changes.now) changes.now) }
+    requires categories { (q : Text) → set.contains text_cmp begun.categories q ≡ is_among text_cmp (flat_map (categories_by book.old.rows) changes.now) q }
+    requires groups { (q : Text) → set.contains text_cmp begun.groups q ≡ is_among text_cmp (flat_map (groups_by book.old.rows) changes.now) q }
+    requires first { begun.first ≡ earliest 2760 (list_map month_by changes.now) }
+    requires rearranged { begun.rearranged ≡ is_rearranged changes.now }
+    ensures book { OnOk result (book.new.rows ≡ with_fields book.old.rows changes.now) }
+    ensures live { OnOk result (book.new.spent ≡ false) }
+    ensures sums { OnOk result (AreSums sums.new book.new.rows) }
+    ensures marked { IfOk result (λ m. Follows book.old.rows changes.now m) }
+    ensures distinct { IfOk result (λ m. AreDistinct text_cmp m.categories × AreDistinct text_cmp m.groups) }
+    ensures cost { OnOk result (steps.new ≤ steps.old + 4 * length ids.now) }
+{
+    let mut begun = begun;
+    begun.first = change_sums(
+        sums,
+        book,
+        &mut begun.categories,
+        changes,
+        ids,
+        begun.first,
+        steps,
+    )?;
+    marks_after(alloc, book, begun)
+}
+
+/// Gives fields their values, keeps the sums those of the book, and tells what is marked. A single change of a transaction mostly
+/// touches that one alone, and no set of ids is made. After an error no clause tells what the
 /// book and the sums are.
 fn set_and_mark<G: Ledger>(
     alloc: Global,
@@ -293,18 +344,15 @@ fn set_and_mark<G: Ledger>(
     ensures distinct { IfOk result (λ m. AreDistinct text_cmp m.categories × AreDistinct text_cmp m.groups) }
     ensures cost { OnOk result (AreDifferent changes.now → steps.new ≤ steps.old + 7 * (length changes.now + pairs book.old.rows (with_fields book.old.rows changes.now) changes.now)) }
 {
+    if let [(field, _)] = changes {
+        if let Some(id) = lone_tx(alloc, book, field)? {
+            let begun = none_begun(alloc);
+            return set_known(alloc, sums, book, changes, &[id], begun, steps);
+        }
+    }
     let ids = touched_ids(alloc, book, changes, steps)?;
-    let mut begun = mark_changes(alloc, book, changes)?;
-    begun.first = change_sums(
-        sums,
-        book,
-        &mut begun.categories,
-        changes,
-        ids.as_slice(),
-        begun.first,
-        steps,
-    )?;
-    marks_after(alloc, book, begun)
+    let begun = mark_changes(alloc, book, changes)?;
+    set_known(alloc, sums, book, changes, ids.as_slice(), begun, steps)
 }
 
 /// Gives fields their values, keeps the sums those of the book, and tells what is marked: off the marked categories and groups each

@@ -51,7 +51,7 @@ fn refresh_month<G: Ledger>(
 }
 
 /// The same of the months from `from` on, before `to`.
-pub(crate) fn refresh_months<G: Ledger>(
+fn refresh_some_months<G: Ledger>(
     alloc: Global,
     cells: &mut Store,
     sums: &CellValues,
@@ -85,6 +85,42 @@ pub(crate) fn refresh_months<G: Ledger>(
     Ok(())
 }
 
+/// The same, and where there are no such months, nothing is done.
+#[inline]
+pub(crate) fn refresh_months<G: Ledger>(
+    alloc: Global,
+    cells: &mut Store,
+    sums: &CellValues,
+    book: &Book,
+    groups: &[BudgetGroup],
+    categories: &[Txt],
+    marked: &[Txt],
+    first: u32,
+    from: u32,
+    to: u32,
+    steps: &mut Steps<G>,
+) -> Result<(), NoMemory>
+    requires live { book.now.spent ≡ false }
+    requires within { first ≤ from }
+    requires order { from ≤ to }
+    requires to { to ≤ 2760 }
+    requires sums { AreSums sums.now book.now.rows }
+    requires groups { groups.now ≡ groups_of book.now.rows }
+    requires quiet { (c : Text) → IsPast (budget_of book.now.rows) c first nothing }
+    requires prior { AreRightIn cells.old (budget_of book.now.rows) first from none_pending }
+    requires right { AreRightIn cells.old (budget_of book.now.rows) from to (is_pending categories.now marked.now true) }
+    ensures right { OnOk result (AreRightIn cells.new (budget_of book.now.rows) from to none_pending) }
+    ensures others { OnOk result ((q : CellNameIs) → IsOutside from to q → map.get cells.new q ≡ map.get cells.old q) }
+    ensures cost { OnOk result (steps.new ≤ steps.old + month_cost (length categories.now) (length marked.now) * (to - from)) }
+{
+    if to <= from {
+        return Ok(());
+    }
+    refresh_some_months(
+        alloc, cells, sums, book, groups, categories, marked, first, from, to, steps,
+    )
+}
+
 /// The ids of all categories, in order, dead or alive.
 pub(crate) fn category_ids(alloc: Global, book: &Book) -> Result<Items<Txt>, NoMemory>
     ensures { IfOk result (λ ids. ids ≡ list_map (λ e. e.0) (map.entries book.now.rows.categories)) }
@@ -107,8 +143,8 @@ pub(crate) fn group_ids(alloc: Global, book: &Book) -> Result<Items<Txt>, NoMemo
     Ok(Items::new(ids))
 }
 
-/// The same of months of which nothing is kept: of all categories and groups.
-pub fn cover_months<G: Ledger>(
+/// The same of months of which nothing is kept: of all categories and groups, of which it makes lists.
+fn cover_some_months<G: Ledger>(
     alloc: Global,
     cells: &mut Store,
     sums: &CellValues,
@@ -136,7 +172,39 @@ pub fn cover_months<G: Ledger>(
     let marked = group_ids(alloc, book)?;
     let list = categories.as_slice();
     let marks = marked.as_slice();
-    refresh_months(
+    refresh_some_months(
         alloc, cells, sums, book, groups, list, marks, first, from, to, steps,
     )
+}
+
+/// The same of months of which nothing is kept: of all categories and groups. Where there are no such months, nothing is done.
+#[inline]
+pub fn cover_months<G: Ledger>(
+    alloc: Global,
+    cells: &mut Store,
+    sums: &CellValues,
+    book: &Book,
+    groups: &[BudgetGroup],
+    first: u32,
+    from: u32,
+    to: u32,
+    steps: &mut Steps<G>,
+) -> Result<(), NoMemory>
+    requires live { book.now.spent ≡ false }
+    requires within { first ≤ from }
+    requires order { from ≤ to }
+    requires to { to ≤ 2760 }
+    requires sums { AreSums sums.now book.now.rows }
+    requires groups { groups.now ≡ groups_of book.now.rows }
+    requires quiet { (c : Text) → IsPast (budget_of book.now.rows) c first nothing }
+    requires prior { AreRightIn cells.old (budget_of book.now.rows) first from none_pending }
+    requires empty { (q : CellNameIs) (n : ℕ) → from ≤ n → n < to → q.month ≡ month_at n → map.get cells.old q ≡ None }
+    ensures right { OnOk result (AreRightIn cells.new (budget_of book.now.rows) from to none_pending) }
+    ensures others { OnOk result ((q : CellNameIs) → IsOutside from to q → map.get cells.new q ≡ map.get cells.old q) }
+    ensures cost { OnOk result (steps.new ≤ steps.old + month_cost (length (map.entries book.now.rows.categories)) (length (map.entries book.now.rows.groups)) * (to - from)) }
+{
+    if to <= from {
+        return Ok(());
+    }
+    cover_some_months(alloc, cells, sums, book, groups, first, from, to, steps)
 }

@@ -1,5 +1,5 @@
 //! Which transactions changes touch.
-ghost use Rattle.std.specs.Prelude.{◌≡◌, ◌+◌, ◌≤◌, ◌||◌, ◌∷◌, [], flat_map, length, true, false, OnOk};
+ghost use Rattle.std.specs.Prelude.{◌≡◌, ◌+◌, ◌≤◌, ◌||◌, ◌∷◌, [], flat_map, length, true, false, Some, OnOk};
 ghost use Rattle.std.specs.Ordering.{eq_by_cmp};
 ghost use Rattle.std.specs.BTreeSet as set;
 ghost use Rattle.finite_sums.specs.Maps.{Text, text_cmp, is_among};
@@ -11,6 +11,9 @@ ghost use Rattle.std.specs.List.Sorted.{IsStrictlySortedBy};
 ghost use Rattle.std.specs.Prelude.{IfOk, IfSome};
 ghost use Rattle.field_values.specs.declared.value.Value.{Value as ValueIs};
 ghost use Rattle.book_rows.specs.Kinds.{text_of};
+ghost use Rattle.book_rows.specs.Columns.{dataset_of, column_of};
+ghost use Rattle.book_rows.specs.declared.column.Dataset.TheVariants.{Transactions};
+ghost use Rattle.dirty_cells.specs.Marking.{dataset_with};
 
 use book_rows::{Book, Column, Dataset, column_of, dataset_kind, dataset_of, flag};
 use field_values::{Field, Items, NoMemory, Steps, Txt, Value};
@@ -346,6 +349,9 @@ pub(crate) fn list_of(alloc: Global, ids: &BTreeSet<Txt>) -> Result<Items<Txt>, 
     ensures sorted { IfOk result (λ v. IsStrictlySortedBy text_cmp v) }
     ensures all { IfOk result (λ v. v ≡ ids.now.keys) }
 {
+    if ids.is_empty() {
+        return Ok(Items::new(Vec::new(alloc)));
+    }
     let mut found = Vec::new(alloc);
     for id in ids.iter() {
         found.push(id.copy()?)?;
@@ -364,8 +370,9 @@ fn is_plain(dataset: Dataset, column: Column) -> bool
 }
 
 /// The transaction of a field, where it has a row, and no value of the field touches another one. It takes no step.
-fn lone_tx(alloc: Global, book: &Book, field: &Field) -> Result<Option<Txt>, NoMemory>
-    ensures { IfOk result (λ found. IfSome found (λ id. (v : ValueIs) → touched_list book.now.rows ((field.now, v) ∷ []) ≡ id ∷ [])) }
+pub(crate) fn lone_tx(alloc: Global, book: &Book, field: &Field) -> Result<Option<Txt>, NoMemory>
+    ensures touches { IfOk result (λ found. IfSome found (λ id. (v : ValueIs) → touched_list book.now.rows ((field.now, v) ∷ []) ≡ id ∷ [])) }
+    ensures sets { IfOk result (λ found. IfSome found (λ id. dataset_with (dataset_of field.now.dataset) (column_of field.now.column) ≡ Some Transactions)) }
 {
     let Some(dataset) = dataset_of(field.dataset()) else {
         return Ok(None);
@@ -384,7 +391,7 @@ fn lone_tx(alloc: Global, book: &Book, field: &Field) -> Result<Option<Txt>, NoM
 }
 
 /// A list of one text.
-fn list_of_one(alloc: Global, id: Txt) -> Result<Items<Txt>, NoMemory>
+pub(crate) fn list_of_one(alloc: Global, id: Txt) -> Result<Items<Txt>, NoMemory>
     ensures { IfOk result (λ ids. ids ≡ id ∷ []) }
 {
     let mut ids = Vec::with_capacity(alloc, 1)?;
@@ -392,8 +399,9 @@ fn list_of_one(alloc: Global, id: Txt) -> Result<Items<Txt>, NoMemory>
     Ok(Items::new(ids))
 }
 
-/// The transactions that changes touch, as `touched_ids` tells them, by sets of the rows that govern others.
-fn touched_by_sets<G: Ledger>(
+/// The transactions that changes touch, each once: of all others the rows after the changes tell what they told. Each row that governs
+/// others is asked once, however many of its fields change.
+pub fn touched_ids<G: Ledger>(
     alloc: Global,
     book: &Book,
     changes: &[(Field, Value)],
@@ -432,26 +440,4 @@ fn touched_by_sets<G: Ledger>(
         steps,
     )?;
     list_of(alloc, &ids)
-}
-
-/// The transactions that changes touch, each once: of all others the rows after the changes tell what they told. Each row that governs
-/// others is asked once, however many of its fields change. A single change mostly touches the transaction of its row alone, and needs no set.
-pub fn touched_ids<G: Ledger>(
-    alloc: Global,
-    book: &Book,
-    changes: &[(Field, Value)],
-    steps: &mut Steps<G>,
-) -> Result<Items<Txt>, NoMemory>
-    requires { book.now.spent ≡ false }
-    ensures spares { IfOk result (λ ids. Spares book.now.rows (with_fields book.now.rows changes.now) ids) }
-    ensures all { IfOk result (λ ids. (q : Text) → is_among text_cmp ids q ≡ is_among text_cmp (touched_list book.now.rows changes.now) q) }
-    ensures within { IfOk result (λ ids. AreDifferent changes.now → Within ids (touched_txs book.now.rows (with_fields book.now.rows changes.now) changes.now)) }
-    ensures cost { OnOk result (AreDifferent changes.now → steps.new ≤ steps.old + (length changes.now + pairs book.now.rows (with_fields book.now.rows changes.now) changes.now)) }
-{
-    if let [(field, _)] = changes {
-        if let Some(id) = lone_tx(alloc, book, field)? {
-            return list_of_one(alloc, id);
-        }
-    }
-    touched_by_sets(alloc, book, changes, steps)
 }

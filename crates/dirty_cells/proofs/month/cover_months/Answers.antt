@@ -1,6 +1,5 @@
-use Rattle.std.proofs.Common.{◌∙◌}
-use Rattle.dirty_cells.proofs.Months.{all_pending}
+use Rattle.std.proofs.Common.{arith}
 use Rattle.dirty_cells.proofs.month.cover_months.Goals as goal
 
-pub refresh_months-requires-clause-right : goal.refresh_months-requires-clause-right
-refresh_months-requires-clause-right g c = all_pending c.args.book.now.rows c.args.cells.now c.as_slice-list.result.now c.as_slice-marks.result.now c.args.from c.args.to (c.as_slice-list.ensures ∙ c.in_ok-categories.ensures) (c.as_slice-marks.ensures ∙ c.in_ok-marked.ensures) c.requires.empty
+pub returns-then-to-from-clause-right : goal.returns-then-to-from-clause-right
+returns-then-to-from-clause-right g c = record { each = λ n h l. absurd (omega (arith, h, l)) }

@@ -5,7 +5,7 @@ use Rattle.envelope_cells.specs.declared.name.CellName.{CellName}
 use Rattle.dirty_cells.specs.Grid.{is_pending}
 use Rattle.dirty_cells.specs.Right.{AreRightIn, IsOutside, none_pending}
 use Rattle.dirty_cells.specs.Steps.{month_cost}
-use Rattle.dirty_cells.proofs.month.refresh_months.Given as goal
+use Rattle.dirty_cells.proofs.month.refresh_some_months.Given as goal
 
 abbrev pub invariant-loop-number : goal.invariant-loop-number
 invariant-loop-number g l = record {
