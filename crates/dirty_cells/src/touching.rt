@@ -390,15 +390,6 @@ pub(crate) fn lone_tx(alloc: Global, book: &Book, field: &Field) -> Result<Optio
     Ok(Some(id))
 }
 
-/// A list of one text.
-pub(crate) fn list_of_one(alloc: Global, id: Txt) -> Result<Items<Txt>, NoMemory>
-    ensures { IfOk result (λ ids. ids ≡ id ∷ []) }
-{
-    let mut ids = Vec::with_capacity(alloc, 1)?;
-    ids.push(id)?;
-    Ok(Items::new(ids))
-}
-
 /// The transactions that changes touch, each once: of all others the rows after the changes tell what they told. Each row that governs
 /// others is asked once, however many of its fields change.
 pub fn touched_ids<G: Ledger>(
