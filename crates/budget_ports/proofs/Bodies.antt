@@ -1,5 +1,5 @@
 -- The bodies of one group: a record is added, and taken out again.
-use Rattle.std.proofs.Common.{◌≡◌, ℕ, zero, suc, ◌+◌, add-one, drop, true, false, List, [], ◌∷◌, ◌++◌, Option, None, Some, is_some, Result, Ok, Err, OnOk, OnErr, refl, sym, ap, ◌∙◌}
+use Rattle.std.proofs.Common.{◌≡◌, ℕ, zero, suc, ◌+◌, add-one, drop, Bool, true, false, true≢false, not, if◌then◌else◌, List, [], ◌∷◌, ◌++◌, Option, None, Some, is_some, refl, sym, ap, ◌∙◌}
 use Rattle.std.specs.List.{slice_get}
 use Rattle.std.specs.BTreeMap.{is_at}
 use Rattle.std.specs.Map.{lookup}
@@ -8,7 +8,7 @@ use Rattle.budget_ports.specs.declared.keeper.Record.{Record}
 use Rattle.budget_ports.specs.Contents.{Text, text_cmp}
 use Rattle.budget_ports.specs.Groups.{Bodies, with_body}
 use Rattle.budget_ports.specs.Undoing.{without, taken_out}
-use Rattle.budget_ports.proofs.Maps.{get_is, in_and_out, not_there}
+use Rattle.budget_ports.proofs.Maps.{get_is, in_and_out}
 use Rattle.budget_ports.proofs.Places.{text_total, text_same}
 
 -- an entry of one group as a record
@@ -33,24 +33,18 @@ taken_out_push batch m [] i = refl
 taken_out_push batch m (x ∷ places) i = ap (λ n. without n (slice_get batch x)) (taken_out_push batch m places i)
 
 -- what was added last is taken out first
-pub last_out : (batch : List Record) (m n : Bodies) (places pushed : List ℕ) (i : ℕ) (r : Record) → slice_get batch i ≡ Some r → pushed ≡ places ++ i ∷ [] → contains_key m r.key ≡ false
+last_out : (batch : List Record) (m n : Bodies) (places pushed : List ℕ) (i : ℕ) (r : Record) → slice_get batch i ≡ Some r → pushed ≡ places ++ i ∷ [] → contains_key m r.key ≡ false
     → n ≡ insert m r.key r.body → taken_out batch n pushed ≡ taken_out batch m places
 last_out batch m n places pushed i r here push new put =
     ap (taken_out batch n) push ∙ taken_out_push batch n places i
     ∙ ap (λ x. taken_out batch x places) (ap (without n) here ∙ ap (λ x. remove x r.key) put ∙ in_and_out text_total text_same m r.key r.body new)
 
--- what was not added is not taken out
-pub none_out : (batch : List Record) (m n : Bodies) (places pushed : List ℕ) (i : ℕ) (r : Record) → slice_get batch i ≡ Some r → pushed ≡ places ++ i ∷ [] → contains_key m r.key ≡ false
-    → n ≡ m → taken_out batch n pushed ≡ taken_out batch m places
-none_out batch m n places pushed i r here push new same =
-    ap (taken_out batch n) push ∙ taken_out_push batch n places i
-    ∙ ap (λ x. taken_out batch x places) (ap (without n) here ∙ ap (λ x. remove x r.key) same ∙ not_there text_total text_same m r.key new)
-
--- what was put last is taken out first, whether it was put or not
-pub put_out : {A E : Type 0} (batch : List Record) (m n : Bodies) (places pushed : List ℕ) (i : ℕ) (r : Record) (result : Result A E) → slice_get batch i ≡ Some r → pushed ≡ places ++ i ∷ [] → contains_key m r.key ≡ false
-    → OnOk result (n ≡ insert m r.key r.body) → OnErr result (n ≡ m) → taken_out batch n pushed ≡ taken_out batch m places
-put_out batch m n places pushed i r (Ok x) here push new ok err = last_out batch m n places pushed i r here push new ok
-put_out batch m n places pushed i r (Err e) here push new ok err = none_out batch m n places pushed i r here push new err
+-- what was added with its place is taken out first
+pub added_out : (batch : List Record) (m n : Bodies) (places pushed : List ℕ) (i : ℕ) (r : Record) (there : Bool) → slice_get batch i ≡ Some r → pushed ≡ places ++ i ∷ [] → contains_key m r.key ≡ there → not there ≡ true
+    → n ≡ with_body m r → taken_out batch n pushed ≡ taken_out batch m places
+added_out batch m n places pushed i r true here push is new with = absurd (true≢false (sym new))
+added_out batch m n places pushed i r false here push is new with =
+    last_out batch m n places pushed i r here push is (with ∙ ap (λ b. if b then m else insert m r.key r.body) is)
 
 at_front : (batch : List Record) (i : ℕ) (r : Record) → slice_get batch i ≡ Some r → drop i batch ≡ r ∷ drop (suc i) batch
 at_front [] i r here = absurd (cc)

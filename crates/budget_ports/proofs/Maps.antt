@@ -83,10 +83,6 @@ module _ {K V : Type 0} {R : K → K → Ordering} (total : IsTotalOrder R) (sam
     | false ↦ λ h. refl
   ] (λ tied. ap (get m) (same q k (equal_is _ tied)) ∙ none_of (get m k) new)
 
-  -- to take out what is not there changes nothing
-  pub not_there : (m : FinMap R V) (k : K) → contains_key m k ≡ false → remove m k ≡ m
-  not_there m k new = same_map total same _ _ (λ q. get-remove total m k q ∙ gone m k q new)
-
   shadowed : (b : Bool) (o p : Option V) → cond b None (cond b o p) ≡ cond b None p
   shadowed true o p = refl
   shadowed false o p = refl

@@ -7,17 +7,17 @@ use Rattle.std.specs.declared.cmp.Ordering.{Ordering}
 use Rattle.budget_ports.specs.declared.keeper.Record.{Record}
 use Rattle.budget_ports.specs.Contents.{Text, text_cmp}
 
--- a text, and for how many bytes it has room
+-- a key and a body, and for how many bytes there is room
 abbrev pub Roomy : Type 0
-Roomy = Text × ℕ
+Roomy = Text × (Text × ℕ)
 
--- the greatest text first
+-- the greatest key first
 abbrev pub latest_first : Roomy → Roomy → Ordering
 latest_first a b = text_cmp b.0 a.0
 
--- entries, whose keys are seen as texts
-abbrev pub by_text : List (Roomy × Text) → List (Text × Text)
-by_text es = map (λ e. (e.0.0, e.1)) es
+-- keys with their bodies
+abbrev pub by_text : List Roomy → List (Text × Text)
+by_text ks = map (λ k. (k.0, k.1.0)) ks
 
 -- so many bytes are room for the key of each record
 abbrev pub IsRoomFor : List Record → ℕ → Type 0

@@ -1,5 +1,5 @@
 //! The records of one group of a keeper in memory.
-ghost use Rattle.std.specs.Prelude.{◌≡◌, List, Some, IfOk, OnOk, OnErr};
+ghost use Rattle.std.specs.Prelude.{◌≡◌, List, Some, not, IfOk, OnOk, OnErr};
 ghost use Rattle.std.specs.List.{slice_get};
 ghost use Rattle.std.specs.FinMap as map;
 ghost use Rattle.budget_ports.specs.declared.keeper.Record.{Record};
@@ -11,29 +11,32 @@ use crate::keeper::Record;
 use crate::latest_first::LatestFirst;
 use field_values::{Items, NoMemory, Txt};
 use std::alloc::Global;
-use std::collections::BTreeMap;
+use std::collections::BTreeSet;
 use std::marker::Model;
 use std::ops::Bound;
 
-/// Bodies by key, from the greatest key on: a search of the map begins at its first key, and most records that come are behind
-/// all others.
+/// Records from the greatest key on: a search of the set begins at its first element, and most records that come are behind all
+/// others.
 #[derive(Debug, Drop)]
 pub struct GroupRecords {
     alloc: Global,
-    bodies: BTreeMap<LatestFirst, Txt>,
+    records: BTreeSet<LatestFirst>,
 }
 
 impl Model for GroupRecords {
     ghost use Rattle.std.specs.FinMap as map;
     ghost use Rattle.budget_ports.specs.Contents.{Text, text_cmp};
     ghost use Rattle.budget_ports.specs.KeeperState.{texts_code};
-    ghost use Rattle.budget_ports.specs.Latest.{by_text};
+    ghost use Rattle.std.specs.BTreeSet.{IsOrdered};
+    ghost use Rattle.budget_ports.specs.Latest.{by_text, latest_first};
 
     ghost Value = { map.FinMap text_cmp Text };
 
     ghost coded = { texts_code };
 
-    ghost view = { λ r. map.from_entries (by_text r.bodies.entries) };
+    ghost view = { λ r. map.from_entries (by_text r.records.keys) };
+
+    ghost invariant = { λ r. IsOrdered latest_first r.records };
 }
 
 impl GroupRecords {
@@ -43,7 +46,7 @@ impl GroupRecords {
     {
         GroupRecords {
             alloc,
-            bodies: BTreeMap::new(alloc),
+            records: BTreeSet::new(alloc),
         }
     }
 
@@ -53,7 +56,8 @@ impl GroupRecords {
         ensures err { OnErr result (self.new ≡ self.old) }
     {
         if let [kept] = batch {
-            return self.add_one(kept);
+            self.add_one(kept)?;
+            return Ok(());
         }
         let mut added = Vec::with_capacity(self.alloc, batch.len())?;
         let room = LatestFirst::with_room(self.alloc, longest_key(batch))?;
@@ -77,36 +81,15 @@ impl GroupRecords {
         Ok(())
     }
 
-    /// Whether a record stands under this key. One behind all of them is known by the first one to have none.
-    fn has(&self, key: &LatestFirst) -> bool
-        ensures { result ≡ map.contains_key self.now key.now.0 }
-    {
-        match self.bodies.first_key_value() {
-            Some((latest, _)) if *key < *latest => false,
-            _ => self.bodies.contains_key(key),
-        }
-    }
-
-    /// Puts a body under a key.
-    fn put(&mut self, key: LatestFirst, body: &Txt) -> Result<(), NoMemory>
-        ensures ok { OnOk result (self.new ≡ map.insert self.old key.0 body.now) }
-        ensures err { OnErr result (self.new ≡ self.old) }
-    {
-        let body = body.copy()?;
-        self.bodies.insert(key, body)?;
-        Ok(())
-    }
-
-    /// Adds a record whose key is not there, or nothing where memory runs out.
-    fn add_one(&mut self, kept: &Record) -> Result<(), NoMemory>
+    /// Adds a record whose key is not there, or nothing where memory runs out, and says whether it was added.
+    fn add_one(&mut self, kept: &Record) -> Result<bool, NoMemory>
+        ensures added { IfOk result (λ added. added ≡ not (map.contains_key self.old kept.now.key)) }
         ensures ok { OnOk result (self.new ≡ with_body self.old kept.now) }
         ensures err { OnErr result (self.new ≡ self.old) }
     {
-        let key = LatestFirst::of(self.alloc, &kept.key)?;
-        if self.has(&key) {
-            return Ok(());
-        }
-        self.put(key, &kept.body)
+        let record = LatestFirst::of(self.alloc, kept.key.as_str(), kept.body.as_str())?;
+        let added = self.records.insert(record)?;
+        Ok(added)
     }
 
     /// Adds a record whose key is not there, and its place in the batch to `added`.
@@ -114,18 +97,17 @@ impl GroupRecords {
         ensures ok { OnOk result (self.new ≡ with_body self.old kept.now) }
         ensures undone { (batch : List Record) → slice_get batch place ≡ Some kept.now → taken_out batch self.new added.new.items ≡ taken_out batch self.old added.old.items }
     {
-        let key = LatestFirst::of(self.alloc, &kept.key)?;
-        if self.has(&key) {
-            return Ok(());
+        added.reserve(1)?;
+        if self.add_one(kept)? {
+            added.push(place)?;
         }
-        added.push(place)?;
-        self.put(key, &kept.body)
+        Ok(())
     }
 
     /// Takes out the records that stand at these places in the batch, the last place first. `room` is room for a key, so that
     /// it takes no memory.
     fn take_out(&mut self, batch: &[Record], mut added: Vec<usize>, mut room: LatestFirst)
-        requires { IsRoomFor batch.now room.1 }
+        requires { IsRoomFor batch.now room.1.1 }
         ensures { self.new ≡ taken_out batch.now self.old added.items }
     {
         while let Some(place) = added.pop() {
@@ -140,21 +122,20 @@ impl GroupRecords {
     fn remove(&mut self, key: &LatestFirst)
         ensures { self.new ≡ map.remove self.old key.now.0 }
     {
-        self.bodies.remove(key);
+        self.records.remove(key);
     }
 
     /// The records with a key above this one, by key.
     pub fn after(&self, after: &Txt) -> Result<Items<Record>, NoMemory>
         ensures { IfOk result (λ rs. rs ≡ bodies_after self.now after.now) }
     {
-        let end = LatestFirst::of(self.alloc, after)?;
-        let mut above = self.bodies.range((Bound::Unbounded, Bound::Excluded(&end)));
+        let end = LatestFirst::of(self.alloc, after.as_str(), "")?;
+        let mut above = self
+            .records
+            .range((Bound::Unbounded, Bound::Excluded(&end)));
         let mut found = Vec::new(self.alloc);
-        while let Some((key, body)) = above.next_back() {
-            found.push(Record {
-                key: key.copy(self.alloc)?,
-                body: body.copy()?,
-            })?;
+        while let Some(latest) = above.next_back() {
+            found.push(latest.record(self.alloc)?)?;
         }
         Ok(Items::new(found))
     }

@@ -13,7 +13,7 @@ loop-place-preserved-in-Some-get c =
     let after = c.put.ensures.room in
     record {
       out = one_popped c.args.batch.now c.loop-place.self c.remove.new.self c.loop-place.added.items c.pop.new.self.items c.in-Some.place c.in-Some-get.kept.now
-          c.in-Some.ensures.items here (c.remove.ensures ∙ ap (remove c.loop-place.self) c.put.ensures.text) ∙ c.loop-place.invariant.out;
+          c.in-Some.ensures.items here (c.remove.ensures ∙ ap (remove c.loop-place.self) c.put.ensures.key) ∙ c.loop-place.invariant.out;
       room = omega arith;
     }
 

@@ -5,7 +5,7 @@ use Rattle.budget_ports.proofs.group_records.GroupRecords.take_out.Given as goal
 abbrev pub invariant-loop-place : goal.invariant-loop-place
 invariant-loop-place l = record {
   out : taken_out l.batch l.self l.added.items ≡ taken_out l.batch l.fn.self l.fn.added.items;
-  room : l.fn.room.1 ≤ l.room.1;
+  room : l.fn.room.1.1 ≤ l.room.1.1;
 }
 
 abbrev pub decreases-loop-place : goal.decreases-loop-place
