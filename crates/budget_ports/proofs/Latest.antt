@@ -67,7 +67,7 @@ inserted_by x ks more k q found Equal e none = absurd (true≢false none)
 inserted_by x ks more k q found Greater e none =
     ap (cond (is_at (text_cmp q) x.0) (Some x.1.0)) found
     ∙ swapped (is_at (text_cmp q) x.0) (is_at (text_cmp k.0) q) (Some x.1.0) (Some k.1.0) (at_key (by_text ks) q)
-        (λ one other. not_level (sym e ∙ ap (λ t. text_cmp t k.0) (met q k.0 x.0 one other) ∙ same_level k.0))
+    (λ one other. not_level (sym e ∙ ap (λ t. text_cmp t k.0) (met q k.0 x.0 one other) ∙ same_level k.0))
 
 none_behind : (a b : Bool) → (a || b) ≡ false → b ≡ false
 none_behind true b h = absurd (true≢false h)
@@ -96,13 +96,14 @@ removed_by x ks less k q sorted found true e = taken (is_at (text_cmp k.0) q) re
   where
     at : is_at (text_cmp q) x.0 ≡ is_at (text_cmp k.0) q
     at = ap (λ t. is_at (text_cmp q) t) (text_same x.0 k.0 (equal_is _ e)) ∙ turned q k.0
+
     taken : (b : Bool) → is_at (text_cmp k.0) q ≡ b → at_key (by_text ks) q ≡ cond b None (cond (is_at (text_cmp q) x.0) (Some x.1.0) (at_key (by_text ks) q))
     taken true here = behind_none x ks (sorted_head latest_first x ks sorted) q (at ∙ here)
     taken false here = sym (ap (λ b. cond b (Some x.1.0) (at_key (by_text ks) q)) (at ∙ here))
 removed_by x ks less k q sorted found false e =
     ap (cond (is_at (text_cmp q) x.0) (Some x.1.0)) found
     ∙ swapped (is_at (text_cmp q) x.0) (is_at (text_cmp k.0) q) (Some x.1.0) None (at_key (by_text ks) q)
-        (λ one other. true≢false (sym (ap (λ t. is_eq (text_cmp t k.0)) (met q k.0 x.0 one other) ∙ ap is_eq (same_level k.0)) ∙ e))
+    (λ one other. true≢false (sym (ap (λ t. is_eq (text_cmp t k.0)) (met q k.0 x.0 one other) ∙ ap is_eq (same_level k.0)) ∙ e))
 
 -- a key that is taken out is not found
 removed : (ks : List Roomy) (k : Roomy) → IsStrictlySortedBy latest_first ks → (q : Text)

@@ -14,7 +14,7 @@ returns-clause-added c =
 pub returns-clause-ok : goal.returns-clause-ok
 returns-clause-ok c =
     let same : of_pair (c.in_ok-record.record.0, c.in_ok-record.record.1.0) ≡ c.args.kept.now =
-        ap₂ (λ (k b : Text). record { key = k; body = b }) (c.in_ok-record.ensures.key ∙ c.as_str.ensures) (c.in_ok-record.ensures.body ∙ c.as_str-2.ensures) in
+    ap₂ (λ (k b : Text). record { key = k; body = b }) (c.in_ok-record.ensures.key ∙ c.as_str.ensures) (c.in_ok-record.ensures.body ∙ c.as_str-2.ensures) in
     record_added c.self.inside.records.keys c.args.self.now c.in_ok-record.record c.insert.new.self.keys c.in_ok-added.added c.self.view_is c.in_ok-added.ensures.added c.in_ok-added.ensures.keys
-        c.in_ok-added.ensures.unchanged
+    c.in_ok-added.ensures.unchanged
     ∙ ap (with_body c.args.self.now) same
