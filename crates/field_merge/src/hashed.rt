@@ -84,9 +84,10 @@ impl Ord for HashedField {
     ghost matches_eq = { Prim.search (comparing, rules) };
 
     fn cmp(&self, other: &HashedField) -> Ordering {
-        self.hash
-            .cmp(&other.hash)
-            .then_with(|| self.field.cmp(&other.field))
+        if self.hash != other.hash {
+            return self.hash.cmp(&other.hash);
+        }
+        self.field.cmp(&other.field)
     }
 }
 

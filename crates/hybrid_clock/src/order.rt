@@ -18,9 +18,11 @@ impl Ord for Stamp {
     ghost matches_eq = { Prim.search (comparing, rules) };
 
     fn cmp(&self, other: &Stamp) -> Ordering {
-        self.millis
-            .cmp(&other.millis)
-            .then_with(|| self.counter.cmp(&other.counter))
+        if self.millis != other.millis {
+            return self.millis.cmp(&other.millis);
+        }
+        self.counter
+            .cmp(&other.counter)
             .then_with(|| self.node.cmp(&other.node))
     }
 }
