@@ -30,6 +30,7 @@ use field_merge::Message;
 use field_values::{NoMemory, Steps, Txt, TxtFault};
 use kept_messages::{batches_are_kept, new_ones_are_added};
 use std::alloc::Global;
+use std::slice;
 use std::sync::ledger::Ledger;
 use world_lines::month_to_cover;
 
@@ -136,7 +137,7 @@ fn receive<G: Ledger>(
     ensures brings { OnOk result (Brings device.old.state.messages device.new) }
 {
     accepted_are_joined();
-    match device.incoming(&[message.copy()?], reading, steps) {
+    match device.incoming(slice::from_ref(message), reading, steps) {
         Ok(count) => added_reply(alloc, count),
         Err(refusal) => refusal_reply(alloc, &refusal),
     }
